@@ -1,0 +1,3 @@
+-- Laws of what specs/ defines, for this crate and those above it.
+pub mod Words
+pub mod Sums
