@@ -58,7 +58,7 @@ module _ {Node S : Type 0} (G : Graph Node S) where
 
   module _ (N : ℕ) (room : (n : Node) → G .before n ≡ 0 → key n < N) where
     cause : (c : List ℕ) (s : List (Item Node)) (p : Item Node) (ps : List (Item Node)) (v : ℕ) → Fit G N c s (p ∷ ps) → verdict (unfolded G) c p ≡ suc v → Why G (suc v) (K p)
-    unfolding verdict
+    unfolding verdict first
     cause c s p ps v i e = record { node = p .1; reached = down (G .references) r; keyed = refl; cause = go (G .before (p .1)) refl (getD c (K p) 1) refl e }
       where
         r : InTree p

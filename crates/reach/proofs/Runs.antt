@@ -14,10 +14,12 @@ use Rattle.reach.proofs.Claims.{free-set}
 -- ---- tests
 
 pub first-zero : (a b : ℕ) → first a b ≡ 0 → (a ≡ 0) × (b ≡ 0)
+unfolding first
 first-zero zero b e = (refl, e)
 first-zero (suc a) b e = absurd (omega arith)
 
 pub first-refuses : (a b : ℕ) → 0 < a → first a b ≡ a
+unfolding first
 first-refuses zero b h = absurd (omega arith)
 first-refuses (suc a) b h = refl
 
@@ -42,7 +44,7 @@ module _ {Node S : Type 0} (G : Graph Node S) where
       (h .0, claimed-zero (G .taken) _ (G .taken-refuses) (h′ .0), h′ .1)
 
   pub passes : (c : List ℕ) (n : Node) → G .before n ≡ 0 → getD c (key n) 1 ≡ 0 → G .after n ≡ 0 → verdict G c n ≡ 0
-  unfolding verdict
+  unfolding verdict first
   passes c n b u a = rw (b, u) a
 
   -- ---- the walk as a relation

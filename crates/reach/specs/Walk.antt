@@ -27,7 +27,7 @@ Accepted (done c s) = Unit {0}
 Accepted (refused v k) = ⊥
 
 -- the first of two tests that does not pass
-abbrev pub first : ℕ → ℕ → ℕ
+unfoldable pub first : ℕ → ℕ → ℕ
 first zero b = b
 first (suc a) b = suc a
 

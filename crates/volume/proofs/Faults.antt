@@ -1,0 +1,151 @@
+-- The tests of a block are made part by part: each law says what a part's answer makes of the whole. Assumes nothing.
+use Prim.Native.Nat.{ℕ, suc, _+_, _-_, _≤_, _<_}
+use mathlib.Core.Path.{_≡_, refl, sym, _∙_}
+use mathlib.Core.Bool.{Bool, true, false}
+use mathlib.Core.List.{List, [], _∷_, _++_}
+use native.Mathlib.Omega.{arith}
+use lib.Dec.{eqb}
+use borrow.Author.Tests.{eq-eqb, ne-eqb}
+use Rattle.volume.specs.declared.disk.Disk.{Disk}
+use Rattle.volume.specs.Tests.{tests, must, pick}
+use Rattle.volume.specs.Disks.{rootOf, fileLimit}
+use Rattle.volume.specs.Blocks.{wordOf, sumOf}
+use Rattle.volume.specs.Names.{nameOf, nameGood, slotOf}
+use Rattle.volume.specs.Files.{dataBlocks}
+use Rattle.volume.specs.Rules.{rootTypes, rootWords, rootFault, allZero, mapFault, bitmapFault, entryTypes, entryWords, entryName, entryFault, countRules, emptyRules, fileFault, listWords, listFault, dataWords, dataLinks, dataFault}
+use Rattle.volume.proofs.Tests.{go, stop, must-le, must-gt, must-true, must-false, must-eq, must-ne, then-go, then-stop}
+
+-- ---- the root: r is its key, f and g answer the first two parts
+
+module _ (d : Disk) (s : List ℕ) (r f : ℕ) (e : r ≡ rootOf d) (p : f ≡ tests (rootTypes s r)) where
+  pub root-types : (f ≡ 0 → ⊥) → f ≡ rootFault d s
+  unfolding rootFault
+  root-types q = rw (← e) (then-stop f (rootTypes s r) (rootWords s r ++ (must (nameGood s r) 11 ∷ [])) p q)
+
+  module _ (z : f ≡ 0) (g : ℕ) (h : g ≡ tests (rootWords s r)) where
+    pub root-words : (g ≡ 0 → ⊥) → g ≡ rootFault d s
+    unfolding rootFault
+    root-words q = rw (← e) (then-go g f (rootTypes s r) (rootWords s r ++ (must (nameGood s r) 11 ∷ [])) p z (then-stop g (rootWords s r) (must (nameGood s r) 11 ∷ []) h q))
+
+    pub root-name : (v : ℕ) → g ≡ 0 → v ≡ tests (must (nameGood s r) 11 ∷ []) → v ≡ rootFault d s
+    unfolding rootFault
+    root-name v q n = rw (← e) (then-go v f (rootTypes s r) (rootWords s r ++ (must (nameGood s r) 11 ∷ [])) p z (then-go v g (rootWords s r) (must (nameGood s r) 11 ∷ []) h q n))
+
+-- a name alone
+module _ (s : List ℕ) (k : ℕ) (t : Bool) (h : t ≡ nameGood s k) where
+  pub name-passes : t ≡ true → 0 ≡ tests (must (nameGood s k) 11 ∷ [])
+  name-passes q = go 0 _ _ (must-true 11 t (nameGood s k) h q) refl
+
+  pub name-fails : t ≡ false → 11 ≡ tests (must (nameGood s k) 11 ∷ [])
+  name-fails q = stop 11 _ _ tt (must-false 11 t (nameGood s k) h q)
+
+-- ---- n words from w(f) on are 0; i of them are behind, and w is the next
+
+module _ (s : List ℕ) (k f n i : ℕ) (h : i < n) (w : ℕ) (e : w ≡ wordOf s k (f + i)) where
+  left : n - i ≡ suc (n - (i + 1))
+  left = omega arith
+
+  pub zero-step : w ≡ 0 → allZero s k (f + (i + 1)) (n - (i + 1)) ≡ allZero s k (f + i) (n - i)
+  unfolding allZero pick
+  zero-step q = let g : f + (i + 1) ≡ suc (f + i) = omega arith in rw (left, g, eq-eqb _ _ (sym e ∙ q))
+
+  pub zero-bad : (w ≡ 0 → ⊥) → false ≡ allZero s k (f + i) (n - i)
+  unfolding allZero pick
+  zero-bad q = rw (left, ne-eqb _ _ (λ z. q (e ∙ z)))
+
+pub zero-done : (s : List ℕ) (k f n i : ℕ) → n ≤ i → true ≡ allZero s k (f + i) (n - i)
+unfolding allZero
+zero-done s k f n i h = let e : n - i ≡ 0 = omega arith in rw e
+
+-- ---- the root's bitmap words: w is w78, t whether the rest is 0
+
+module _ (d : Disk) (s : List ℕ) (r w : ℕ) (e : r ≡ rootOf d) (h : w ≡ wordOf s r 78) where
+  pub map-invalid : (w ≡ 0xFFFFFFFF → ⊥) → 16 ≡ mapFault d s
+  unfolding mapFault
+  map-invalid q = rw (← e) (stop 16 _ _ tt (must-ne 16 w (wordOf s r 78) 0xFFFFFFFF h q))
+
+  module _ (v : w ≡ 0xFFFFFFFF) (t : Bool) (u : t ≡ allZero s r 80 25) where
+    pub map-good : t ≡ true → 0 ≡ mapFault d s
+    unfolding mapFault
+    map-good q = rw (← e) (go 0 _ _ (must-eq 16 w (wordOf s r 78) 0xFFFFFFFF h v) (go 0 _ _ (must-true 16 t (allZero s r 80 25) u q) refl))
+
+    pub map-rest : t ≡ false → 16 ≡ mapFault d s
+    unfolding mapFault
+    map-rest q = rw (← e) (go 16 _ _ (must-eq 16 w (wordOf s r 78) 0xFFFFFFFF h v) (stop 16 _ _ tt (must-false 16 t (allZero s r 80 25) u q)))
+
+-- ---- the bitmap block
+
+module _ (s : List ℕ) (k w : ℕ) (h : w ≡ sumOf s k) where
+  pub bitmap-bad : (w ≡ 0 → ⊥) → 7 ≡ bitmapFault s k
+  unfolding bitmapFault
+  bitmap-bad q = sym (must-ne 7 w (sumOf s k) 0 h q)
+
+  pub bitmap-good : w ≡ 0 → 0 ≡ bitmapFault s k
+  unfolding bitmapFault
+  bitmap-good q = sym (must-eq 7 w (sumOf s k) 0 h q)
+
+-- ---- an entry: f, g and v answer its three parts
+
+module _ (d : Disk) (s : List ℕ) (k t slot f : ℕ) (p : f ≡ tests (entryTypes s k)) where
+  pub entry-types : (f ≡ 0 → ⊥) → f ≡ entryFault d s k t slot
+  unfolding entryFault
+  entry-types q = then-stop f (entryTypes s k) (entryWords s k t ++ entryName d s k slot) p q
+
+  module _ (z : f ≡ 0) (g : ℕ) (e : g ≡ tests (entryWords s k t)) where
+    pub entry-words : (g ≡ 0 → ⊥) → g ≡ entryFault d s k t slot
+    unfolding entryFault
+    entry-words q = then-go g f (entryTypes s k) (entryWords s k t ++ entryName d s k slot) p z (then-stop g (entryWords s k t) (entryName d s k slot) e q)
+
+    pub entry-name : (v : ℕ) → g ≡ 0 → v ≡ tests (entryName d s k slot) → v ≡ entryFault d s k t slot
+    unfolding entryFault
+    entry-name v q n = then-go v f (entryTypes s k) (entryWords s k t ++ entryName d s k slot) p z (then-go v g (entryWords s k t) (entryName d s k slot) e q n)
+
+-- its name and slot: t whether the name is good, w its slot
+module _ (d : Disk) (s : List ℕ) (k slot : ℕ) (t : Bool) (h : t ≡ nameGood s k) where
+  pub entry-unnamed : t ≡ false → 11 ≡ tests (entryName d s k slot)
+  entry-unnamed q = stop 11 _ _ tt (must-false 11 t (nameGood s k) h q)
+
+  module _ (v : t ≡ true) (w : ℕ) (e : w ≡ slotOf d (nameOf s k)) where
+    pub entry-strays : (w ≡ slot → ⊥) → 12 ≡ tests (entryName d s k slot)
+    entry-strays q = go 12 _ _ (must-true 11 t (nameGood s k) h v) (stop 12 _ _ tt (must-ne 12 w (slotOf d (nameOf s k)) slot e q))
+
+    pub entry-hangs : w ≡ slot → 0 ≡ tests (entryName d s k slot)
+    entry-hangs q = go 0 _ _ (must-true 11 t (nameGood s k) h v) (go 0 _ _ (must-eq 12 w (slotOf d (nameOf s k)) slot e q) refl)
+
+-- ---- a file: its size z, its number of data blocks n, f the answer of its count and link
+
+module _ (d : Disk) (s : List ℕ) (k z limit : ℕ) (h : z ≡ wordOf s k 81) (l : limit ≡ fileLimit d) where
+  pub file-big : limit < z → 14 ≡ fileFault d s k
+  unfolding fileFault
+  file-big q = stop 14 _ _ tt (must-gt 14 z limit (wordOf s k 81) (fileLimit d) h l q)
+
+  module _ (q : z ≤ limit) (n f : ℕ) (e : n ≡ dataBlocks d z) (p : f ≡ tests (countRules s k n)) where
+    pub file-count : (f ≡ 0 → ⊥) → f ≡ fileFault d s k
+    unfolding fileFault
+    file-count u = rw (← h, ← e) (go f _ _ (rw h (must-le 14 z limit (wordOf s k 81) (fileLimit d) h l q)) (then-stop f (countRules s k n) (emptyRules d s k n) p u))
+
+    pub file-empty : (v : ℕ) → f ≡ 0 → v ≡ tests (emptyRules d s k n) → v ≡ fileFault d s k
+    unfolding fileFault
+    file-empty v u g = rw (← h, ← e) (go v _ _ (rw h (must-le 14 z limit (wordOf s k 81) (fileLimit d) h l q)) (then-go v f (countRules s k n) (emptyRules d s k n) p u g))
+
+-- ---- a list block: f and v answer its two parts
+
+module _ (s : List ℕ) (k h n f : ℕ) (p : f ≡ tests (listWords s k h)) where
+  pub list-words : (f ≡ 0 → ⊥) → f ≡ listFault s k h n
+  unfolding listFault
+  list-words q = then-stop f (listWords s k h) (countRules s k n) p q
+
+  pub list-count : (v : ℕ) → f ≡ 0 → v ≡ tests (countRules s k n) → v ≡ listFault s k h n
+  unfolding listFault
+  list-count v z e = then-go v f (listWords s k h) (countRules s k n) p z e
+
+-- ---- a data block: f and v answer its two parts
+
+module _ (d : Disk) (s : List ℕ) (k h z n named f : ℕ) (p : f ≡ tests (dataWords d s k h z n)) where
+  pub data-words : (f ≡ 0 → ⊥) → f ≡ dataFault d s k h z n named
+  unfolding dataFault
+  data-words q = then-stop f (dataWords d s k h z n) (dataLinks d s k z n named) p q
+
+  pub data-links : (v : ℕ) → f ≡ 0 → v ≡ tests (dataLinks d s k z n named) → v ≡ dataFault d s k h z n named
+  unfolding dataFault
+  data-links v q e = then-go v f (dataWords d s k h z n) (dataLinks d s k z n named) p q e

@@ -1,0 +1,11 @@
+-- Laws of what specs/ defines, for this crate and those above it.
+-- lists of tests
+pub mod Tests
+-- a disk's numbers, and a file's
+pub mod Sizes
+-- names, folding and slots
+pub mod Names
+-- the tests of a block, part by part
+pub mod Faults
+-- the starred cases hold
+pub mod Stars

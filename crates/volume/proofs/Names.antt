@@ -1,0 +1,182 @@
+-- Laws of names: folding, slots, and the loops over a name's bytes. Assumes nothing.
+use Prim.Native.Nat.{ℕ, suc, _+_, _-_, _*_, _%_, _<_, _≤_}
+use mathlib.Core.Path.{_≡_, refl, ap, sym, _∙_}
+use mathlib.Core.Bool.{Bool, true, false}
+use mathlib.Core.List.{List, [], _∷_, map}
+use native.Mathlib.Omega.{arith}
+use native.Mathlib.Numerals.{add-one}
+use native.Mathlib.Decide.{decLe, decLt}
+use lib.Dec.{eqb, leb}
+use lib.ListN.{length, getD}
+use lib.Seq.{slice, slice-cons, slice-empty, length-slice}
+use borrow.Author.Tests.{eqb-true, eq-eqb, ne-eqb, le-leb, lt-leb, leb-true, leb-false}
+use Rattle.volume.specs.declared.disk.Disk.{Disk}
+use Rattle.volume.specs.Tests.{pick}
+use Rattle.volume.specs.Blocks.{Holds, slots}
+use Rattle.volume.specs.Names.{foldPlain, foldOf, folded, hashFrom, slotOf, allowed, same, longest, nameLength, nameFrom, nameOf, nameGood}
+
+-- ---- folding twice is folding once
+
+module _ (b : ℕ) where
+  fold-low : b < 97 → foldPlain b ≡ b
+  unfolding foldPlain pick
+  fold-low h = rw (lt-leb 97 b h)
+
+  fold-high : 122 < b → foldPlain b ≡ b
+  unfolding foldPlain pick
+  fold-high h = let g : 97 ≤ b = omega arith in rw (le-leb 97 b g, lt-leb b 122 h)
+
+  fold-mid : 97 ≤ b → b ≤ 122 → foldPlain b ≡ b - 32
+  unfolding foldPlain pick
+  fold-mid g h = rw (le-leb 97 b g, le-leb b 122 h)
+
+plain-twice : (b : ℕ) → foldPlain (foldPlain b) ≡ foldPlain b
+plain-twice b = low (decLt b 97)
+  where
+    high : 97 ≤ b → Dec (b ≤ 122) → foldPlain (foldPlain b) ≡ foldPlain b
+    high g (yes h) = let l : b - 32 < 97 = omega arith in rw (fold-mid b g h) (fold-low (b - 32) l)
+    high g (no h) = let l : 122 < b = omega arith in rw (fold-high b l) (fold-high b l)
+
+    low : Dec (b < 97) → foldPlain (foldPlain b) ≡ foldPlain b
+    low (yes h) = rw (fold-low b h) (fold-low b h)
+    low (no h) = high (omega arith) (decLe b 122)
+
+pub fold-twice : (d : Disk) (b : ℕ) → foldOf d (foldOf d b) ≡ foldOf d b
+unfolding foldOf
+fold-twice d b = plain-twice b
+
+-- ---- equal folded names have equal slots: a fact of any folding
+hash-same : (d : Disk) (h : ℕ) (xs ys : List ℕ) → folded d xs ≡ folded d ys → hashFrom d h xs ≡ hashFrom d h ys
+unfolding hashFrom
+hash-same d h [] [] e = refl
+hash-same d h [] (y ∷ ys) e = cc
+hash-same d h (x ∷ xs) [] e = cc
+hash-same d h (x ∷ xs) (y ∷ ys) e =
+    let p : foldOf d x ≡ foldOf d y = cc in
+    let q : folded d xs ≡ folded d ys = cc in
+    rw p (hash-same d ((13 * h + foldOf d y) % 2048) xs ys q)
+
+long-same : (f : ℕ → ℕ) (xs ys : List ℕ) → map f xs ≡ map f ys → length xs ≡ length ys
+long-same f [] [] e = refl
+long-same f [] (y ∷ ys) e = cc
+long-same f (x ∷ xs) [] e = cc
+long-same f (x ∷ xs) (y ∷ ys) e = let q : map f xs ≡ map f ys = cc in ap suc (long-same f xs ys q)
+
+pub slot-same : (d : Disk) (xs ys : List ℕ) → folded d xs ≡ folded d ys → slotOf d xs ≡ slotOf d ys
+unfolding slotOf
+slot-same d xs ys e = rw (long-same (foldOf d) xs ys e, hash-same d (length ys) xs ys e)
+
+-- the test of two names says that they fold to one list
+pub same-map : (d : Disk) (xs ys : List ℕ) → same d xs ys ≡ true → folded d xs ≡ folded d ys
+unfolding same pick
+same-map d [] [] e = refl
+same-map d [] (y ∷ ys) e = cc
+same-map d (x ∷ xs) [] e = cc
+same-map d (x ∷ xs) (y ∷ ys) e = go (eqb (foldOf d x) (foldOf d y)) refl e (same-map d xs ys)
+  where
+    go : (t : Bool) → eqb (foldOf d x) (foldOf d y) ≡ t → pick t (same d xs ys) false ≡ true → (same d xs ys ≡ true → folded d xs ≡ folded d ys) → folded d (x ∷ xs) ≡ folded d (y ∷ ys)
+    go true p q ih = let f = eqb-true (foldOf d x) (foldOf d y) p in let g = ih q in cc
+    go false p q ih = cc
+
+pub map-same : (d : Disk) (xs ys : List ℕ) → folded d xs ≡ folded d ys → same d xs ys ≡ true
+unfolding same pick
+map-same d [] [] e = refl
+map-same d [] (y ∷ ys) e = cc
+map-same d (x ∷ xs) [] e = cc
+map-same d (x ∷ xs) (y ∷ ys) e =
+    let p : foldOf d x ≡ foldOf d y = cc in
+    let q : folded d xs ≡ folded d ys = cc in
+    rw (eq-eqb _ _ p) (map-same d xs ys q)
+
+-- ---- a range of bytes, the first of which is taken off
+
+module _ (s : List ℕ) (f t : ℕ) (p : f < t) (q : t ≤ length s) where
+  pub hash-step : (d : Disk) (h : ℕ) → hashFrom d ((13 * h + foldOf d (getD s f 0)) % 2048) (slice (f + 1) t s) ≡ hashFrom d h (slice f t s)
+  unfolding hashFrom
+  hash-step d h = rw (add-one, slice-cons f t s 0 p q)
+
+  pub allowed-step : (getD s f 0 ≡ 47 → ⊥) → (getD s f 0 ≡ 58 → ⊥) → allowed (slice (f + 1) t s) ≡ allowed (slice f t s)
+  unfolding allowed pick
+  allowed-step m n = rw (add-one, slice-cons f t s 0 p q, ne-eqb _ _ m, ne-eqb _ _ n)
+
+  pub allowed-slash : getD s f 0 ≡ 47 → false ≡ allowed (slice f t s)
+  unfolding allowed pick
+  allowed-slash m = rw (slice-cons f t s 0 p q, eq-eqb _ _ m)
+
+  pub allowed-colon : (getD s f 0 ≡ 47 → ⊥) → getD s f 0 ≡ 58 → false ≡ allowed (slice f t s)
+  unfolding allowed pick
+  allowed-colon m n = rw (slice-cons f t s 0 p q, ne-eqb _ _ m, eq-eqb _ _ n)
+
+  module _ (d : Disk) (s′ : List ℕ) (f′ t′ : ℕ) (p′ : f′ < t′) (q′ : t′ ≤ length s′) where
+    pub same-step : foldOf d (getD s f 0) ≡ foldOf d (getD s′ f′ 0) → same d (slice (f + 1) t s) (slice (f′ + 1) t′ s′) ≡ same d (slice f t s) (slice f′ t′ s′)
+    unfolding same pick
+    same-step e = rw (add-one, add-one, slice-cons f t s 0 p q, slice-cons f′ t′ s′ 0 p′ q′, eq-eqb _ _ e)
+
+    pub same-bad : (foldOf d (getD s f 0) ≡ foldOf d (getD s′ f′ 0) → ⊥) → false ≡ same d (slice f t s) (slice f′ t′ s′)
+    unfolding same pick
+    same-bad e = rw (slice-cons f t s 0 p q, slice-cons f′ t′ s′ 0 p′ q′, ne-eqb _ _ e)
+
+module _ (s : List ℕ) (t : ℕ) where
+  pub hash-done : (d : Disk) (h : ℕ) → hashFrom d h (slice t t s) ≡ h
+  unfolding hashFrom
+  hash-done d h = rw slice-empty
+
+  pub allowed-done : allowed (slice t t s) ≡ true
+  unfolding allowed
+  allowed-done = rw slice-empty
+
+  pub same-done : (d : Disk) (s′ : List ℕ) (t′ : ℕ) → same d (slice t t s) (slice t′ t′ s′) ≡ true
+  unfolding same
+  same-done d s′ t′ = rw (slice-empty, slice-empty)
+
+-- names of different lengths differ
+pub same-long : (d : Disk) (xs ys : List ℕ) → (length xs ≡ length ys → ⊥) → false ≡ same d xs ys
+unfolding same pick
+same-long d [] [] h = absurd (h refl)
+same-long d [] (y ∷ ys) h = refl
+same-long d (x ∷ xs) [] h = refl
+same-long d (x ∷ xs) (y ∷ ys) h = both (eqb (foldOf d x) (foldOf d y)) (same-long d xs ys (λ e. h (ap suc e)))
+  where
+    both : {r : Bool} (t : Bool) → false ≡ r → false ≡ pick t r false
+    both true e = e
+    both false e = refl
+
+module _ (s : List ℕ) (k n : ℕ) (h : n ≡ nameLength s k) where
+  pub name-none : n < 1 → false ≡ nameGood s k
+  unfolding nameGood pick
+  name-none q = rw (← h, lt-leb 1 n q)
+
+  pub name-long : 1 ≤ n → longest < n → false ≡ nameGood s k
+  unfolding nameGood pick
+  name-long p q = rw (← h, le-leb 1 n p, lt-leb n longest q)
+
+  pub name-is : (f : ℕ) (r : Bool) → 1 ≤ n → n ≤ longest → f ≡ nameFrom k → r ≡ allowed (slice f (f + n) s) → r ≡ nameGood s k
+  unfolding nameGood pick
+  name-is f r p q g e = rw (← h, ← g, le-leb 1 n p, le-leb n longest q) e
+
+pub name-short : (s : List ℕ) (k : ℕ) (r : Bool) → r ≡ nameGood s k → r ≡ true → nameLength s k ≤ longest
+unfolding nameGood pick
+name-short s k r e q = go (leb 1 n) (leb n longest) (allowed (nameOf s k)) refl (sym e ∙ q)
+  where
+    n : ℕ
+    n = nameLength s k
+
+    go : (a b c : Bool) → leb n longest ≡ b → pick a (pick b c false) false ≡ true → n ≤ longest
+    go true true c p q = leb-true n longest p
+    go true false c p q = let z : _≡_ {A = ℕ} 0 1 = cc in absurd (omega arith)
+    go false b c p q = let z : _≡_ {A = ℕ} 0 1 = cc in absurd (omega arith)
+
+-- a block's name, of n bytes, and another: of different lengths, or of one
+module _ (d : Disk) (s : List ℕ) (k n : ℕ) (i : Holds s k) (p : nameLength s k ≤ longest) (h : n ≡ nameLength s k) (t : List ℕ) (at len : ℕ) (q : at + len ≤ length t) where
+  pub named-long : (n ≡ len → ⊥) → false ≡ same d (nameOf s k) (slice at (at + len) t)
+  named-long e = same-long d (nameOf s k) (slice at (at + len) t) (λ l. e (omega (arith, sym (length-slice (nameFrom k) (nameFrom k + nameLength s k) s (omega arith)) ∙ l ∙ length-slice at (at + len) t q)))
+
+  pub named-is : (f : ℕ) (r : Bool) → n ≡ len → f ≡ nameFrom k → r ≡ same d (slice f (f + n) s) (slice at (at + n) t) → r ≡ same d (nameOf s k) (slice at (at + len) t)
+  named-is f r e g u = rw (← h, ← g, ← e) u
+
+-- the slot of a part, from the hash that its loop ends with
+pub slot-is : (d : Disk) (s : List ℕ) (at n h : ℕ) → at + n ≤ length s → h ≡ hashFrom d n (slice at (at + n) s) → h % slots ≡ slotOf d (slice at (at + n) s)
+unfolding slotOf
+slot-is d s at n h q e =
+    let k : at + n - at ≡ n = omega arith in
+    rw (length-slice at (at + n) s q, k, e)

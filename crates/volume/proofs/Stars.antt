@@ -1,0 +1,10 @@
+-- The worked cases that the build paper stars hold, all in one statement. Assumes nothing.
+use mathlib.Core.Path.{refl}
+use Rattle.volume.specs.Tests.{pick}
+use Rattle.volume.specs.Disks.{floppy, dataBytes}
+use Rattle.volume.specs.Names.{slotOf, hashFrom, foldOf, foldPlain}
+use Rattle.volume.specs.Stars.{answer, stars, Hold}
+
+pub stars-hold : Hold floppy stars
+unfolding answer slotOf hashFrom foldOf foldPlain pick dataBytes
+stars-hold = refl

@@ -1,0 +1,16 @@
+-- `volume::block::word_of` meets its contract. Assumes nothing.
+use borrow.Author.Needs.{needs}
+use Rattle.volume.proofs.block.word_of.Statement.{statement}
+use Rattle.volume.proofs.block.word_of.Tie as tie
+
+place-requires : tie.Need-place-requires
+place-requires c κs = search needs
+
+word-requires : tie.Need-word-requires
+word-requires c κs = search needs
+
+returns : tie.Need-returns
+returns c = cc
+
+pub word-of-spec : {M : Type 1} → statement M
+word-of-spec = tie.close (tie.spec place-requires word-requires returns)

@@ -1,0 +1,55 @@
+-- A disk has a number of blocks and a kind, the last byte of its boot tag. All its other numbers follow from these two (the build paper,
+-- "What is built"): nothing above this file knows them as numbers.
+use Prim.Native.Nat.{ℕ, _+_, _-_, _*_, _/_, _<_, _≤_}
+use mathlib.Core.Bool.{Bool, false}
+use lib.Dec.{ltb}
+use Rattle.words.specs.Word.{four}
+use Rattle.volume.specs.declared.disk.Disk.{Disk}
+use Rattle.volume.specs.Blocks.{blockBytes, dataRoom}
+use Rattle.volume.specs.Tests.{pick}
+
+-- 880 KB, the old file system
+abbrev pub floppy : Disk
+floppy = record { blocks = 1760; kind = 0 }
+
+-- the sizes that the definitions are meant for: one bitmap block has bits for 4,064 blocks behind the two boot blocks
+pub record Sized (d : Disk) : Type 0 where
+  pub least : 8 ≤ d .blocks
+  pub most : d .blocks ≤ 4066
+
+abbrev pub imageBytes : Disk → ℕ
+imageBytes d = d .blocks * blockBytes
+
+-- a claim byte for each block
+abbrev pub claimBytes : Disk → ℕ
+claimBytes d = d .blocks
+
+-- "DOS" and the kind
+abbrev pub tagOf : Disk → ℕ
+tagOf d = four 68 79 83 (d .kind)
+
+abbrev pub rootOf : Disk → ℕ
+rootOf d = d .blocks / 2
+
+-- the two boot blocks have no key
+abbrev pub firstKey : ℕ
+firstKey = 2
+
+unfoldable pub inRange : Disk → ℕ → Bool
+inRange d k = pick (ltb k firstKey) false (ltb k (d .blocks))
+
+-- how many blocks have a bit in the bitmap: used and free together
+abbrev pub bitSpan : Disk → ℕ
+bitSpan d = d .blocks - firstKey
+
+-- a chain has at most an entry for each block but the boot blocks, the root and the bitmap block
+abbrev pub chainLimit : Disk → ℕ
+chainLimit d = d .blocks - 4
+
+-- how many bytes of a file a data block holds
+unfoldable pub dataBytes : Disk → ℕ
+dataBytes d = dataRoom
+
+-- a file has at most a data block for each block but these and its header
+abbrev pub fileLimit : Disk → ℕ
+fileLimit d = (d .blocks - 5) * dataBytes d

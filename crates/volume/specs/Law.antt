@@ -1,0 +1,104 @@
+-- The law of a volume: one field for each rule of the build paper's "Blocks of a volume". It mentions no walk. What is reached, and that
+-- each block is owned once, is said of `references` by crate `reach`.
+use Prim.Native.Nat.{ℕ, zero, suc, _+_, _-_, _*_, _≤_, _<_}
+use mathlib.Core.Path.{_≡_}
+use mathlib.Core.Logic.{_≢_, _⊎_, _↔_}
+use mathlib.Core.Bool.{true, false}
+use mathlib.Core.List.{List, [], _∷_, _++_, map}
+use lib.ListN.{length, replicate}
+use Rattle.words.specs.Word.{wordAt}
+use Rattle.reach.specs.References.{At, _∈_, Reached, Owned}
+use Rattle.volume.specs.declared.disk.Disk.{Disk}
+use Rattle.volume.specs.Disks.{firstKey, imageBytes, tagOf, rootOf, fileLimit}
+use Rattle.volume.specs.Blocks.{slots, wordOf, wordsOf, sumOf, slotWord, directory}
+use Rattle.volume.specs.Names.{folded, slotOf, nameOf, nameGood}
+use Rattle.volume.specs.Files.{heldOf, keysHere, sizeOf, blocksOf, listsOf, keysOf}
+use Rattle.volume.specs.Bitmap.{isFree}
+use Rattle.volume.specs.References.{Ref, to, root, entry, references}
+
+-- ---- the root, block r
+
+pub record Root (s : List ℕ) (r : ℕ) : Type 0 where
+  pub type : wordOf s r 0 ≡ 2
+  pub kind : wordOf s r 127 ≡ 1
+  pub zeros : (i : ℕ) → i ∈ (1 ∷ 2 ∷ 4 ∷ 124 ∷ 125 ∷ 126 ∷ []) → wordOf s r i ≡ 0
+  pub table : wordOf s r 3 ≡ slots
+  pub name : nameGood s r ≡ true
+  pub valid : wordOf s r 78 ≡ 0xFFFFFFFF
+  pub rest : wordsOf s r 80 25 ≡ replicate 25 0
+
+-- ---- an entry, block k: a directory or a file header
+
+pub record Entry (s : List ℕ) (k : ℕ) : Type 0 where
+  pub type : wordOf s k 0 ≡ 2
+  pub kind : (wordOf s k 127 ≡ 2) ⊎ (wordOf s k 127 ≡ 0xFFFFFFFD)
+  pub own : wordOf s k 1 ≡ k
+  pub name : nameGood s k ≡ true
+
+-- the key at a place of the chain that begins with key k: 0 behind its end
+unfoldable pub after : List ℕ → ℕ → ℕ
+after s zero = 0
+after s (suc k) = wordOf s (suc k) 124
+
+unfoldable pub chainKey : List ℕ → ℕ → ℕ → ℕ
+chainKey s k zero = k
+chainKey s k (suc p) = after s (chainKey s k p)
+
+-- entry k hangs on the chain of slot i of directory t
+pub record Hangs (s : List ℕ) (t i k : ℕ) : Type 0 where
+  pub slot : i < slots
+  pub place : ℕ
+  pub there : chainKey s (slotWord s t i) place ≡ k
+  pub some : k ≢ 0
+
+-- ---- a directory, block t, the root too: its entries know it, hang in their own names' slots, and no two have equal folded names
+
+pub record Directory (d : Disk) (s : List ℕ) (t : ℕ) : Type 0 where
+  pub parent : (i k : ℕ) → Hangs s t i k → wordOf s k 125 ≡ t
+  pub slot : (i k : ℕ) → Hangs s t i k → slotOf d (nameOf s k) ≡ i
+  pub names : (i j k l : ℕ) → Hangs s t i k → Hangs s t j l → folded d (nameOf s k) ≡ folded d (nameOf s l) → k ≡ l
+
+-- ---- a file, by its header h
+
+-- block b lists keys, n of them still to come
+pub record Lists (s : List ℕ) (b n : ℕ) : Type 0 where
+  pub count : wordOf s b 2 ≡ keysHere n
+  pub more : (wordOf s b 126 ≡ 0) ↔ (n ≤ slots)
+
+pub record ListBlock (s : List ℕ) (h b : ℕ) : Type 0 where
+  pub type : wordOf s b 0 ≡ 16
+  pub kind : wordOf s b 127 ≡ 0xFFFFFFFD
+  pub own : wordOf s b 1 ≡ b
+  pub parent : wordOf s b 125 ≡ h
+
+-- data block n of the file, counted from 1
+pub record DataBlock (d : Disk) (s : List ℕ) (h n k : ℕ) : Type 0 where
+  pub type : wordOf s k 0 ≡ 8
+  pub parent : wordOf s k 1 ≡ h
+  pub number : wordOf s k 2 ≡ n
+  pub held : wordOf s k 3 ≡ heldOf d (sizeOf s h) n
+
+pub record File (d : Disk) (s : List ℕ) (h : ℕ) : Type 0 where
+  pub size : sizeOf s h ≤ fileLimit d
+  -- the header and the list blocks, place by place
+  pub listing : (i b : ℕ) → At i b (h ∷ listsOf d s h) → Lists s b (blocksOf d s h - slots * i)
+  pub lists : (b : ℕ) → b ∈ listsOf d s h → ListBlock s h b
+  pub blocks : (i k : ℕ) → At i k (keysOf d s h) → DataBlock d s h (suc i) k
+  -- w4 of the header and of each data block is the key of the data block that follows, and 0 in the last
+  pub following : map (λ k. wordOf s k 4) (h ∷ keysOf d s h) ≡ keysOf d s h ++ (0 ∷ [])
+
+-- ---- the volume
+
+pub record Volume (d : Disk) (s : List ℕ) : Type 0 where
+  pub long : length s ≡ imageBytes d
+  pub tag : wordAt s 0 ≡ tagOf d
+  pub keys : (r : Ref) → Reached (references d s) r → (firstKey ≤ r .key) × (r .key < d .blocks)
+  pub sums : (r : Ref) → Reached (references d s) r → sumOf s (r .key) ≡ 0
+  pub top : Root s (rootOf d)
+  pub entries : (k : ℕ) → Reached (references d s) (to entry k) → Entry s k
+  pub holds : Directory d s (rootOf d)
+  pub directories : (k : ℕ) → Reached (references d s) (to entry k) → directory s k ≡ true → (wordOf s k 126 ≡ 0) × Directory d s k
+  pub files : (k : ℕ) → Reached (references d s) (to entry k) → directory s k ≡ false → File d s k
+  pub owned : Owned (references d s)
+  -- a bit is 0 exactly if its block is reached
+  pub bits : (k : ℕ) → firstKey ≤ k → k < d .blocks → (isFree s (wordOf s (rootOf d) 79) k ≡ false) ↔ ((r : Ref) × Reached (references d s) r × (r .key ≡ k))

@@ -1,0 +1,21 @@
+-- What the contracts of `volume` cite, and the law of a volume. To read the law: Disks, Blocks, Names, Files, Bitmap, References, Law.
+-- a disk's own numbers
+pub mod Disks
+-- a block and its words
+pub mod Blocks
+-- names, folding, hash
+pub mod Names
+-- a file's size, its list blocks and its data keys
+pub mod Files
+-- the bitmap's bit of a block
+pub mod Bitmap
+-- which block refers to which
+pub mod References
+-- the law of a volume
+pub mod Law
+-- lists of tests
+pub mod Tests
+-- the tests of a block of each kind, in order
+pub mod Rules
+-- the starred worked cases
+pub mod Stars

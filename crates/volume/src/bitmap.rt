@@ -1,0 +1,37 @@
+// The bitmap block's bit of a block.
+use crate::block::word_of;
+use crate::disk::Disk;
+ghost use mathlib.Core.Path.{_≡_};
+ghost use Prim.Native.Nat.{_<_, _≤_};
+ghost use Rattle.volume.specs.Disks.{firstKey};
+ghost use Rattle.volume.specs.Blocks.{Holds};
+ghost use Rattle.volume.specs.Bitmap.{bitWord, bitPlace, isFree};
+
+// A word of the bitmap block, and a place in it, counted from the lowest.
+pub struct Bit {
+    pub word: usize,
+    pub place: u32,
+}
+
+impl Bit {
+    // Where a block has its bit.
+    pub fn of(key: u32) -> Bit
+        requires { ⌜ firstKey ≤ key ⌝ }
+        ensures { λ r. ⌜ (r .word ≡ bitWord key) × (r .place ≡ bitPlace key) ⌝ }
+    {
+        Bit {
+            word: 1 + (key as usize - 2) / 32,
+            place: (key - Disk::FIRST_KEY) % 32,
+        }
+    }
+}
+
+// Whether the bitmap block `page` says that a block is free.
+pub fn is_free(image: &[u8], page: u32, key: u32) -> bool
+    requires { ⌜ (firstKey ≤ key) × (key < 4066) × Holds (now image) page ⌝ }
+    ensures { λ r. ⌜ r ≡ isFree (now (image .entry)) page key ⌝ }
+{
+    let bit = Bit::of(key);
+    let w = word_of(image, page, bit.word);
+    (w >> bit.place) % 2 == 1
+}

@@ -1,0 +1,91 @@
+// The tests of an entry, a directory or a file header.
+use crate::block::Block;
+use crate::block::sum_of;
+use crate::block::word_of;
+use crate::disk::Disk;
+use crate::name::name_good;
+use crate::name::slot_of;
+ghost use mathlib.Core.Path.{_≡_};
+ghost use Rattle.volume.specs.Tests.{tests};
+ghost use Rattle.volume.specs.Blocks.{Holds};
+ghost use Rattle.volume.specs.Rules.{entryTypes, entryWords, entryName, entryFault};
+
+// Sum and types.
+fn types_fault(image: &[u8], key: u32) -> u32
+    requires { ⌜ Holds (now image) key ⌝ }
+    ensures { λ r. ⌜ r ≡ tests (entryTypes (now (image .entry)) key) ⌝ }
+{
+    if sum_of(image, key) != 0 {
+        return 7;
+    }
+    if word_of(image, key, Block::TYPE) != Block::HEADER_TYPE {
+        return 8;
+    }
+    let kind = word_of(image, key, Block::KIND);
+    if kind == 3 {
+        return 9;
+    }
+    if kind == 4 {
+        return 9;
+    }
+    if kind == 0xFFFFFFFC {
+        return 9;
+    }
+    if kind == Block::DIRECTORY {
+        return 0;
+    }
+    if kind != Block::FILE {
+        return 8;
+    }
+    0
+}
+
+// Its own key, its directory's, and a directory's w126.
+fn words_fault(image: &[u8], key: u32, directory: u32) -> u32
+    requires { ⌜ Holds (now image) key ⌝ }
+    ensures { λ r. ⌜ r ≡ tests (entryWords (now (image .entry)) key directory) ⌝ }
+{
+    if word_of(image, key, Block::OWN_KEY) != key {
+        return 10;
+    }
+    if word_of(image, key, Block::PARENT) != directory {
+        return 10;
+    }
+    if word_of(image, key, Block::KIND) != Block::DIRECTORY {
+        return 0;
+    }
+    if word_of(image, key, Block::LIST) != 0 {
+        return 10;
+    }
+    0
+}
+
+// Its name and slot.
+fn name_fault(disk: Disk, image: &[u8], key: u32, slot: u32) -> u32
+    requires { ⌜ Holds (now image) key ⌝ }
+    ensures { λ r. ⌜ r ≡ tests (entryName disk (now (image .entry)) key slot) ⌝ }
+{
+    if name_good(image, key) {
+        if slot_of(disk, image, key) != slot {
+            return 12;
+        }
+        return 0;
+    }
+    11
+}
+
+// An entry on the chain of a slot of a directory.
+pub fn entry_fault(disk: Disk, image: &[u8], key: u32, directory: u32, slot: u32) -> u32
+    requires { ⌜ Holds (now image) key ⌝ }
+    ensures { λ r. ⌜ r ≡ entryFault disk (now (image .entry)) key directory slot ⌝ }
+{
+    let f = types_fault(image, key);
+    if f != 0 {
+        return f;
+    }
+    let g = words_fault(image, key, directory);
+    if g != 0 {
+        return g;
+    }
+    name_fault(disk, image, key, slot)
+}

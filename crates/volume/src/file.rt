@@ -1,0 +1,193 @@
+// Files: how many blocks a size takes, and the tests of headers, list blocks and data blocks.
+use crate::block::Block;
+use crate::block::sum_of;
+use crate::block::word_of;
+use crate::disk::Disk;
+ghost use mathlib.Core.Path.{_≡_};
+ghost use Prim.Native.Nat.{_≤_, _<_};
+ghost use Rattle.volume.specs.Tests.{tests};
+ghost use Rattle.volume.specs.Disks.{Sized, fileLimit};
+ghost use Rattle.volume.specs.Blocks.{slots, Holds, keyWord};
+ghost use Rattle.volume.specs.Files.{keysHere, listBlocks, lastKeys};
+ghost use Rattle.volume.specs.Rules.{countRules, emptyRules, fileFault, listWords, listFault, dataWords, dataLinks, dataFault};
+
+const SLOTS: u32 = 72;
+
+// Of n keys still to come, how many the header or the next list block has.
+pub fn keys_here(n: u32) -> u32
+    ensures { λ r. ⌜ r ≡ keysHere n ⌝ }
+{
+    if n <= SLOTS { n } else { SLOTS }
+}
+
+// The list blocks of a file of n data blocks.
+pub fn list_blocks(n: u32) -> u32
+    ensures { λ r. ⌜ r ≡ listBlocks n ⌝ }
+{
+    if n == 0 {
+        return 0;
+    }
+    (n - 1) / SLOTS
+}
+
+// The keys in the last block that lists any.
+pub fn last_keys(n: u32) -> u32
+    ensures { λ r. ⌜ r ≡ lastKeys n ⌝ }
+{
+    n - SLOTS * list_blocks(n)
+}
+
+// Data key i of a header or a list block, counted from 0.
+pub fn key_of(image: &[u8], key: u32, i: usize) -> u32
+    requires { ⌜ (i < slots) × Holds (now image) key ⌝ }
+    ensures { λ r. ⌜ r ≡ keyWord (now (image .entry)) key i ⌝ }
+{
+    word_of(image, key, Block::FIRST_KEY - i)
+}
+
+// A block that lists keys, n of them still to come.
+fn count_fault(image: &[u8], key: u32, n: u32) -> u32
+    requires { ⌜ Holds (now image) key ⌝ }
+    ensures { λ r. ⌜ r ≡ tests (countRules (now (image .entry)) key n) ⌝ }
+{
+    if word_of(image, key, Block::COUNT) != keys_here(n) {
+        return 14;
+    }
+    let more = word_of(image, key, Block::LIST);
+    if n <= SLOTS {
+        if more != 0 {
+            return 14;
+        }
+        return 0;
+    }
+    if more == 0 {
+        return 14;
+    }
+    0
+}
+
+// An empty file has no first data block.
+fn empty_fault(disk: Disk, image: &[u8], key: u32, n: u32) -> u32
+    requires { ⌜ Holds (now image) key ⌝ }
+    ensures { λ r. ⌜ r ≡ tests (emptyRules disk (now (image .entry)) key n) ⌝ }
+{
+    if n != 0 {
+        return 0;
+    }
+    if word_of(image, key, Block::FIRST_DATA) != 0 {
+        return 14;
+    }
+    0
+}
+
+// A file's own tests, of its header.
+pub fn file_fault(disk: Disk, image: &[u8], key: u32) -> u32
+    requires { ⌜ Sized disk × Holds (now image) key ⌝ }
+    ensures { λ r. ⌜ r ≡ fileFault disk (now (image .entry)) key ⌝ }
+{
+    let size = word_of(image, key, Block::SIZE);
+    if disk.file_limit() < size {
+        return 14;
+    }
+    let n = disk.data_blocks(size);
+    let f = count_fault(image, key, n);
+    if f != 0 {
+        return f;
+    }
+    empty_fault(disk, image, key, n)
+}
+
+// Sum, types, own key and header of a list block.
+fn list_words_fault(image: &[u8], key: u32, header: u32) -> u32
+    requires { ⌜ Holds (now image) key ⌝ }
+    ensures { λ r. ⌜ r ≡ tests (listWords (now (image .entry)) key header) ⌝ }
+{
+    if sum_of(image, key) != 0 {
+        return 7;
+    }
+    if word_of(image, key, Block::TYPE) != Block::LIST_TYPE {
+        return 8;
+    }
+    if word_of(image, key, Block::KIND) != Block::FILE {
+        return 8;
+    }
+    if word_of(image, key, Block::OWN_KEY) != key {
+        return 10;
+    }
+    if word_of(image, key, Block::PARENT) != header {
+        return 10;
+    }
+    0
+}
+
+// A list block of a file, n keys still to come.
+pub fn list_fault(image: &[u8], key: u32, header: u32, n: u32) -> u32
+    requires { ⌜ Holds (now image) key ⌝ }
+    ensures { λ r. ⌜ r ≡ listFault (now (image .entry)) key header n ⌝ }
+{
+    let f = list_words_fault(image, key, header);
+    if f != 0 {
+        return f;
+    }
+    count_fault(image, key, n)
+}
+
+// Sum, type, header, number and bytes held of data block n.
+fn data_words_fault(disk: Disk, image: &[u8], key: u32, header: u32, size: u32, n: u32) -> u32
+    requires { ⌜ Holds (now image) key × ((1 ≤ n) × (n ≤ 4066)) ⌝ }
+    ensures { λ r. ⌜ r ≡ tests (dataWords disk (now (image .entry)) key header size n) ⌝ }
+{
+    if sum_of(image, key) != 0 {
+        return 7;
+    }
+    if word_of(image, key, Block::TYPE) != Block::DATA_TYPE {
+        return 8;
+    }
+    if word_of(image, key, Block::HEADER) != header {
+        return 15;
+    }
+    if word_of(image, key, Block::NUMBER) != n {
+        return 15;
+    }
+    if word_of(image, key, Block::HELD) != disk.held(size, n) {
+        return 15;
+    }
+    0
+}
+
+// The key that the block before data block n names, and what data block n names.
+fn data_links_fault(disk: Disk, image: &[u8], key: u32, size: u32, n: u32, named: u32) -> u32
+    requires { ⌜ Sized disk × (size ≤ fileLimit disk) × Holds (now image) key ⌝ }
+    ensures { λ r. ⌜ r ≡ tests (dataLinks disk (now (image .entry)) key size n named) ⌝ }
+{
+    if named != key {
+        return 15;
+    }
+    if n != disk.data_blocks(size) {
+        return 0;
+    }
+    if word_of(image, key, Block::FOLLOWING) != 0 {
+        return 15;
+    }
+    0
+}
+
+// Data block n of a file of `size` bytes; `named` is the key that the block before it names.
+pub fn data_fault(
+    disk: Disk,
+    image: &[u8],
+    key: u32,
+    header: u32,
+    size: u32,
+    n: u32,
+    named: u32,
+) -> u32
+    requires { ⌜ Sized disk × (size ≤ fileLimit disk) × (Holds (now image) key × ((1 ≤ n) × (n ≤ 4066))) ⌝ }
+    ensures { λ r. ⌜ r ≡ dataFault disk (now (image .entry)) key header size n named ⌝ }
+{
+    let f = data_words_fault(disk, image, key, header, size, n);
+    if f != 0 {
+        return f;
+    }
+    data_links_fault(disk, image, key, size, n, named)
+}
