@@ -7,5 +7,7 @@ pub mod Sizes
 pub mod Names
 -- the tests of a block, part by part
 pub mod Faults
+-- a block passes its tests exactly if it is as the law says
+pub mod Passes
 -- the starred cases hold
 pub mod Stars
