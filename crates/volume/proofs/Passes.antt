@@ -1,13 +1,13 @@
 -- A block passes its tests exactly if it is as the law of a volume says. Assumes nothing.
-use Prim.Native.Nat.{ℕ, zero, suc, _≤_, _<_}
-use mathlib.Core.Path.{_≡_, refl, sym, ap, ap₂, _∙_, subst}
+use Prim.Native.Nat.{ℕ, zero, suc, _≤_}
+use mathlib.Core.Path.{_≡_, refl, sym, ap₂, _∙_}
 use mathlib.Core.Logic.{_≢_, _⊎_, inl, inr, _↔_}
 use mathlib.Core.Bool.{Bool, true, false}
 use mathlib.Core.List.{List, [], _∷_, _++_}
 use native.Mathlib.Omega.{arith}
 use lib.Dec.{leb, eqb}
 use lib.ListN.{replicate}
-use borrow.Author.Tests.{eq-eqb, ne-eqb, le-leb, lt-leb, eqb-true, eqb-false, leb-true, leb-false}
+use borrow.Author.Tests.{eq-eqb, ne-eqb, le-leb, eqb-true, eqb-false, leb-true, leb-false}
 use Rattle.reach.specs.Walk.{first}
 use Rattle.reach.specs.References.{At, _∈_}
 use Rattle.reach.proofs.Runs.{first-zero}
@@ -15,11 +15,11 @@ use Rattle.volume.specs.declared.disk.Disk.{Disk}
 use Rattle.volume.specs.Tests.{pick, must, never, tests}
 use Rattle.volume.specs.Disks.{rootOf, fileLimit}
 use Rattle.volume.specs.Blocks.{slots, wordOf, wordsOf, sumOf, directory}
-use Rattle.volume.specs.Names.{nameOf, nameGood, slotOf}
-use Rattle.volume.specs.Files.{dataBlocks, heldOf, keysHere, sizeOf, blocksOf}
+use Rattle.volume.specs.Names.{nameOf, slotOf}
+use Rattle.volume.specs.Files.{sizeOf, blocksOf}
 use Rattle.volume.proofs.Tests.{pick-true, pick-false}
 use Rattle.volume.specs.Law.{Root, Entry, Lists, ListBlock, DataBlock}
-use Rattle.volume.specs.Rules.{rootTypes, rootWords, rootRules, rootFault, allZero, mapRules, mapFault, bitmapFault, entryTypes, entryWords, entryName, entryFault, countRules, emptyRules, fileFault, listWords, listFault, dataWords, dataLinks, dataFault}
+use Rattle.volume.specs.Rules.{rootRules, rootFault, allZero, mapRules, mapFault, bitmapFault, entryTypes, entryWords, entryName, entryFault, countRules, emptyRules, fileFault, listWords, listFault, dataWords, dataLinks, dataFault}
 
 -- ---- what a passed test says, and what makes it pass
 

@@ -1,6 +1,6 @@
 -- A disk has a number of blocks and a kind, the last byte of its boot tag. All its other numbers follow from these two (the build paper,
 -- "What is built"): nothing above this file knows them as numbers.
-use Prim.Native.Nat.{ℕ, _+_, _-_, _*_, _/_, _<_, _≤_}
+use Prim.Native.Nat.{ℕ, _-_, _*_, _/_, _≤_}
 use mathlib.Core.Bool.{Bool, false}
 use lib.Dec.{ltb}
 use Rattle.words.specs.Word.{four}

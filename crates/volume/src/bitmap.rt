@@ -20,7 +20,7 @@ impl Bit {
         ensures { λ r. ⌜ (r .word ≡ bitWord key) × (r .place ≡ bitPlace key) ⌝ }
     {
         Bit {
-            word: 1 + (key as usize - 2) / 32,
+            word: 1 + ((key - Disk::FIRST_KEY) / 32) as usize,
             place: (key - Disk::FIRST_KEY) % 32,
         }
     }

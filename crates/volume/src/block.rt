@@ -2,9 +2,9 @@
 ghost use mathlib.Core.Path.{_≡_};
 ghost use Prim.Native.Nat.{_+_, _*_, _/_, _<_};
 ghost use Rattle.words.specs.Sum.{blockWords};
-ghost use Rattle.volume.specs.Blocks.{blockBytes, slots, dataRoom, Holds, wordOf, sumOf};
+ghost use Rattle.volume.specs.Blocks.{blockBytes, Holds, wordOf, sumOf};
 
-// Its numbers, and where its words stand; the constants that end in a word's meaning are that word's number.
+// How much a block has of what, which of its words means what, and where a word stands.
 pub struct Block;
 
 impl Block {
@@ -18,6 +18,7 @@ impl Block {
     // Bytes of a file in a data block, which begin at byte 24.
     pub const DATA: usize = 488;
 
+    // The words that have a meaning, by their numbers.
     pub const TYPE: usize = 0;
 
     pub const OWN_KEY: usize = 1;

@@ -11,7 +11,7 @@ ghost use Rattle.volume.specs.Blocks.{slots, Holds, keyWord};
 ghost use Rattle.volume.specs.Files.{keysHere, listBlocks, lastKeys};
 ghost use Rattle.volume.specs.Rules.{countRules, emptyRules, fileFault, listWords, listFault, dataWords, dataLinks, dataFault};
 
-const SLOTS: u32 = 72;
+const SLOTS: u32 = Block::SLOTS as u32;
 
 // Of n keys still to come, how many the header or the next list block has.
 pub fn keys_here(n: u32) -> u32

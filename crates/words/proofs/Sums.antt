@@ -1,8 +1,8 @@
 -- Laws of a block's sum: word by word, parts, what it depends on, and what a store does to it. Assumes nothing.
 use Prim.Native.Nat.{_^_, ℕ, zero, suc, _+_, _*_, _%_, _<_, _≤_}
-use mathlib.Core.Path.{_≡_, refl, ap, ap₂, sym, _∙_}
+use mathlib.Core.Path.{_≡_, refl, ap, ap₂}
 use mathlib.Core.List.{List}
-use native.Mathlib.Nat.{add-zero, mod-add-mod}
+use native.Mathlib.Nat.{add-zero}
 use native.Mathlib.Numerals.{add-one}
 use native.Mathlib.Omega.{arith}
 use native.Mathlib.Decide.{decLt}

@@ -1,5 +1,4 @@
 -- `volume::entry::name_fault` meets its contract. Assumes nothing.
-use native.Mathlib.Omega.{arith}
 use Rattle.volume.proofs.Names.{name-short}
 use Rattle.volume.proofs.Faults.{entry-unnamed, entry-strays, entry-hangs}
 use borrow.Author.Needs.{needs}
