@@ -6,10 +6,12 @@ use Prim.Native.Nat.{ℕ, zero, suc, _<_}
 use native.Mathlib.Omega.{arith}
 use lib.ListN.{getD}
 use Rattle.reach.specs.References.{References, At, _∈_, Reached, top, ref}
-use Rattle.reach.specs.Walk.{Graph, Outcome, done, refused, first, claimed, verdict, audit}
+use Rattle.answers.specs.Tests.{first}
+use Rattle.answers.proofs.Tests.{first-refuses}
+use Rattle.reach.specs.Walk.{Graph, Outcome, done, refused, claimed, verdict, audit}
 use Rattle.reach.specs.Law.{Place, Twice, Why}
 use Rattle.reach.proofs.Lists.{at-one}
-use Rattle.reach.proofs.Runs.{Run, end, stop, enter, first-refuses}
+use Rattle.reach.proofs.Runs.{Run, end, stop, enter}
 use Rattle.reach.proofs.Tree.{Item, number-at, tree, down, unfolded, told}
 use Rattle.reach.proofs.Found.{distinct-one}
 use Rattle.reach.proofs.Kept.{Claim}

@@ -8,20 +8,12 @@ use native.Mathlib.Nat.{le-refl, not-suc-le-zero}
 use native.Mathlib.Omega.{arith}
 use lib.ListN.{getD, set}
 use Rattle.reach.specs.References.{References}
-use Rattle.reach.specs.Walk.{Graph, Outcome, done, refused, first, claimed, free, verdict, walk, run, andThen}
+use Rattle.answers.specs.Tests.{first}
+use Rattle.answers.proofs.Tests.{first-zero}
+use Rattle.reach.specs.Walk.{Graph, Outcome, done, refused, claimed, free, verdict, walk, run, andThen}
 use Rattle.reach.proofs.Claims.{free-set}
 
 -- ---- tests
-
-pub first-zero : (a b : ℕ) → first a b ≡ 0 → (a ≡ 0) × (b ≡ 0)
-unfolding first
-first-zero zero b e = (refl, e)
-first-zero (suc a) b e = absurd (omega arith)
-
-pub first-refuses : (a b : ℕ) → 0 < a → first a b ≡ a
-unfolding first
-first-refuses zero b h = absurd (omega arith)
-first-refuses (suc a) b h = refl
 
 pub claimed-zero : (v m : ℕ) → 0 < v → claimed v m ≡ 0 → m ≡ 0
 claimed-zero v zero h e = refl

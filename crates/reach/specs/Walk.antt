@@ -2,6 +2,7 @@
 use mathlib.Core.List.{List, [], _∷_, _++_}
 use Prim.Native.Nat.{ℕ, zero, suc, _<_}
 use lib.ListN.{getD, set, replicate}
+use Rattle.answers.specs.Tests.{first}
 use Rattle.reach.specs.References.{References}
 
 -- A graph to audit. A test is a number: 0 passes, any other is the refusal's.
@@ -25,11 +26,6 @@ pub data Outcome (S : Type 0) : Type 0 where
 abbrev pub Accepted : {S : Type 0} → Outcome S → Type 0
 Accepted (done c s) = Unit {0}
 Accepted (refused v k) = ⊥
-
--- the first of two tests that does not pass
-unfoldable pub first : ℕ → ℕ → ℕ
-first zero b = b
-first (suc a) b = suc a
 
 -- the test of a claim byte, which refuses with v
 abbrev pub claimed : ℕ → ℕ → ℕ

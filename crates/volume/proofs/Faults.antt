@@ -6,13 +6,13 @@ use mathlib.Core.List.{List, [], _∷_, _++_}
 use native.Mathlib.Omega.{arith}
 use borrow.Author.Tests.{eq-eqb, ne-eqb}
 use Rattle.volume.specs.declared.disk.Disk.{Disk}
-use Rattle.volume.specs.Tests.{tests, must, pick}
+use Rattle.answers.specs.Tests.{tests, must, pick}
 use Rattle.volume.specs.Disks.{rootOf, fileLimit}
 use Rattle.volume.specs.Blocks.{wordOf, sumOf}
 use Rattle.volume.specs.Names.{nameOf, nameGood, slotOf}
 use Rattle.volume.specs.Files.{dataBlocks}
 use Rattle.volume.specs.Rules.{rootTypes, rootWords, rootFault, allZero, mapFault, bitmapFault, entryTypes, entryWords, entryName, entryFault, countRules, emptyRules, fileFault, listWords, listFault, dataWords, dataLinks, dataFault}
-use Rattle.volume.proofs.Tests.{go, stop, must-le, must-gt, must-true, must-false, must-eq, must-ne, then-go, then-stop}
+use Rattle.answers.proofs.Tests.{go, stop, must-le, must-gt, must-true, must-false, must-eq, must-ne, then-go, then-stop}
 
 -- ---- the root: r is its key, f and g answer the first two parts
 

@@ -1,6 +1,4 @@
 -- Laws of what specs/ defines, for this crate and those above it.
--- lists of tests
-pub mod Tests
 -- a disk's numbers, and a file's
 pub mod Sizes
 -- names, folding and slots

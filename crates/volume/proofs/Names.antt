@@ -11,7 +11,7 @@ use lib.ListN.{length, getD}
 use lib.Seq.{slice, slice-cons, slice-empty, length-slice}
 use borrow.Author.Tests.{eqb-true, eq-eqb, ne-eqb, le-leb, lt-leb, leb-true}
 use Rattle.volume.specs.declared.disk.Disk.{Disk}
-use Rattle.volume.specs.Tests.{pick}
+use Rattle.answers.specs.Tests.{pick}
 use Rattle.volume.specs.Blocks.{Holds, slots}
 use Rattle.volume.specs.Names.{foldPlain, foldOf, folded, hashFrom, slotOf, allowed, same, longest, nameLength, nameFrom, nameOf, nameGood}
 

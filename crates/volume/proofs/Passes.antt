@@ -1,23 +1,23 @@
 -- A block passes its tests exactly if it is as the law of a volume says. Assumes nothing.
-use Prim.Native.Nat.{ℕ, zero, suc, _≤_}
+use Prim.Native.Nat.{ℕ, zero, suc, _+_, _≤_, _<_}
 use mathlib.Core.Path.{_≡_, refl, sym, ap₂, _∙_}
 use mathlib.Core.Logic.{_≢_, _⊎_, inl, inr, _↔_}
 use mathlib.Core.Bool.{Bool, true, false}
 use mathlib.Core.List.{List, [], _∷_, _++_}
 use native.Mathlib.Omega.{arith}
+use native.Mathlib.Decide.{decLt}
 use lib.Dec.{leb, eqb}
-use lib.ListN.{replicate}
 use borrow.Author.Tests.{eq-eqb, ne-eqb, le-leb, eqb-true, eqb-false, leb-true, leb-false}
-use Rattle.reach.specs.Walk.{first}
+use Rattle.answers.specs.Tests.{first}
 use Rattle.reach.specs.References.{At, _∈_}
-use Rattle.reach.proofs.Runs.{first-zero}
+use Rattle.answers.proofs.Tests.{first-zero}
 use Rattle.volume.specs.declared.disk.Disk.{Disk}
-use Rattle.volume.specs.Tests.{pick, must, never, tests}
+use Rattle.answers.specs.Tests.{pick, must, never, tests}
 use Rattle.volume.specs.Disks.{rootOf, fileLimit}
-use Rattle.volume.specs.Blocks.{slots, wordOf, wordsOf, sumOf, directory}
+use Rattle.volume.specs.Blocks.{slots, wordOf, sumOf, directory}
 use Rattle.volume.specs.Names.{nameOf, slotOf}
 use Rattle.volume.specs.Files.{sizeOf, blocksOf}
-use Rattle.volume.proofs.Tests.{pick-true, pick-false}
+use Rattle.answers.proofs.Tests.{pick-true, pick-false}
 use Rattle.volume.specs.Law.{Root, Entry, Lists, ListBlock, DataBlock}
 use Rattle.volume.specs.Rules.{rootRules, rootFault, allZero, mapRules, mapFault, bitmapFault, entryTypes, entryWords, entryName, entryFault, countRules, emptyRules, fileFault, listWords, listFault, dataWords, dataLinks, dataFault}
 
@@ -70,22 +70,21 @@ p & q = rw p q
 
 -- ---- words that are 0
 
-pub zero-words : (s : List ℕ) (k i n : ℕ) → allZero s k i n ≡ true → wordsOf s k i n ≡ replicate n 0
-unfolding allZero wordsOf pick
-zero-words s k i zero e = refl
-zero-words s k i (suc n) e = go (eqb (wordOf s k i) 0) refl e (zero-words s k (suc i) n)
+pub zeros-there : (s : List ℕ) (k i n : ℕ) → allZero s k i n ≡ true → (j : ℕ) → i ≤ j → j < i + n → wordOf s k j ≡ 0
+unfolding allZero pick
+zeros-there s k i zero e j l h = absurd (omega arith)
+zeros-there s k i (suc n) e j l h = go (eqb (wordOf s k i) 0) refl e (zeros-there s k (suc i) n) (decLt i j)
   where
-    go : (t : Bool) → eqb (wordOf s k i) 0 ≡ t → pick t (allZero s k (suc i) n) false ≡ true → (allZero s k (suc i) n ≡ true → wordsOf s k (suc i) n ≡ replicate n 0) → wordOf s k i ∷ wordsOf s k (suc i) n ≡ 0 ∷ replicate n 0
-    go true p e ih = ap₂ _∷_ (eqb-true (wordOf s k i) 0 p) (ih e)
-    go false p e ih = let z : _≡_ {A = ℕ} 0 1 = cc in absurd (omega arith)
+    go : (t : Bool) → eqb (wordOf s k i) 0 ≡ t → pick t (allZero s k (suc i) n) false ≡ true → (allZero s k (suc i) n ≡ true → (j : ℕ) → suc i ≤ j → j < suc i + n → wordOf s k j ≡ 0) → Dec (i < j) → wordOf s k j ≡ 0
+    go true p e ih (yes q) = ih e j q (omega arith)
+    go true p e ih (no q) = let g : j ≡ i = omega arith in rw g (eqb-true (wordOf s k i) 0 p)
+    go false p e ih q = let z : _≡_ {A = ℕ} 0 1 = cc in absurd (omega arith)
 
-pub words-zero : (s : List ℕ) (k i n : ℕ) → wordsOf s k i n ≡ replicate n 0 → allZero s k i n ≡ true
-unfolding allZero wordsOf pick
-words-zero s k i zero e = refl
-words-zero s k i (suc n) e =
-    let p : wordOf s k i ≡ 0 = cc in
-    let q : wordsOf s k (suc i) n ≡ replicate n 0 = cc in
-    rw (eq-eqb (wordOf s k i) 0 p) (words-zero s k (suc i) n q)
+pub zeros-found : (s : List ℕ) (k i n : ℕ) → ((j : ℕ) → i ≤ j → j < i + n → wordOf s k j ≡ 0) → allZero s k i n ≡ true
+unfolding allZero pick
+zeros-found s k i zero f = refl
+zeros-found s k i (suc n) f =
+    rw (eq-eqb (wordOf s k i) 0 (f i (omega arith) (omega arith))) (zeros-found s k (suc i) n (λ j l h. f j (omega arith) (omega arith)))
 
 -- ---- the root
 
@@ -104,7 +103,7 @@ module _ (d : Disk) (s : List ℕ) where
       table = is _ _ 3 (test-at 5 (rootRules s r) e refl);
       name = must-passed _ 10 (test-at 10 (rootRules s r) e refl);
       valid = is _ _ 15 (test-at 0 (mapRules s r) f refl);
-      rest = zero-words s r 80 25 (must-passed _ 15 (test-at 1 (mapRules s r) f refl));
+      rest = λ i l h. zeros-there s r 80 25 (must-passed _ 15 (test-at 1 (mapRules s r) f refl)) i l (omega arith);
     },
   )
     where
@@ -121,7 +120,7 @@ module _ (d : Disk) (s : List ℕ) where
   unfolding rootFault mapFault
   root-passes e h = (
     be _ _ 7 e & be _ _ 8 (h .type) & be _ _ 8 (h .kind) & fixed 1 (inl refl) & fixed 2 (inr (inl refl)) & be _ _ 4 (h .table) & fixed 4 (inr (inr (inl refl))) & fixed 124 (inr (inr (inr (inl refl)))) & fixed 125 (inr (inr (inr (inr (inl refl))))) & fixed 126 (inr (inr (inr (inr (inr (inl refl)))))) & must-passes _ 11 (h .name) & refl,
-    be _ _ 16 (h .valid) & must-passes _ 16 (words-zero s r 80 25 (h .rest)) & refl,
+    be _ _ 16 (h .valid) & must-passes _ 16 (zeros-found s r 80 25 (λ j l u. h .rest j l (omega arith))) & refl,
   )
     where
       fixed : (i : ℕ) → i ∈ (1 ∷ 2 ∷ 4 ∷ 124 ∷ 125 ∷ 126 ∷ []) → must (eqb (wordOf s r i) 0) 4 ≡ 0

@@ -6,7 +6,7 @@ use lib.Dec.{ltb}
 use borrow.Author.Tests.{ltb-true, ltb-false}
 use native.Mathlib.Omega.{arith}
 use Rattle.volume.specs.declared.disk.Disk.{Disk}
-use Rattle.volume.specs.Tests.{pick}
+use Rattle.answers.specs.Tests.{pick}
 use Rattle.volume.specs.Blocks.{dataRoom}
 use Rattle.volume.specs.Disks.{Sized, firstKey, inRange, dataBytes, fileLimit}
 use Rattle.volume.specs.Files.{dataBlocks, heldOf}

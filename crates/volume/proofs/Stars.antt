@@ -1,6 +1,6 @@
 -- The worked cases that the build paper stars hold, all in one statement. Assumes nothing.
 use mathlib.Core.Path.{refl}
-use Rattle.volume.specs.Tests.{pick}
+use Rattle.answers.specs.Tests.{pick}
 use Rattle.volume.specs.Disks.{floppy, dataBytes}
 use Rattle.volume.specs.Names.{slotOf, hashFrom, foldOf, foldPlain}
 use Rattle.volume.specs.Stars.{answer, stars, Hold}

@@ -1,7 +1,7 @@
 -- A block is 128 words, w0 to w127; 72 of them are hash slots, or keys of data blocks (the build paper, "What is built", "Blocks of a volume").
-use Prim.Native.Nat.{ℕ, zero, suc, _+_, _-_, _*_, _≤_}
+use Prim.Native.Nat.{ℕ, _+_, _-_, _*_, _≤_}
 use mathlib.Core.Bool.{Bool}
-use mathlib.Core.List.{List, [], _∷_}
+use mathlib.Core.List.{List}
 use lib.Dec.{eqb}
 use lib.ListN.{length}
 use Rattle.words.specs.Word.{wordAt}
@@ -41,8 +41,3 @@ keyWord s k i = wordOf s k (77 - i)
 -- w127 tells a directory from a file
 abbrev pub directory : List ℕ → ℕ → Bool
 directory s k = eqb (wordOf s k 127) 2
-
--- the n words of block k from w(i) on
-unfoldable pub wordsOf : List ℕ → ℕ → ℕ → ℕ → List ℕ
-wordsOf s k i zero = []
-wordsOf s k i (suc n) = wordOf s k i ∷ wordsOf s k (suc i) n

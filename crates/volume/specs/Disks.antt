@@ -6,7 +6,7 @@ use lib.Dec.{ltb}
 use Rattle.words.specs.Word.{four}
 use Rattle.volume.specs.declared.disk.Disk.{Disk}
 use Rattle.volume.specs.Blocks.{blockBytes, dataRoom}
-use Rattle.volume.specs.Tests.{pick}
+use Rattle.answers.specs.Tests.{pick}
 
 -- 880 KB, the old file system
 abbrev pub floppy : Disk

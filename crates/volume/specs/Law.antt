@@ -5,12 +5,12 @@ use mathlib.Core.Path.{_≡_}
 use mathlib.Core.Logic.{_≢_, _⊎_, _↔_}
 use mathlib.Core.Bool.{true, false}
 use mathlib.Core.List.{List, [], _∷_, _++_, map}
-use lib.ListN.{length, replicate}
+use lib.ListN.{length}
 use Rattle.words.specs.Word.{wordAt}
 use Rattle.reach.specs.References.{At, _∈_, Reached, Owned}
 use Rattle.volume.specs.declared.disk.Disk.{Disk}
 use Rattle.volume.specs.Disks.{firstKey, imageBytes, tagOf, rootOf, fileLimit}
-use Rattle.volume.specs.Blocks.{slots, wordOf, wordsOf, sumOf, slotWord, directory}
+use Rattle.volume.specs.Blocks.{slots, wordOf, sumOf, slotWord, directory}
 use Rattle.volume.specs.Names.{folded, slotOf, nameOf, nameGood}
 use Rattle.volume.specs.Files.{heldOf, keysHere, sizeOf, blocksOf, listsOf, keysOf}
 use Rattle.volume.specs.Bitmap.{isFree}
@@ -25,7 +25,7 @@ pub record Root (s : List ℕ) (r : ℕ) : Type 0 where
   pub table : wordOf s r 3 ≡ slots
   pub name : nameGood s r ≡ true
   pub valid : wordOf s r 78 ≡ 0xFFFFFFFF
-  pub rest : wordsOf s r 80 25 ≡ replicate 25 0
+  pub rest : (i : ℕ) → 80 ≤ i → i ≤ 104 → wordOf s r i ≡ 0
 
 -- ---- an entry, block k: a directory or a file header
 

@@ -13,8 +13,6 @@ pub mod Bitmap
 pub mod References
 -- the law of a volume
 pub mod Law
--- lists of tests
-pub mod Tests
 -- the tests of a block of each kind, in order
 pub mod Rules
 -- the starred worked cases

@@ -7,7 +7,7 @@ use lib.ListN.{length, getD}
 use lib.Seq.{slice}
 use Rattle.volume.specs.declared.disk.Disk.{Disk}
 use Rattle.volume.specs.Blocks.{blockBytes, slots}
-use Rattle.volume.specs.Tests.{pick}
+use Rattle.answers.specs.Tests.{pick}
 
 -- a-z become A-Z, and every other byte stays
 unfoldable pub foldPlain : ℕ → ℕ

@@ -4,7 +4,7 @@ use Prim.Native.Nat.{ℕ, zero, suc, _+_}
 use mathlib.Core.List.{List, [], _∷_, _++_, map}
 use Rattle.reach.specs.References.{References}
 use Rattle.volume.specs.declared.disk.Disk.{Disk}
-use Rattle.volume.specs.Tests.{pick}
+use Rattle.answers.specs.Tests.{pick}
 use Rattle.volume.specs.Disks.{rootOf}
 use Rattle.volume.specs.Blocks.{slots, wordOf, slotWord, directory}
 use Rattle.volume.specs.Files.{keysDown}

@@ -5,7 +5,7 @@ use mathlib.Core.Bool.{Bool, true, false}
 use mathlib.Core.List.{List, [], _∷_, _++_}
 use lib.Dec.{leb, eqb}
 use Rattle.volume.specs.declared.disk.Disk.{Disk}
-use Rattle.volume.specs.Tests.{pick, must, never, tests}
+use Rattle.answers.specs.Tests.{pick, must, never, tests}
 use Rattle.volume.specs.Disks.{rootOf, fileLimit}
 use Rattle.volume.specs.Blocks.{slots, wordOf, sumOf, directory}
 use Rattle.volume.specs.Names.{nameOf, nameGood, slotOf}

@@ -6,7 +6,7 @@ use crate::disk::Disk;
 use crate::name::name_good;
 use crate::name::slot_of;
 ghost use mathlib.Core.Path.{_≡_};
-ghost use Rattle.volume.specs.Tests.{tests};
+ghost use Rattle.answers.specs.Tests.{tests};
 ghost use Rattle.volume.specs.Blocks.{Holds};
 ghost use Rattle.volume.specs.Rules.{entryTypes, entryWords, entryName, entryFault};
 

@@ -5,7 +5,7 @@ use crate::block::word_of;
 use crate::disk::Disk;
 ghost use mathlib.Core.Path.{_≡_};
 ghost use Prim.Native.Nat.{_≤_, _<_};
-ghost use Rattle.volume.specs.Tests.{tests};
+ghost use Rattle.answers.specs.Tests.{tests};
 ghost use Rattle.volume.specs.Disks.{Sized, fileLimit};
 ghost use Rattle.volume.specs.Blocks.{slots, Holds, keyWord};
 ghost use Rattle.volume.specs.Files.{keysHere, listBlocks, lastKeys};

@@ -5,7 +5,7 @@ use crate::block::word_of;
 use crate::disk::Disk;
 use crate::name::name_good;
 ghost use mathlib.Core.Path.{_≡_};
-ghost use Rattle.volume.specs.Tests.{tests};
+ghost use Rattle.answers.specs.Tests.{tests};
 ghost use Rattle.volume.specs.Disks.{rootOf};
 ghost use Rattle.volume.specs.Blocks.{Holds};
 ghost use Rattle.volume.specs.Rules.{rootTypes, rootWords, rootFault, allZero, mapFault, bitmapFault};

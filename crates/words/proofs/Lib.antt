@@ -1,3 +1,4 @@
 -- Laws of what specs/ defines, for this crate and those above it.
 pub mod Words
 pub mod Sums
+pub mod Shifts

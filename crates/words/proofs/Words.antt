@@ -47,7 +47,7 @@ four-of w h =
     omega (arith, div-add-mod' w 256, div-add-mod' (w / 256) 256, div-add-mod' (w / 65536) 256)
 
 -- every place stands before the word at `at`, behind it, or is one of its four
-split : (P : ℕ → Type 0) (at : ℕ) → P at → P (at + 1) → P (at + 2) → P (at + 3) → ((k : ℕ) → k < at → P k) → ((k : ℕ) → at + 4 ≤ k → P k) → (k : ℕ) → P k
+pub split : (P : ℕ → Type 0) (at : ℕ) → P at → P (at + 1) → P (at + 2) → P (at + 3) → ((k : ℕ) → k < at → P k) → ((k : ℕ) → at + 4 ≤ k → P k) → (k : ℕ) → P k
 split P at p0 p1 p2 p3 lo hi k = go (decLt k at)
   where
     on : (j : ℕ) → P (at + j)
@@ -74,7 +74,7 @@ module _ (s : List ℕ) (at w : ℕ) where
   setWord-above k h = setWord-other k (omega arith) (omega arith) (omega arith) (omega arith)
 
   module _ (fits : at + 4 ≤ length s) where
-    setWord-0 : getD (setWord s at w) at 0 ≡ w / 16777216 % 256
+    pub setWord-0 : getD (setWord s at w) at 0 ≡ w / 16777216 % 256
     unfolding setWord
     setWord-0 =
         let n1 : at ≢ at + 1 = omega arith in
@@ -83,7 +83,7 @@ module _ (s : List ℕ) (at w : ℕ) where
         let h : at < length s = omega arith in
         simp (getD-set-other, getD-set-same)
 
-    setWord-1 : getD (setWord s at w) (at + 1) 0 ≡ w / 65536 % 256
+    pub setWord-1 : getD (setWord s at w) (at + 1) 0 ≡ w / 65536 % 256
     unfolding setWord
     setWord-1 =
         let n2 : at + 1 ≢ at + 2 = omega arith in
@@ -91,14 +91,14 @@ module _ (s : List ℕ) (at w : ℕ) where
         let h : at + 1 < length (set s at (w / 16777216 % 256)) = simp length-set (omega arith) in
         simp (getD-set-other, getD-set-same)
 
-    setWord-2 : getD (setWord s at w) (at + 2) 0 ≡ w / 256 % 256
+    pub setWord-2 : getD (setWord s at w) (at + 2) 0 ≡ w / 256 % 256
     unfolding setWord
     setWord-2 =
         let n3 : at + 2 ≢ at + 3 = omega arith in
         let h : at + 2 < length (set (set s at (w / 16777216 % 256)) (at + 1) (w / 65536 % 256)) = simp length-set (omega arith) in
         simp (getD-set-other, getD-set-same)
 
-    setWord-3 : getD (setWord s at w) (at + 3) 0 ≡ w % 256
+    pub setWord-3 : getD (setWord s at w) (at + 3) 0 ≡ w % 256
     unfolding setWord
     setWord-3 =
         let h : at + 3 < length (set (set (set s at (w / 16777216 % 256)) (at + 1) (w / 65536 % 256)) (at + 2) (w / 256 % 256)) = simp length-set (omega arith) in

@@ -3,3 +3,5 @@
 pub mod Word
 -- the sum of a block's words
 pub mod Sum
+-- amounts added to many words
+pub mod Shift

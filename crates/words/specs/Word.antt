@@ -1,6 +1,6 @@
 -- Every number on a disk and in a program file is a big-endian word of 32 bits: four bytes, the highest first (the build paper, "What is built").
-use Prim.Native.Nat.{ℕ, _+_, _*_, _/_, _%_, _^_}
-use mathlib.Core.List.{List}
+use Prim.Native.Nat.{ℕ, zero, suc, _+_, _*_, _/_, _%_, _^_}
+use mathlib.Core.List.{List, [], _∷_}
 use lib.ListN.{getD, set}
 
 -- the number that four bytes make, the first the highest
@@ -10,6 +10,11 @@ four a b c d = ((a * 256 + b) * 256 + c) * 256 + d
 -- the word whose first byte stands at `at`
 unfoldable pub wordAt : List ℕ → ℕ → ℕ
 wordAt s at = four (getD s at 0) (getD s (at + 1) 0) (getD s (at + 2) 0) (getD s (at + 3) 0)
+
+-- the n words from `at` on
+unfoldable pub wordsAt : List ℕ → ℕ → ℕ → List ℕ
+wordsAt s at zero = []
+wordsAt s at (suc n) = wordAt s at ∷ wordsAt s (at + 4) n
 
 -- the bytes with w stored at `at`
 unfoldable pub setWord : List ℕ → ℕ → ℕ → List ℕ

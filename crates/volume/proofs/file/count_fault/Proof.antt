@@ -1,5 +1,5 @@
 -- `volume::file::count_fault` meets its contract. Assumes nothing.
-use Rattle.volume.proofs.Tests.{faults}
+use Rattle.answers.proofs.Tests.{faults}
 use borrow.Author.Needs.{needs}
 use Rattle.volume.proofs.file.count_fault.Statement.{statement}
 use Rattle.volume.proofs.file.count_fault.Tie as tie

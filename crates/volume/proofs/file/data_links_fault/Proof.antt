@@ -1,5 +1,5 @@
 -- `volume::file::data_links_fault` meets its contract. Assumes nothing.
-use Rattle.volume.proofs.Tests.{faults}
+use Rattle.answers.proofs.Tests.{faults}
 use borrow.Author.Needs.{needs}
 use Rattle.volume.proofs.file.data_links_fault.Statement.{statement}
 use Rattle.volume.proofs.file.data_links_fault.Tie as tie

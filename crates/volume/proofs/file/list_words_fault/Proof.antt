@@ -1,5 +1,5 @@
 -- `volume::file::list_words_fault` meets its contract. Assumes nothing.
-use Rattle.volume.proofs.Tests.{faults}
+use Rattle.answers.proofs.Tests.{faults}
 use borrow.Author.Needs.{needs}
 use Rattle.volume.proofs.file.list_words_fault.Statement.{statement}
 use Rattle.volume.proofs.file.list_words_fault.Tie as tie

@@ -1,6 +1,6 @@
 -- `volume::name::fold_plain` meets its contract. Assumes nothing.
 use borrow.Author.Tests.{le-leb, lt-leb}
-use Rattle.volume.specs.Tests.{pick}
+use Rattle.answers.specs.Tests.{pick}
 use Rattle.volume.specs.Names.{foldPlain}
 use borrow.Author.Needs.{needs}
 use Rattle.volume.proofs.name.fold_plain.Statement.{statement}

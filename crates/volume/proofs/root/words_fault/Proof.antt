@@ -1,5 +1,5 @@
 -- `volume::root::words_fault` meets its contract. Assumes nothing.
-use Rattle.volume.proofs.Tests.{go, stop, must-eq, must-ne}
+use Rattle.answers.proofs.Tests.{go, stop, must-eq, must-ne}
 use borrow.Author.Needs.{needs}
 use Rattle.volume.proofs.root.words_fault.Statement.{statement}
 use Rattle.volume.proofs.root.words_fault.Tie as tie

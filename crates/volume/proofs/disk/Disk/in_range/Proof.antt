@@ -1,6 +1,6 @@
 -- `volume::disk::Disk::in_range` meets its contract. Assumes nothing.
 use borrow.Author.Tests.{lt-ltb, le-ltb}
-use Rattle.volume.specs.Tests.{pick}
+use Rattle.answers.specs.Tests.{pick}
 use Rattle.volume.specs.Disks.{inRange}
 use Rattle.volume.proofs.disk.Disk.in_range.Statement.{statement}
 use Rattle.volume.proofs.disk.Disk.in_range.Tie as tie

@@ -1,8 +1,7 @@
 -- A list of tests gives 0 where all pass, else the number of the first that fails (the build paper, "Numbers").
-use Prim.Native.Nat.{ℕ}
+use Prim.Native.Nat.{ℕ, zero, suc}
 use mathlib.Core.Bool.{Bool, true, false}
 use mathlib.Core.List.{List, [], _∷_}
-use Rattle.reach.specs.Walk.{first}
 
 -- the one or the other, by a test
 unfoldable pub pick : {X : Type 0} → Bool → X → X → X
@@ -18,6 +17,11 @@ must false v = v
 unfoldable pub never : Bool → ℕ → ℕ
 never true v = v
 never false v = 0
+
+-- the first of two numbers that is not 0
+unfoldable pub first : ℕ → ℕ → ℕ
+first zero b = b
+first (suc a) b = suc a
 
 -- the first number of a list that is not 0
 abbrev pub tests : List ℕ → ℕ

@@ -5,9 +5,22 @@ use mathlib.Core.Bool.{Bool, true, false}
 use mathlib.Core.List.{List, [], _∷_, _++_}
 use native.Mathlib.Omega.{arith}
 use lib.Dec.{T, leb, ltb, eqb, lt→ltb}
-use borrow.Author.Tests.{eq-eqb, ne-eqb, le-leb, lt-leb}
-use Rattle.reach.specs.Walk.{first}
-use Rattle.volume.specs.Tests.{pick, must, never, tests}
+use borrow.Author.Tests.{eq-eqb, ne-eqb, le-leb, lt-leb, lt-ltb, le-ltb}
+use Rattle.answers.specs.Tests.{pick, must, never, first, tests}
+
+-- ---- the first of two numbers
+
+pub first-zero : (a b : ℕ) → first a b ≡ 0 → (a ≡ 0) × (b ≡ 0)
+unfolding first
+first-zero zero b e = (refl, e)
+first-zero (suc a) b e = absurd (omega arith)
+
+pub first-refuses : (a b : ℕ) → 0 < a → first a b ≡ a
+unfolding first
+first-refuses zero b h = absurd (omega arith)
+first-refuses (suc a) b h = refl
+
+-- ---- a test at a time, as code makes them
 
 pub go : (r a b : ℕ) → a ≡ 0 → r ≡ b → r ≡ first a b
 unfolding first
@@ -137,3 +150,77 @@ module _ (t : Bool) (x y v : ℕ) where
   pick-false q e = rw q e
 
 pub ruleset faults = (tt, go, stop, must-eq, must-ne, never-eq, never-ne, pick-eq, pick-ne, must-le, must-gt, must-true, must-false, must-same, must-differ, must-is, must-is-not, pick-at, pick-off, pick-is, pick-is-not, pick-most, pick-above, pick-true, pick-false)
+
+-- ---- a choice between values, as code makes it: by its parameters, or by values that it computed
+
+module _ {X : Type 0} (r x y : X) (a b : ℕ) where
+  pub if-eq : a ≡ b → r ≡ x → r ≡ pick (eqb a b) x y
+  unfolding pick
+  if-eq q e = rw (eq-eqb a b q) e
+
+  pub if-ne : (a ≡ b → ⊥) → r ≡ y → r ≡ pick (eqb a b) x y
+  unfolding pick
+  if-ne q e = rw (ne-eqb a b q) e
+
+  pub if-lt : a < b → r ≡ x → r ≡ pick (ltb a b) x y
+  unfolding pick
+  if-lt q e = rw (lt-ltb a b q) e
+
+  pub if-ge : b ≤ a → r ≡ y → r ≡ pick (ltb a b) x y
+  unfolding pick
+  if-ge q e = rw (le-ltb a b q) e
+
+  pub if-le : a ≤ b → r ≡ x → r ≡ pick (leb a b) x y
+  unfolding pick
+  if-le q e = rw (le-leb a b q) e
+
+  pub if-gt : b < a → r ≡ y → r ≡ pick (leb a b) x y
+  unfolding pick
+  if-gt q e = rw (lt-leb a b q) e
+
+  -- v is a value of the code
+  module _ (v : ℕ) where
+    pub if-eq-right : v ≡ b → a ≡ v → r ≡ x → r ≡ pick (eqb a b) x y
+    if-eq-right p q e = if-eq (q ∙ p) e
+
+    pub if-ne-right : v ≡ b → (a ≡ v → ⊥) → r ≡ y → r ≡ pick (eqb a b) x y
+    if-ne-right p q e = if-ne (λ z. q (z ∙ sym p)) e
+
+    pub if-lt-left : v ≡ a → v < b → r ≡ x → r ≡ pick (ltb a b) x y
+    if-lt-left p q e = if-lt (omega (arith, p)) e
+
+    pub if-ge-left : v ≡ a → b ≤ v → r ≡ y → r ≡ pick (ltb a b) x y
+    if-ge-left p q e = if-ge (omega (arith, p)) e
+
+    pub if-lt-right : v ≡ b → a < v → r ≡ x → r ≡ pick (ltb a b) x y
+    if-lt-right p q e = if-lt (omega (arith, p)) e
+
+    pub if-ge-right : v ≡ b → v ≤ a → r ≡ y → r ≡ pick (ltb a b) x y
+    if-ge-right p q e = if-ge (omega (arith, p)) e
+
+-- a test's number, as it is returned
+module _ (a b v : ℕ) where
+  pub gives-none : a ≡ b → 0 ≡ must (eqb a b) v
+  unfolding must
+  gives-none q = rw (eq-eqb a b q)
+
+  pub gives : (a ≡ b → ⊥) → v ≡ must (eqb a b) v
+  unfolding must
+  gives q = rw (ne-eqb a b q)
+
+  pub gives-none-le : a ≤ b → 0 ≡ must (leb a b) v
+  unfolding must
+  gives-none-le q = rw (le-leb a b q)
+
+  pub gives-le : b < a → v ≡ must (leb a b) v
+  unfolding must
+  gives-le q = rw (lt-leb a b q)
+
+  module _ (w : ℕ) (p : w ≡ b) where
+    pub gives-none-right : a ≡ w → 0 ≡ must (eqb a b) v
+    gives-none-right q = gives-none (q ∙ p)
+
+    pub gives-right : (a ≡ w → ⊥) → v ≡ must (eqb a b) v
+    gives-right q = gives (λ z. q (z ∙ sym p))
+
+pub ruleset choices = (gives-none, gives, gives-none-le, gives-le, gives-none-right, gives-right, if-eq, if-ne, if-lt, if-ge, if-le, if-gt, if-eq-right, if-ne-right, if-lt-left, if-ge-left, if-lt-right, if-ge-right)

@@ -1,0 +1,5 @@
+-- What tests and refusals are.
+-- lists of tests
+pub mod Tests
+-- refusals, as definitions write them
+pub mod Refusals
