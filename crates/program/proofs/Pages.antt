@@ -1,0 +1,216 @@
+-- A program file is what the page says: the check accepts the files whose words are hunks within the limits, written out, and no others.
+-- Assumes nothing.
+use Prim.Native.Nat.{ℕ, zero, suc, _+_, _*_, _-_, _/_, _%_, _<_, _≤_}
+use mathlib.Core.Path.{_≡_, refl, sym, ap, _∙_}
+use mathlib.Core.Logic.{_↔_}
+use mathlib.Core.List.{List, [], _∷_, map}
+use mathlib.Core.Bool.{Bool, true, false}
+use native.Mathlib.Omega.{arith}
+use lib.ListN.{length, length-map, getD}
+use borrow.Author.Tests.{eq-eqb, ne-eqb, eqb-true}
+use Rattle.words.specs.Word.{wordAt, wordsAt}
+use Rattle.answers.specs.Tests.{pick}
+use Rattle.answers.specs.declared.Refusal.{Refusal}
+use Rattle.answers.specs.declared.Tested.{Tested}
+use Rattle.answers.specs.declared.Tested.the-variants.{Passed, Failed}
+use Rattle.program.specs.declared.check.Answer.{Answer}
+use Rattle.program.specs.declared.check.Answer.the-variants.{Accepted, Refused}
+use Rattle.program.specs.Page.{Hunk, joined, hunkWords, headWords, written, Each, HunkFits, Program}
+use Rattle.program.specs.Header.{totalOf, sizeOf, startAt, headFault, heads}
+use Rattle.program.specs.Reader.{start}
+use Rattle.program.specs.Check.{walkOf, and, checkOf}
+use Rattle.program.proofs.Taken.{total, Sized, hunks-on}
+use Rattle.program.proofs.Traced.{cons, refused, walk-back}
+use Rattle.program.proofs.Heading.{words-add, Split, split, heads-pass, fault-0, fault-1, fault-2, fault-3, fault-4, fault-size, is-0, is-1, is-2, is-3, is-4, is-size, each-fine}
+
+-- ---- sizes
+
+abbrev sizes : List Hunk → List ℕ
+sizes hs = map (λ h. h .size) hs
+
+sized-of : (t : ℕ) (size : ℕ → ℕ) (hs : List Hunk) (h : ℕ) → Each (HunkFits t) hs → h + length hs ≡ t → ((i : ℕ) → i < length hs → size (h + i) ≡ getD (sizes hs) i 0) → Sized t size h hs
+sized-of t size [] h f e g = omega arith
+sized-of t size (x ∷ xs) h f e g =
+    let a : h + 0 ≡ h = omega arith in
+    let b : size h ≡ x .size = rw a at (g 0 (omega arith)) in
+    (sym b, f .0, sized-of t size xs (h + 1) (f .1) (omega arith) (λ i l. let d : h + suc i ≡ h + 1 + i = omega arith in rw d at (g (suc i) (omega arith))))
+
+small-sizes : (t : ℕ) (hs : List Hunk) (i : ℕ) → Each (HunkFits t) hs → i < length hs → getD (sizes hs) i 0 ≤ 65536
+small-sizes t [] i f l = absurd (omega arith)
+small-sizes t (x ∷ xs) zero f l = f .0 .size
+small-sizes t (x ∷ xs) (suc i) f l = small-sizes t xs i (f .1) (omega arith)
+
+sized-fits : (t : ℕ) (size : ℕ → ℕ) (hs : List Hunk) (h : ℕ) → Sized t size h hs → Each (HunkFits t) hs
+sized-fits t size [] h f = tt
+sized-fits t size (x ∷ xs) h f = (f .1, sized-fits t size xs (h + 1) (f .2))
+
+sized-length : (t : ℕ) (size : ℕ → ℕ) (hs : List Hunk) (h : ℕ) → Sized t size h hs → h + length hs ≡ t
+sized-length t size [] h f = let e : h ≡ t = f in omega arith
+sized-length t size (x ∷ xs) h f = omega (arith, sized-length t size xs (h + 1) (f .2))
+
+sized-words : (t : ℕ) (file : List ℕ) (hs : List Hunk) (h : ℕ) → Sized t (sizeOf file) h hs → wordsAt file (20 + 4 * h) (length hs) ≡ sizes hs
+unfolding wordsAt sizeOf
+sized-words t file [] h f = refl
+sized-words t file (x ∷ xs) h f =
+    let a : 20 + 4 * h + 4 ≡ 20 + 4 * (h + 1) = omega arith in
+    rw (a, sized-words t file xs (h + 1) (f .2), f .0)
+
+-- ---- what is written is accepted
+
+module _ (file : List ℕ) (hs : List Hunk) (p : Program hs) (even : length file % 4 ≡ 0) (e : wordsAt file 0 (length file / 4) ≡ written hs) where
+  cut : Split file (headWords hs) (joined hunkWords hs) 0 (length file / 4)
+  cut = split file (headWords hs) (joined hunkWords hs) 0 (length file / 4) e
+
+  head-length : length (headWords hs) ≡ 5 + length hs
+  head-length = omega (arith, length-map hs (λ h. h .size))
+
+  is-total : totalOf file ≡ length hs
+  is-total = cut .first 2 (omega (arith, head-length))
+
+  is-long : 20 + 4 * length hs ≤ length file
+  is-long = omega (arith, cut .long, head-length)
+
+  is-sized : (i : ℕ) → i < length hs → sizeOf file i ≡ getD (sizes hs) i 0
+  unfolding sizeOf
+  is-sized i l =
+      let a : 20 + 4 * i ≡ 0 + 4 * suc (suc (suc (suc (suc i)))) = omega arith in
+      rw a (cut .first (suc (suc (suc (suc (suc i))))) (omega (arith, head-length)))
+
+  all-sized : Sized (totalOf file) (sizeOf file) 0 hs
+  all-sized =
+      sized-of (totalOf file) (sizeOf file) hs 0 (rw is-total (p .hunks)) (omega (arith, is-total))
+      (λ i l. let a : 0 + i ≡ i = omega arith in rw a (is-sized i l))
+
+  heads-first : heads file 0 5 ≡ Passed
+  heads-first = heads-pass file 5 0 (omega (arith, is-long)) go
+    where
+      go : (j : ℕ) → 0 ≤ j → j < 5 → headFault (totalOf file) j (wordAt file (4 * j)) ≡ 0
+      go zero a b = fault-0 (totalOf file) _ (cut .first 0 (omega (arith, head-length)))
+      go (suc zero) a b = fault-1 (totalOf file) _ (cut .first 1 (omega (arith, head-length)))
+      go (suc (suc zero)) a b = fault-2 (totalOf file) (totalOf file) (omega (arith, is-total, p .least)) (omega (arith, is-total, p .most))
+      go (suc (suc (suc zero))) a b = fault-3 (totalOf file) _ (cut .first 3 (omega (arith, head-length)))
+      go (suc (suc (suc (suc zero)))) a b =
+          let l = cut .first 4 (omega (arith, head-length)) in
+          fault-4 (totalOf file) (wordAt file 16) (omega (arith, is-total, p .least, l))
+      go (suc (suc (suc (suc (suc j))))) a b = absurd (omega arith)
+
+  heads-second : heads file 5 (totalOf file) ≡ Passed
+  unfolding sizeOf
+  heads-second =
+      heads-pass file (totalOf file) 5 (omega (arith, is-long, is-total))
+      (λ j a b. go j (j - 5) (omega arith) (omega (arith, is-total)))
+    where
+      go : (j i : ℕ) → j ≡ 5 + i → i < length hs → headFault (totalOf file) j (wordAt file (4 * j)) ≡ 0
+      go j i d l =
+          let a : 4 * (5 + i) ≡ 20 + 4 * i = omega arith in
+          rw (d, a) (fault-size (totalOf file) (sizeOf file i) i (rw (is-sized i l) (small-sizes (length hs) hs i (p .hunks) l)))
+
+  rest-words : wordsAt file (startAt file) ((length file - startAt file) / 4) ≡ joined hunkWords hs
+  rest-words =
+      let a : startAt file ≡ 0 + 4 * length (headWords hs) = omega (arith, is-total, head-length) in
+      let b : (length file - startAt file) / 4 ≡ length file / 4 - length (headWords hs) = omega (arith, is-total, head-length) in
+      rw (b, a) (cut .others)
+
+  walk-taken : walkOf file ≡ Accepted (totalOf file) (4 * total hs)
+  unfolding pick
+  walk-taken =
+      let l : 0 ≡ totalOf file → ⊥ = λ z. omega (arith, is-total, p .least) in
+      let g = hunks-on (totalOf file) (sizeOf file) (length file) (4 * total hs) hs 0 0 all-sized (omega arith) in
+      rw rest-words (rw (ne-eqb 0 (totalOf file) l) at (g (startAt file)))
+
+  is-accepted : checkOf file ≡ Accepted (length hs) (4 * total hs)
+  unfolding checkOf pick
+  is-accepted =
+      rw (ne-eqb (length file) 0 (omega (arith, is-long)), eq-eqb (length file % 4) 0 even, heads-first, heads-second)
+      (walk-taken ∙ ap (λ (k : ℕ). Accepted k (4 * total hs)) is-total)
+
+pub page-accepted : (file : List ℕ) (hs : List Hunk) → Program hs → length file % 4 ≡ 0 → wordsAt file 0 (length file / 4) ≡ written hs → checkOf file ≡ Accepted (length hs) (4 * total hs)
+page-accepted file hs p even e = is-accepted file hs p even e
+
+-- ---- what is accepted is written
+
+pick-no : (b : Bool) (r : Refusal) (a : Answer) (t n : ℕ) → pick b (Refused r) a ≡ Accepted t n → (b ≡ false) × (a ≡ Accepted t n)
+unfolding pick
+pick-no true r a t n e = refused e
+pick-no false r a t n e = (refl, e)
+
+pick-yes : (b : Bool) (r : Refusal) (a : Answer) (t n : ℕ) → pick b a (Refused r) ≡ Accepted t n → (b ≡ true) × (a ≡ Accepted t n)
+unfolding pick
+pick-yes true r a t n e = (refl, e)
+pick-yes false r a t n e = refused e
+
+and-both : (r : Tested) (a : Answer) (t n : ℕ) → and r a ≡ Accepted t n → (r ≡ Passed) × (a ≡ Accepted t n)
+and-both Passed a t n e = (refl, e)
+and-both (Failed r) a t n e = refused e
+
+-- what the check has found
+record Read (file : List ℕ) (t n : ℕ) : Type 0 where
+  even : length file % 4 ≡ 0
+  five : heads file 0 5 ≡ Passed
+  sized : heads file 5 (totalOf file) ≡ Passed
+  hunks : walkOf file ≡ Accepted t n
+
+accepted-read : (file : List ℕ) (t n : ℕ) → checkOf file ≡ Accepted t n → Read file t n
+unfolding checkOf
+accepted-read file t n e =
+    let a = pick-no _ _ _ t n e in
+    let b = pick-yes _ _ _ t n (a .1) in
+    let c = and-both _ _ t n (b .1) in
+    let d = and-both _ _ t n (c .1) in
+    record { even = eqb-true (length file % 4) 0 (b .0); five = c .0; sized = d .0; hunks = d .1 }
+
+module _ (file : List ℕ) (t n : ℕ) (r : Read file t n) where
+  small-size : (i : ℕ) → i < totalOf file → sizeOf file i ≤ 65536
+  unfolding sizeOf
+  small-size i l =
+      let a : 4 * (5 + i) ≡ 20 + 4 * i = omega arith in
+      is-size (totalOf file) (sizeOf file i) i (rw a at (each-fine file (totalOf file) 5 (r .sized) (5 + i) (omega arith) (omega arith) .1))
+
+  word-0 : wordAt file 0 ≡ 0x3F3
+  word-0 = is-0 (totalOf file) (wordAt file 0) (each-fine file 5 0 (r .five) 0 (omega arith) (omega arith) .1)
+
+  word-1 : wordAt file 4 ≡ 0
+  word-1 = is-1 (totalOf file) (wordAt file 4) (each-fine file 5 0 (r .five) 1 (omega arith) (omega arith) .1)
+
+  word-2 : (1 ≤ totalOf file) × (totalOf file ≤ 64)
+  word-2 = is-2 (totalOf file) (totalOf file) (each-fine file 5 0 (r .five) 2 (omega arith) (omega arith) .1)
+
+  word-3 : wordAt file 12 ≡ 0
+  word-3 = is-3 (totalOf file) (wordAt file 12) (each-fine file 5 0 (r .five) 3 (omega arith) (omega arith) .1)
+
+  word-4 : wordAt file 16 + 1 ≡ totalOf file
+  word-4 = is-4 (totalOf file) (wordAt file 16) (each-fine file 5 0 (r .five) 4 (omega arith) (omega arith) .1)
+
+  whole : startAt file ≤ length file
+  whole =
+      let l = each-fine file (totalOf file) 5 (r .sized) (4 + totalOf file) (omega (arith, word-2)) (omega arith) .0 in
+      omega arith
+
+  module _ (hs : List Hunk) (z : Sized (totalOf file) (sizeOf file) 0 hs) (e : wordsAt file (startAt file) ((length file - startAt file) / 4) ≡ joined hunkWords hs) where
+    many : length hs ≡ totalOf file
+    many = omega (arith, sized-length (totalOf file) (sizeOf file) hs 0 z)
+
+    all-written : wordsAt file 0 (length file / 4) ≡ written hs
+    unfolding wordsAt
+    all-written =
+        let k : ℕ = (length file - startAt file) / 4 in
+        let q : length file / 4 ≡ suc (suc (suc (suc (suc (length hs + k))))) = omega (arith, many, whole, r .even) in
+        let s : 20 + 4 * length hs ≡ startAt file = omega (arith, many) in
+        ap (wordsAt file 0) q
+        ∙ cons word-0 (cons word-1 (cons (sym many) (cons word-3 (cons (omega (arith, word-4, many))
+        (words-add file (length hs) 20 k ∙ rw (s, e, sized-words (totalOf file) file hs 0 z))))))
+
+    is-program : Program hs
+    is-program =
+        record { least = omega (arith, many, word-2); most = omega (arith, many, word-2); hunks = rw many (sized-fits (totalOf file) (sizeOf file) hs 0 z) }
+
+  read : (hs : List Hunk) × Program hs × (length file % 4 ≡ 0) × (wordsAt file 0 (length file / 4) ≡ written hs)
+  read =
+      let g = walk-back (totalOf file) (sizeOf file) small-size (length file) t n _ start (startAt file) (r .hunks) in
+      (g .0, is-program (g .0) (g .1) (g .2), r .even, all-written (g .0) (g .1) (g .2))
+
+pub accepted-page : (file : List ℕ) (t n : ℕ) → checkOf file ≡ Accepted t n → (hs : List Hunk) × Program hs × (length file % 4 ≡ 0) × (wordsAt file 0 (length file / 4) ≡ written hs)
+accepted-page file t n e = read file t n (accepted-read file t n e)
+
+pub page : (file : List ℕ) → ((t : ℕ) × (n : ℕ) × (checkOf file ≡ Accepted t n)) ↔ ((hs : List Hunk) × Program hs × (length file % 4 ≡ 0) × (wordsAt file 0 (length file / 4) ≡ written hs))
+page file = (λ a. accepted-page file (a .0) (a .1) (a .2), λ b. (length (b .0), 4 * total (b .0), page-accepted file (b .0) (b .1) (b .2) (b .3)))

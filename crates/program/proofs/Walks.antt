@@ -1,0 +1,104 @@
+-- The walk over a file's words, one at a time, and the whole check. Assumes nothing.
+use Prim.Native.Nat.{ℕ, suc, _+_, _*_, _-_, _/_, _%_, _<_, _≤_}
+use mathlib.Core.Path.{_≡_, refl, sym, ap, _∙_}
+use mathlib.Core.List.{List, [], _∷_}
+use native.Mathlib.Omega.{arith}
+use lib.ListN.{length}
+use lib.Dec.{eqb}
+use borrow.Author.Tests.{eq-eqb, ne-eqb}
+use Rattle.words.specs.Word.{wordAt, wordsAt}
+use Rattle.answers.specs.Tests.{pick}
+use Rattle.answers.specs.declared.Refusal.{Refusal}
+use Rattle.answers.specs.declared.Tested.{Tested}
+use Rattle.answers.specs.declared.Tested.the-variants.{Passed, Failed}
+use Rattle.program.specs.declared.check.Answer.{Answer}
+use Rattle.program.specs.declared.check.Answer.the-variants.{Accepted, Refused}
+use Rattle.program.specs.declared.reader.Cursor.{Cursor}
+use Rattle.program.specs.declared.reader.Next.{Next}
+use Rattle.program.specs.declared.reader.Next.the-variants.{On, Bad}
+use Rattle.program.specs.Header.{totalOf, sizeOf, startAt, heads}
+use Rattle.program.specs.Reader.{start, stepOf}
+use Rattle.program.specs.Check.{no, endedOf, walk, wordsFrom, restOf, walkOf, checkOf}
+use Rattle.program.specs.Sane.{Sound, Sane}
+use Rattle.program.proofs.Heads.{sound-header}
+use Rattle.program.proofs.Sanes.{start-sane, step-sane}
+
+-- ---- the words that are left
+
+one-left : (n at : ℕ) → n % 4 ≡ 0 → at % 4 ≡ 0 → at < n → (n - at) / 4 ≡ suc ((n - (at + 4)) / 4)
+one-left n at h k l = omega arith
+
+module _ (file : List ℕ) (at : ℕ) where
+  pub words-next : length file % 4 ≡ 0 → at % 4 ≡ 0 → at < length file → wordsFrom file at ≡ wordAt file at ∷ wordsFrom file (at + 4)
+  unfolding wordsAt
+  words-next h k l = rw (one-left (length file) at h k l)
+
+  pub words-over : length file ≤ at → wordsFrom file at ≡ []
+  unfolding wordsAt
+  words-over h = let z : (length file - at) / 4 ≡ 0 = omega arith in rw z
+
+  -- ---- a word of the walk
+
+  module _ (c : Cursor) where
+    module _ (w : ℕ) (r : Next) (h : length file % 4 ≡ 0) (k : at % 4 ≡ 0) (l : at < length file) (p : w ≡ wordAt file at) (q : r ≡ stepOf (totalOf file) (sizeOf file) c w) where
+      pub walk-on : (d : Cursor) → r ≡ On d → restOf file at c ≡ restOf file (at + 4) d
+      unfolding walk
+      walk-on d e = rw (words-next h k l, ← p, ← q, e)
+
+      pub walk-bad : (v : ℕ) → r ≡ Bad v → restOf file at c ≡ no v at
+      unfolding walk
+      walk-bad v e = rw (words-next h k l, ← p, ← q, e)
+
+    pub walk-end : length file ≤ at → restOf file at c ≡ endedOf (length file) c (c .mode)
+    unfolding walk
+    walk-end h = rw (words-over h)
+
+-- ---- the loop over the hunks
+
+pub record Reads (file : List ℕ) (c : Cursor) (at : ℕ) : Type 0 where
+  pub sane : Sane file c
+  pub within : at ≤ length file
+  pub aligned : at % 4 ≡ 0
+  pub rest : walkOf file ≡ restOf file at c
+
+pub reads-start : (file : List ℕ) (c : Cursor) (at t : ℕ) → Sound file → c ≡ start → t ≡ totalOf file → at ≡ 20 + 4 * t → Reads file c at
+reads-start file c at t s e g h =
+    record { sane = rw e (start-sane file s); within = omega (arith, s .long); aligned = omega arith; rest = rw (e, h, g) }
+
+pub reads-on : (file : List ℕ) (c : Cursor) (at w : ℕ) (r : Next) (d : Cursor) → Reads file c at → length file % 4 ≡ 0 → at < length file → w ≡ wordAt file at → r ≡ stepOf (totalOf file) (sizeOf file) c w → r ≡ On d → Reads file d (at + 4)
+reads-on file c at w r d i h l p q e =
+    record {
+      sane = step-sane file c w d (i .sane) (sym q ∙ e);
+      within = omega (arith, i .aligned);
+      aligned = omega (arith, i .aligned);
+      rest = i .rest ∙ walk-on file at c w r h (i .aligned) l p q d e;
+    }
+
+-- ---- the whole check
+
+module _ (file : List ℕ) where
+  pub check-empty : (r : Answer) → length file ≡ 0 → r ≡ no 30 0 → r ≡ checkOf file
+  unfolding checkOf pick
+  check-empty r h e = rw (eq-eqb _ _ h) e
+
+  module _ (some : length file ≡ 0 → ⊥) where
+    pub check-odd : (r : Answer) → (length file % 4 ≡ 0 → ⊥) → r ≡ no 30 0 → r ≡ checkOf file
+    unfolding checkOf pick
+    check-odd r h e = rw (ne-eqb _ _ some, ne-eqb _ _ h) e
+
+    module _ (even : length file % 4 ≡ 0) (a : Tested) (ea : a ≡ heads file 0 5) where
+      pub check-first : (f : Refusal) → a ≡ Failed f → Refused f ≡ checkOf file
+      unfolding checkOf pick
+      check-first f h = rw (ne-eqb _ _ some, eq-eqb _ _ even, ← ea, h)
+
+      module _ (fa : a ≡ Passed) (t : ℕ) (et : t ≡ totalOf file) (b : Tested) (eb : b ≡ heads file 5 t) where
+        pub check-second : (f : Refusal) → b ≡ Failed f → Refused f ≡ checkOf file
+        unfolding checkOf pick
+        check-second f h = rw (ne-eqb _ _ some, eq-eqb _ _ even, ← ea, fa, ← et, ← eb, h)
+
+        pub check-sound : b ≡ Passed → Sound file
+        check-sound h = sound-header file (sym ea ∙ fa) (ap (heads file 5) (sym et) ∙ sym eb ∙ h)
+
+        pub check-hunks : b ≡ Passed → (r : Answer) → r ≡ walkOf file → r ≡ checkOf file
+        unfolding checkOf pick
+        check-hunks h r e = e ∙ rw (ne-eqb _ _ some, eq-eqb _ _ even, ← ea, fa, ap (heads file 5) (sym et) ∙ sym eb ∙ h)

@@ -1,0 +1,93 @@
+-- `program::check::hunks` meets its contract: what is left of the walk decides. Assumes nothing.
+use borrow.Author.Needs.{needs}
+use Prim.Native.Nat.{_-_}
+use mathlib.Core.Path.{_≡_, refl, sym, _∙_}
+use lib.ListN.{length}
+use Rattle.program.proofs.Walks.{Reads, reads-start, reads-on, walk-bad, walk-end}
+use Rattle.program.proofs.check.hunks.Statement.{statement}
+use Rattle.program.proofs.check.hunks.Tie as tie
+
+abbrev Inv-loop : tie.InvT-loop
+Inv-loop file c₀ at₀ c at = Reads file c at
+
+abbrev μ-loop : tie.MeasureT-loop
+μ-loop file c₀ at₀ c at = length file - at
+
+begin-requires : tie.Need-begin-requires Inv-loop μ-loop
+begin-requires c κs = search needs
+
+mul-at : tie.Need-mul-at Inv-loop μ-loop
+mul-at c = search needs
+
+total-requires : tie.Need-total-requires Inv-loop μ-loop
+total-requires c κs = search needs
+
+cast-at : tie.Need-cast-at Inv-loop μ-loop
+cast-at c = search needs
+
+mul-at-2 : tie.Need-mul-at-2 Inv-loop μ-loop
+mul-at-2 c = search needs
+
+add-at : tie.Need-add-at Inv-loop μ-loop
+add-at c = search needs
+
+loop-holds : tie.Need-loop-holds Inv-loop μ-loop
+loop-holds c = reads-start _ _ _ _ (c .before .before .before .pre .0) (c .before .begin .ensures) (c .total .ensures) refl
+
+word-requires : tie.Need-word-requires Inv-loop μ-loop
+word-requires c κs = search needs
+
+step-requires : tie.Need-step-requires Inv-loop μ-loop
+step-requires c κs = c .before .before .loop .inv .sane
+
+enum-known-n : tie.Need-enum-known-n Inv-loop μ-loop
+enum-known-n c = search needs
+
+enum-known-n-2 : tie.Need-enum-known-n-2 Inv-loop μ-loop
+enum-known-n-2 c = search needs
+
+refused-requires : tie.Need-refused-requires Inv-loop μ-loop
+refused-requires c κs = search needs
+
+returns : tie.Need-returns Inv-loop μ-loop
+returns c = c .refused .ensures ∙ sym (c .before .before .before .before .before .before .before .loop .inv .rest ∙ walk-bad _ _ _ _ _ (c .before .before .before .before .before .before .before .before .before .before .before .pre .1) (c .before .before .before .before .before .before .before .loop .inv .aligned) (c .before .before .before .before .before .before .loop-test .taken) (c .before .before .before .before .before .word .ensures) (c .before .before .before .before .step .ensures) _ (c .before .before .n2 .given .1))
+
+add-at-2 : tie.Need-add-at-2 Inv-loop μ-loop
+add-at-2 c = search needs
+
+loop-less : tie.Need-loop-less Inv-loop μ-loop
+loop-less c = search needs
+
+loop-again : tie.Need-loop-again Inv-loop μ-loop
+loop-again c = reads-on _ _ _ _ _ _ (c .before .before .before .before .before .before .loop .inv) (c .before .before .before .before .before .before .before .before .before .before .pre .1) (c .before .before .before .before .before .loop-test .taken) (c .before .before .before .before .word .ensures) (c .before .before .before .step .ensures) (c .before .n .given .1)
+
+ended-requires : tie.Need-ended-requires Inv-loop μ-loop
+ended-requires c κs = search needs
+
+returns-2 : tie.Need-returns-2 Inv-loop μ-loop
+returns-2 c = c .ended .ensures ∙ sym (c .before .before .loop .inv .rest ∙ walk-end _ _ _ (c .before .loop-test .left))
+
+pub hunks-spec : {M : Type 1} → statement M
+hunks-spec =
+    tie.close
+    (tie.spec
+    Inv-loop
+    μ-loop
+    begin-requires
+    mul-at
+    total-requires
+    cast-at
+    mul-at-2
+    add-at
+    loop-holds
+    word-requires
+    step-requires
+    enum-known-n
+    enum-known-n-2
+    refused-requires
+    returns
+    add-at-2
+    loop-less
+    loop-again
+    ended-requires
+    returns-2)

@@ -1,0 +1,80 @@
+-- The check of a program file: its faults in file order, or the number of its hunks and the bytes that they take (the build paper, "Numbers").
+use Prim.Native.Nat.{ℕ, _+_, _-_, _/_, _%_}
+use mathlib.Core.List.{List, [], _∷_}
+use lib.Dec.{eqb}
+use lib.ListN.{length}
+use Rattle.words.specs.Word.{wordsAt}
+use Rattle.answers.specs.Tests.{pick}
+use Rattle.answers.specs.Refusals.{refusal}
+use Rattle.answers.specs.declared.Tested.{Tested}
+use Rattle.answers.specs.declared.Tested.the-variants.{Passed, Failed}
+use Rattle.program.specs.declared.check.Answer.{Answer}
+use Rattle.program.specs.declared.check.Answer.the-variants.{Accepted, Refused}
+use Rattle.program.specs.declared.reader.Cursor.{Cursor}
+use Rattle.program.specs.declared.reader.Mode.{Mode}
+use Rattle.program.specs.declared.reader.Mode.the-variants.{Begin, NameLength, Body, Length, Stored, Part, Count, Number, Offset, Symbol, DebugLength, Skip, End}
+use Rattle.program.specs.declared.reader.Next.{Next}
+use Rattle.program.specs.declared.reader.Next.the-variants.{On, Bad}
+use Rattle.program.specs.Header.{totalOf, sizeOf, startAt, heads}
+use Rattle.program.specs.Reader.{start, stepOf}
+
+-- an answer's numbers: 0, 0 and the values where it accepts; the refusal's, and 0 for the values
+pub record Numbers : Type 0 where
+  pub number : ℕ
+  pub place : ℕ
+  pub hunks : ℕ
+  pub bytes : ℕ
+
+abbrev pub numbersOf : Answer → Numbers
+numbersOf (Accepted t n) = record { number = 0; place = 0; hunks = t; bytes = n }
+numbersOf (Refused r) = record { number = r .number; place = r .place; hunks = 0; bytes = 0 }
+
+abbrev pub no : ℕ → ℕ → Answer
+no v at = Refused (refusal v at)
+
+-- the words are over, at the file's end: a word is missing unless the last hunk has ended
+abbrev pub endedOf : ℕ → Cursor → Mode → Answer
+endedOf end c End = Accepted (c .hunk) (c .place)
+endedOf end c Begin = no 31 end
+endedOf end c NameLength = no 31 end
+endedOf end c Body = no 31 end
+endedOf end c (Length k) = no 31 end
+endedOf end c (Stored i) = no 31 end
+endedOf end c Part = no 31 end
+endedOf end c Count = no 31 end
+endedOf end c (Number n) = no 31 end
+endedOf end c (Offset n k) = no 31 end
+endedOf end c Symbol = no 31 end
+endedOf end c DebugLength = no 31 end
+endedOf end c (Skip n a) = no 31 end
+
+abbrev pub next : Next → ℕ → (Cursor → Answer) → Answer
+next (On d) at f = f d
+next (Bad v) at f = no v at
+
+-- the words that are left, the first of them at byte `at` of a file that ends at `end`
+unfoldable pub walk : ℕ → (ℕ → ℕ) → ℕ → ℕ → Cursor → List ℕ → Answer
+walk t size end at c [] = endedOf end c (c .mode)
+walk t size end at c (w ∷ ws) = next (stepOf t size c w) at (λ d. walk t size end (at + 4) d ws)
+
+-- the words from byte `at` to the end
+abbrev pub wordsFrom : List ℕ → ℕ → List ℕ
+wordsFrom file at = wordsAt file at ((length file - at) / 4)
+
+-- from the cursor c on, at byte `at`
+abbrev pub restOf : List ℕ → ℕ → Cursor → Answer
+restOf file at c = walk (totalOf file) (sizeOf file) (length file) at c (wordsFrom file at)
+
+-- all hunks
+abbrev pub walkOf : List ℕ → Answer
+walkOf file = restOf file (startAt file) start
+
+-- what follows tests
+abbrev pub and : Tested → Answer → Answer
+and Passed a = a
+and (Failed r) a = Refused r
+
+unfoldable pub checkOf : List ℕ → Answer
+checkOf file =
+    pick (eqb (length file) 0) (no 30 0)
+    (pick (eqb (length file % 4) 0) (and (heads file 0 5) (and (heads file 5 (totalOf file)) (walkOf file))) (no 30 0))

@@ -1,0 +1,13 @@
+-- What the contracts of `program` cite. To read what a program file is: Page.
+-- a program file as the page shows it: hunks, written out to words
+pub mod Page
+-- the header's words
+pub mod Header
+-- the reader, a word at a time
+pub mod Reader
+-- the check of a whole file
+pub mod Check
+-- what a word asks of memory and table
+pub mod Acts
+-- what holds while a file is read
+pub mod Sane

@@ -1,0 +1,44 @@
+-- What holds of the reader while it reads a file whose header is sound.
+use Prim.Native.Nat.{ℕ, zero, suc, _+_, _*_, _<_, _≤_}
+use mathlib.Core.Path.{_≡_}
+use mathlib.Core.List.{List}
+use lib.ListN.{length}
+use Rattle.program.specs.declared.reader.Cursor.{Cursor}
+use Rattle.program.specs.declared.reader.Mode.{Mode}
+use Rattle.program.specs.declared.reader.Mode.the-variants.{Begin, NameLength, Body, Length, Stored, Part, Count, Number, Offset, Symbol, DebugLength, Skip, End}
+use Rattle.program.specs.Header.{totalOf, sizeOf, startAt}
+
+pub record Sound (file : List ℕ) : Type 0 where
+  pub few : totalOf file ≤ 64
+  pub some : 1 ≤ totalOf file
+  pub long : startAt file ≤ length file
+  pub small : (i : ℕ) → i < totalOf file → sizeOf file i ≤ 65536
+
+-- hunk i's first byte in memory: hunks stand end to end
+unfoldable pub placeOf : (ℕ → ℕ) → ℕ → ℕ
+placeOf size zero = 0
+placeOf size (suc i) = placeOf size i + 4 * size i
+
+-- of t hunks, hunk h that stores n words, and what is expected
+abbrev pub ModeFits : ℕ → ℕ → ℕ → Mode → Type 0
+ModeFits t h n Begin = h < t
+ModeFits t h n NameLength = h < t
+ModeFits t h n Body = h < t
+ModeFits t h n (Length k) = h < t
+ModeFits t h n (Stored i) = (h < t) × (i < n)
+ModeFits t h n Part = h < t
+ModeFits t h n Count = h < t
+ModeFits t h n (Number l) = h < t
+ModeFits t h n (Offset l k) = (h < t) × (k < t)
+ModeFits t h n Symbol = h < t
+ModeFits t h n DebugLength = h < t
+ModeFits t h n (Skip l a) = h < t
+ModeFits t h n End = h ≡ t
+
+pub record Sane (file : List ℕ) (c : Cursor) : Type 0 where
+  pub sound : Sound file
+  pub hunks : c .hunk ≤ totalOf file
+  pub placed : c .place ≡ placeOf (sizeOf file) (c .hunk)
+  pub low : c .place ≤ c .hunk * 262144
+  pub fits : c .stored ≤ sizeOf file (c .hunk)
+  pub mode : ModeFits (totalOf file) (c .hunk) (c .stored) (c .mode)

@@ -1,0 +1,89 @@
+// A program file's header: five words, and the size of each hunk.
+use answers::Refusal;
+use answers::Tested;
+ghost use mathlib.Core.Path.{_≡_};
+ghost use Prim.Native.Nat.{_+_, _*_, _≤_};
+ghost use lib.ListN.{length};
+ghost use Rattle.program.specs.Header.{totalOf, sizeOf, headFault, heads};
+
+pub const HEADER: u32 = 0x3F3;
+
+// The words before the sizes.
+pub const WORDS: usize = 5;
+
+pub const MOST_HUNKS: u32 = 64;
+
+pub const LARGEST: u32 = 65536;
+
+// The number of hunks.
+pub fn total(file: &[u8]) -> u32
+    requires { ⌜ 12 ≤ length (now file) ⌝ }
+    ensures { λ r. ⌜ r ≡ totalOf (now (file .entry)) ⌝ }
+{
+    words::word(file, 8)
+}
+
+// The size of a hunk in words.
+pub fn size(file: &[u8], i: u32) -> u32
+    requires { ⌜ 24 + 4 * i ≤ length (now file) ⌝ }
+    ensures { λ r. ⌜ r ≡ sizeOf (now (file .entry)) i ⌝ }
+{
+    words::word(file, 4 * WORDS + 4 * i as usize)
+}
+
+// The header's word i: its fault, or 0.
+fn head_fault(file: &[u8], i: usize, w: u32) -> u32
+    requires { ⌜ 4 * i + 4 ≤ length (now file) ⌝ }
+    ensures { λ r. ⌜ r ≡ headFault (totalOf (now (file .entry))) i w ⌝ }
+{
+    if i == 0 {
+        return if w == HEADER { 0 } else { 32 };
+    }
+    if i == 1 {
+        return if w == 0 { 0 } else { 33 };
+    }
+    if i == 2 {
+        return if w == 0 {
+            32
+        } else if w <= MOST_HUNKS {
+            0
+        } else {
+            32
+        };
+    }
+    if i == 3 {
+        return if w == 0 { 0 } else { 32 };
+    }
+    if i == 4 {
+        let more = w as u64 + 1;
+        return if more == total(file) as u64 { 0 } else { 32 };
+    }
+    if w <= LARGEST { 0 } else { 34 }
+}
+
+// n words of the header from word `from` on.
+pub fn head_words(file: &[u8], from: usize, n: usize) -> Tested
+    requires { ⌜ (from ≤ 5) × (n ≤ 4294967296) ⌝ }
+    ensures { λ r. ⌜ r ≡ heads (now (file .entry)) from n ⌝ }
+{
+    let mut i = from;
+    let mut left = n;
+    while 0 < left {
+        if file.len() < 4 * i + 4 {
+            return Tested::Failed(Refusal {
+                number: 31,
+                place: file.len(),
+            });
+        }
+        let number = head_fault(file, i, words::word(file, 4 * i));
+        if number != 0 {
+            return Tested::Failed(Refusal {
+                number: number,
+                place: 4 * i,
+            });
+        }
+        i += 1;
+        left -= 1;
+    }
+    Tested::Passed
+}
