@@ -1,0 +1,219 @@
+// Words, sums, bits, sizes and the numbers of a disk.
+use crate::build::IMAGE;
+use crate::build::block;
+use crate::build::fill;
+use crate::build::mend;
+use crate::say;
+use volume::bitmap::Bit;
+use volume::bitmap::is_free;
+use volume::block::Block;
+use volume::block::sum_of;
+use volume::disk::Disk;
+use volume::file;
+ghost use Prim.Native.Nat.{_<_, _≤_};
+
+// The words at 0, 2 and 4, where the middle one straddles the others.
+fn three(bytes: &[u8; 8]) {
+    say::text(b"word");
+    say::word(words::word(bytes, 0));
+    say::word(words::word(bytes, 2));
+    say::word(words::word(bytes, 4));
+    say::end();
+}
+
+pub fn words() {
+    let mut bytes: [u8; 8] = [0x01, 0x02, 0x03, 0x04, 0xFD, 0xFE, 0xFF, 0x00];
+    three(&bytes);
+    words::put_word(&mut bytes, 2, 0xDEADBEEF);
+    three(&bytes);
+    words::add_at(&mut bytes, 2, 0x3000);
+    three(&bytes);
+    words::put_word(&mut bytes, 2, 0xFFFFFFFF);
+    three(&bytes);
+    words::add_at(&mut bytes, 2, 4);
+    three(&bytes);
+}
+
+fn sum(image: &[u8; IMAGE], key: u32)
+    requires { ⌜ key < 8 ⌝ }
+{
+    say::text(b"sum");
+    say::number(key);
+    say::word(sum_of(image, key));
+    say::end();
+}
+
+// The sum of 128 words from the last of block 1 on.
+fn sum_part(image: &[u8; IMAGE]) {
+    say::text(b"sum part");
+    say::word(words::block_sum(image, 1020));
+    say::end();
+}
+
+// Two blocks whose words wrap, a block's length from the middle of one, and a block whose sum was mended.
+pub fn sums() {
+    let mut image = [0u8; IMAGE];
+    fill(&mut image, 2, &[0, 0xFFFFFFFF, 127, 4]);
+    fill(&mut image, 3, &[0, 0x80000000, 64, 0x80000000, 127, 1]);
+    sum(&image, 1);
+    sum(&image, 2);
+    sum(&image, 3);
+    sum(&image, 4);
+    sum_part(&image);
+    mend(&mut image, 2);
+    sum(&image, 2);
+}
+
+fn bit(key: u32)
+    requires { ⌜ 2 ≤ key ⌝ }
+{
+    let b = Bit::of(key);
+    say::text(b"bit");
+    say::number(key);
+    say::count(b.word);
+    say::number(b.place);
+    say::end();
+}
+
+// Whether a block is free where one word of the bitmap is not 0.
+fn free(w: u32, value: u32, key: u32)
+    requires { ⌜ (2 ≤ key) × (key < 1760) ⌝ }
+{
+    let image = block(7, &[w, value]);
+    say::text(b"free");
+    say::number(key);
+    say::truth(is_free(&image, 7, key));
+    say::end();
+}
+
+pub fn bits() {
+    bit(2);
+    bit(33);
+    bit(34);
+    bit(880);
+    bit(1759);
+    free(28, 0x4000, 848);
+    free(28, 0x4000, 879);
+    free(28, 0x4000, 880);
+    free(28, 0x4000, 881);
+    free(28, 0x4000, 912);
+    free(1, 0x80000000, 2);
+    free(1, 0x80000000, 32);
+    free(1, 0x80000000, 33);
+    free(1, 0x80000000, 34);
+    free(1, 0x80000000, 65);
+}
+
+// Data blocks, keys in the header, list blocks, and keys in the last block that has any.
+fn size(bytes: u32) {
+    let disk = Disk {
+        blocks: 1760,
+        kind: 0,
+    };
+    if bytes <= disk.file_limit() {
+        let n = disk.data_blocks(bytes);
+        say::text(b"size");
+        say::number(bytes);
+        say::number(n);
+        say::number(file::keys_here(n));
+        say::number(file::list_blocks(n));
+        say::number(file::last_keys(n));
+        say::end();
+    }
+}
+
+pub fn sizes() {
+    size(0);
+    size(1);
+    size(488);
+    size(489);
+    size(35136);
+    size(35137);
+    size(70272);
+    size(70273);
+    size(856440);
+}
+
+// The bytes that data block n of a file holds.
+fn hold(bytes: u32, n: u32)
+    requires { ⌜ (1 ≤ n) × (n < 1760) ⌝ }
+{
+    say::text(b"held");
+    say::number(bytes);
+    say::number(n);
+    say::number(Disk::floppy().held(bytes, n));
+    say::end();
+}
+
+pub fn held() {
+    hold(1, 1);
+    hold(488, 1);
+    hold(489, 1);
+    hold(489, 2);
+    hold(976, 2);
+    hold(1000, 3);
+    hold(35137, 72);
+    hold(35137, 73);
+    hold(856439, 1755);
+    hold(856440, 1755);
+}
+
+fn key(k: u32) {
+    say::text(b"key");
+    say::number(k);
+    say::truth(Disk::floppy().in_range(k));
+    say::end();
+}
+
+fn tagged(a: u8, b: u8, c: u8, d: u8) {
+    let bytes = [a, b, c, d];
+    say::text(b"tagged");
+    say::word(words::word(&bytes, 0));
+    say::truth(Disk::floppy().has_tag(&bytes));
+    say::end();
+}
+
+fn limits() {
+    let disk = Disk {
+        blocks: 1760,
+        kind: 0,
+    };
+    say::text(b"bit span");
+    say::number(disk.bit_span());
+    say::text(b"\nchain limit");
+    say::number(disk.chain_limit());
+    say::text(b"\nfile limit");
+    say::number(disk.file_limit());
+    say::end();
+}
+
+pub fn disk() {
+    let disk = Disk::floppy();
+    say::text(b"blocks");
+    say::number(disk.blocks);
+    say::text(b"\nroot");
+    say::number(disk.root());
+    say::text(b"\nimage bytes");
+    say::count(disk.image_bytes());
+    say::text(b"\nclaim bytes");
+    say::count(disk.claim_bytes());
+    say::text(b"\ndata bytes");
+    say::number(disk.data_bytes());
+    say::end();
+    limits();
+    say::text(b"place 880 w127");
+    say::count(Block::place(880, 127));
+    say::text(b"\ntag");
+    say::word(disk.tag());
+    say::end();
+    tagged(0x44, 0x4F, 0x53, 0x00);
+    tagged(0x44, 0x4F, 0x53, 0x01);
+    tagged(0x44, 0x4F, 0x73, 0x00);
+    tagged(0x00, 0x53, 0x4F, 0x44);
+    key(0);
+    key(1);
+    key(2);
+    key(1759);
+    key(1760);
+    key(0xFFFFFFFF);
+}

@@ -1,0 +1,90 @@
+// The frame of a request, bodies, and the answers that every request may get.
+use libc::STDIN_FILENO;
+use libc::STDOUT_FILENO;
+
+// How many bytes `io::buffer` has.
+const PIECE: u32 = 4096;
+
+// What is kept from one request to the next: the held image's length, and whether there may be another request.
+pub struct State {
+    pub image: u32,
+    pub more: bool,
+}
+
+// Before the first request no image is held.
+pub fn start() -> State {
+    State {
+        image: 0,
+        more: true,
+    }
+}
+
+impl State {
+    // The input has ended.
+    pub fn ended(self) -> State {
+        State {
+            image: self.image,
+            more: false,
+        }
+    }
+
+    // The input ended inside a request.
+    pub fn broken(self) -> State {
+        bad_request();
+        self.ended()
+    }
+
+    // A bad request, of whose body `length` bytes are still to be skipped.
+    pub fn refused(self, length: u32) -> State {
+        if skip(length) {
+            bad_request();
+            return self;
+        }
+        self.broken()
+    }
+}
+
+// What the input has next: a request's number and body length, a part of them, or nothing.
+pub enum Frame {
+    Request(u32, u32),
+    Broken,
+    End,
+}
+
+// Reads up to a request's body.
+pub fn next() -> Frame {
+    let mut head = [0u8; 8];
+    let got = io::read_full(STDIN_FILENO, &mut head);
+    if got == 0 {
+        return Frame::End;
+    }
+    if got != 8 {
+        return Frame::Broken;
+    }
+    Frame::Request(words::word(&head, 0), words::word(&head, 4))
+}
+
+// The answer to a request that is none.
+fn bad_request() {
+    io::write_all(STDOUT_FILENO, b"bad request\n");
+}
+
+// Fills `part` from the input, and answers whether the input had as much.
+pub fn fill(part: &mut [u8]) -> bool {
+    let got = io::read_full(STDIN_FILENO, part);
+    got == part.len()
+}
+
+// Reads `length` bytes to forget them, in pieces, and answers whether the input had as many.
+fn skip(length: u32) -> bool {
+    let mut piece = io::buffer();
+    let mut left = length;
+    while left >= PIECE {
+        if !fill(&mut piece) {
+            return false;
+        }
+        left -= PIECE;
+    }
+    let n = io::count(left as isize, &piece);
+    fill(&mut piece[..n])
+}
