@@ -1,0 +1,36 @@
+//! A second opinion on the disks that the Rattle library reads.
+//!
+//! Everything here was written from the build paper alone, without a look at the library's code, so that a
+//! misreading has to be made twice before the two agree on it. Where the paper gives a rule as a step by step
+//! recipe, this side prefers another way to the same number.
+//!
+//! What is judged, from the smallest piece upward:
+//!
+//! - [`words`]: the big-endian words of a block and their sum;
+//! - [`disk`]: the numbers that follow from the size and kind of a disk;
+//! - [`names`]: which names are allowed, how they fold, and the slot they hang in;
+//! - [`sizes`]: how many blocks a file of some size needs and what each of them holds;
+//! - [`bitmap`]: where the free bit of a block stands;
+//! - [`blocks`]: the tests of one block, each answered by a refusal's number;
+//! - [`program`]: the check of a program file;
+//! - [`loader`]: loading a program and moving it.
+//!
+//! What holds the Rattle programs to it:
+//!
+//! - [`rng`]: numbers drawn from a fixed seed, so that a failure can be had again;
+//! - [`programs`]: good programs to load, drawn at random;
+//! - [`bad_programs`]: what can be wrong with them, each with the refusal due for it;
+//! - [`driver`]: runs a Rattle program on a batch of requests and compares every line it answers.
+
+pub mod bad_programs;
+pub mod bitmap;
+pub mod blocks;
+pub mod disk;
+pub mod driver;
+pub mod loader;
+pub mod names;
+pub mod program;
+pub mod programs;
+pub mod rng;
+pub mod sizes;
+pub mod words;

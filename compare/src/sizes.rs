@@ -1,0 +1,113 @@
+//! How a file's size decides its blocks (the build paper, section "Blocks of a volume", File, List block and Data
+//! block).
+
+use crate::disk::Disk;
+use crate::words::TABLE;
+
+/// The data blocks that a file of this size has.
+pub fn data_blocks(disk: &Disk, size: u32) -> u32 {
+    size.div_ceil(disk.data_bytes())
+}
+
+/// How many of `keys` keys fit into one block's table. They are those that a header lists of all, and those that
+/// a list block lists of the ones still to come.
+pub fn keys_here(keys: u32) -> u32 {
+    keys.min(TABLE)
+}
+
+/// How many of `keys` keys are left for later blocks once one table is full.
+pub fn keys_left(keys: u32) -> u32 {
+    keys - keys_here(keys)
+}
+
+/// The data keys that the header of a file of this size lists.
+pub fn header_keys(disk: &Disk, size: u32) -> u32 {
+    keys_here(data_blocks(disk, size))
+}
+
+/// The list blocks that a file of this size has.
+pub fn list_blocks(disk: &Disk, size: u32) -> u32 {
+    keys_left(data_blocks(disk, size)).div_ceil(TABLE)
+}
+
+/// The data keys in the last list block of a file of this size; 0 if it has no list block.
+pub fn last_list_keys(disk: &Disk, size: u32) -> u32 {
+    match list_blocks(disk, size) {
+        0 => 0,
+        lists => data_blocks(disk, size) - lists * TABLE,
+    }
+}
+
+/// The bytes that data block `number`, counted from 1, holds of a file of this size; 0 if the file has no such
+/// block.
+pub fn held(disk: &Disk, size: u32, number: u32) -> u32 {
+    let before = |blocks: u32| u64::from(blocks) * u64::from(disk.data_bytes());
+    let end = before(number).min(u64::from(size));
+    let start = before(number.saturating_sub(1)).min(end);
+    (end - start) as u32
+}
+
+#[cfg(test)]
+mod tests {
+    use super::*;
+
+    const DISK: Disk = Disk::FLOPPY;
+
+    /// Sizes around every place where something changes, up to the limit.
+    fn telling_sizes() -> Vec<u32> {
+        let full = DISK.data_bytes();
+        let mut sizes = vec![0];
+        for blocks in 1..=DISK.file_limit() / full {
+            let whole = blocks * full;
+            sizes.extend([whole - full + 1, whole - 1, whole]);
+        }
+        sizes
+    }
+
+    #[test]
+    fn the_blocks_together_hold_the_file_and_none_is_empty() {
+        for size in telling_sizes() {
+            let blocks = data_blocks(&DISK, size);
+            let bytes: Vec<u32> = (1..=blocks).map(|n| held(&DISK, size, n)).collect();
+            assert_eq!(bytes.iter().sum::<u32>(), size, "size {size}");
+            if let Some((last, others)) = bytes.split_last() {
+                assert!((1..=488).contains(last), "size {size}");
+                assert!(others.iter().all(|&held| held == 488), "size {size}");
+            }
+        }
+    }
+
+    #[test]
+    fn header_and_lists_together_list_every_block_once() {
+        for size in telling_sizes() {
+            let lists = list_blocks(&DISK, size);
+            let listed = match lists {
+                0 => header_keys(&DISK, size),
+                _ => 72 + (lists - 1) * 72 + last_list_keys(&DISK, size),
+            };
+            assert_eq!(listed, data_blocks(&DISK, size), "size {size}");
+            let last = last_list_keys(&DISK, size);
+            assert_eq!(last == 0, lists == 0, "size {size}");
+            assert!(last <= 72, "size {size}");
+            if lists > 0 {
+                assert_eq!(header_keys(&DISK, size), 72, "size {size}");
+            }
+        }
+    }
+
+    #[test]
+    fn keys_that_come_and_keys_that_remain() {
+        for (keys, here, left) in [(0, 0, 0), (1, 1, 0), (71, 71, 0), (72, 72, 0), (73, 72, 1), (1755, 72, 1683)] {
+            assert_eq!((keys_here(keys), keys_left(keys)), (here, left));
+        }
+    }
+
+    #[test]
+    fn blocks_that_a_file_lacks_hold_nothing() {
+        assert_eq!(held(&DISK, 0, 1), 0);
+        assert_eq!(held(&DISK, 488, 0), 0);
+        assert_eq!(held(&DISK, 488, 2), 0);
+        assert_eq!(held(&DISK, u32::MAX, u32::MAX), 0);
+        assert_eq!(held(&DISK, 489, 2), 1);
+    }
+}
