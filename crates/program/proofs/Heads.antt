@@ -1,6 +1,6 @@
 -- Laws of the header: word by word, and what a header without fault says. Assumes nothing.
 use Prim.Native.Nat.{ℕ, zero, suc, _+_, _*_, _-_, _<_, _≤_}
-use mathlib.Core.Path.{_≡_, refl, sym, ap, subst, _∙_}
+use mathlib.Core.Path.{_≡_, refl, ap, subst, _∙_}
 use mathlib.Core.List.{List}
 use mathlib.Core.Bool.{Bool, true, false}
 use native.Mathlib.Omega.{arith}
@@ -14,7 +14,7 @@ use Rattle.answers.specs.Refusals.{refusal}
 use Rattle.answers.specs.declared.Refusal.{Refusal}
 use Rattle.answers.specs.declared.Tested.{Tested}
 use Rattle.answers.specs.declared.Tested.the-variants.{Passed, Failed}
-use Rattle.program.specs.Header.{totalOf, sizeOf, startAt, headFault, judge, heads}
+use Rattle.program.specs.Header.{totalOf, sizeOf, headFault, judge, heads}
 use Rattle.program.specs.Sane.{Sound}
 
 module _ (file : List ℕ) (i n : ℕ) where

@@ -1,7 +1,7 @@
 -- What a `match` on the reader's mode leaves, said as laws. Assumes nothing.
 use Prim.Native.Nat.{ℕ, _+_, _*_, _<_, _≤_}
 use mathlib.Core.Path.{_≡_, refl, sym, ap, subst, _∙_}
-use mathlib.Core.Logic.{_⊎_, inl, inr}
+use mathlib.Core.Logic.{inl, inr}
 use mathlib.Core.Bool.{Bool, true, false}
 use mathlib.Core.List.{List, [], _∷_}
 use native.Mathlib.Omega.{arith}
@@ -19,7 +19,7 @@ use Rattle.program.specs.declared.reader.Cursor.{Cursor}
 use Rattle.program.specs.declared.reader.Mode.{Mode}
 use Rattle.program.specs.declared.reader.Mode.the-variants.{Begin, NameLength, Body, Length, Stored, Part, Count, Number, Offset, Symbol, DebugLength, Skip, End}
 use Rattle.program.specs.declared.reader.Next.{Next}
-use Rattle.program.specs.Header.{totalOf, sizeOf}
+use Rattle.program.specs.Header.{totalOf}
 use Rattle.program.specs.Reader.{turn, stepOf}
 use Rattle.program.specs.Check.{no, endedOf}
 use Rattle.program.specs.Acts.{asks, actOf}

@@ -1,15 +1,14 @@
 -- A pass over a file's acts goes with the reader, a word at a time. Assumes nothing.
-use Prim.Native.Nat.{ℕ, _+_, _*_, _-_, _/_, _%_, _<_, _≤_}
-use mathlib.Core.Path.{_≡_, refl, sym, ap, _∙_}
+use Prim.Native.Nat.{ℕ, _+_, _*_, _%_, _<_, _≤_}
+use mathlib.Core.Path.{_≡_, sym, ap, _∙_}
 use mathlib.Core.List.{List, [], _∷_}
-use native.Mathlib.Omega.{arith}
 use lib.ListN.{length}
 use Rattle.words.specs.Word.{wordAt}
 use Rattle.program.specs.declared.act.Act.{Act}
 use Rattle.program.specs.declared.reader.Cursor.{Cursor}
 use Rattle.program.specs.declared.reader.Next.{Next}
 use Rattle.program.specs.declared.reader.Next.the-variants.{On, Bad}
-use Rattle.program.specs.Header.{totalOf, sizeOf, startAt}
+use Rattle.program.specs.Header.{totalOf, sizeOf}
 use Rattle.program.specs.Reader.{start, stepOf}
 use Rattle.program.specs.Acts.{actOf, acts, actsFrom, actsOf, pass}
 use Rattle.program.specs.Sane.{Sound}

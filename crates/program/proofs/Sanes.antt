@@ -1,11 +1,10 @@
 -- What holds of the reader goes on to hold, and what a word asks for lies inside. Assumes nothing.
-use Prim.Native.Nat.{ℕ, zero, suc, _+_, _*_, _-_, _%_, _<_, _≤_}
-use mathlib.Core.Path.{_≡_, refl, sym, ap, subst, _∙_}
+use Prim.Native.Nat.{ℕ, _+_, _*_, _-_, _%_, _<_, _≤_}
+use mathlib.Core.Path.{_≡_, refl, ap, subst}
 use mathlib.Core.List.{List}
 use mathlib.Core.Bool.{Bool, true, false}
 use native.Mathlib.Omega.{arith}
 use native.Mathlib.Numerals.{add-one}
-use native.Mathlib.Decide.{decLt}
 use lib.Dec.{ltb, leb, eqb}
 use borrow.Author.Tests.{ltb-true, ltb-false, eqb-true, eqb-false}
 use Rattle.answers.specs.Tests.{pick}
@@ -17,7 +16,7 @@ use Rattle.program.specs.declared.reader.Mode.the-variants.{Begin, NameL
 use Rattle.program.specs.declared.reader.Next.{Next}
 use Rattle.program.specs.declared.reader.Next.the-variants.{On, Bad}
 use Rattle.program.specs.Header.{totalOf, sizeOf}
-use Rattle.program.specs.Reader.{start, on, resume, skip, bodyOf, beginOf, storedFrom, lengthOf, endOf, partOf, countOf, numberOf, offsetOf, symbolOf, turn, stepOf}
+use Rattle.program.specs.Reader.{start, on, resume, skip, bodyOf, storedFrom, lengthOf, endOf, partOf, countOf, numberOf, offsetOf, symbolOf, turn, stepOf}
 use Rattle.program.specs.Sane.{Sound, placeOf, ModeFits, Sane}
 
 bad-on : {A : Type 0} (e : ℕ) (d : Cursor) → Bad e ≡ On d → A

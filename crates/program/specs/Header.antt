@@ -1,12 +1,11 @@
 -- The header: 3F3, no library, T hunks from 0 to T - 1, and the size of each in words; with the faults of each of these words (the build
 -- paper, "The program file" and "Numbers").
 use Prim.Native.Nat.{ℕ, zero, suc, _+_, _*_}
-use mathlib.Core.Bool.{Bool}
 use mathlib.Core.List.{List}
 use lib.Dec.{ltb, leb, eqb}
 use lib.ListN.{length}
 use Rattle.words.specs.Word.{wordAt}
-use Rattle.answers.specs.Tests.{pick, must, first}
+use Rattle.answers.specs.Tests.{pick, must}
 use Rattle.answers.specs.Refusals.{refusal}
 use Rattle.answers.specs.declared.Tested.{Tested}
 use Rattle.answers.specs.declared.Tested.the-variants.{Passed, Failed}

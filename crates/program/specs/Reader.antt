@@ -1,7 +1,6 @@
 -- The reader of the hunks: what it expects, and where each word takes it (the build paper, "The program file"). It knows the number t of hunks
 -- and their sizes; a word that may not stand there gives a refusal's number.
 use Prim.Native.Nat.{ℕ, _+_, _-_, _*_, _%_}
-use mathlib.Core.Bool.{Bool}
 use lib.Dec.{ltb, leb, eqb}
 use Rattle.answers.specs.Tests.{pick}
 use Rattle.program.specs.declared.reader.Cursor.{Cursor}

@@ -6,7 +6,7 @@ ghost use Prim.Native.Nat.{_+_, _*_, _<_, _≤_};
 ghost use lib.ListN.{length};
 ghost use lib.Dec.{eqb};
 ghost use Rattle.answers.specs.Tests.{pick};
-ghost use Rattle.program.specs.Header.{totalOf, sizeOf, startAt};
+ghost use Rattle.program.specs.Header.{totalOf, sizeOf};
 ghost use Rattle.program.specs.Reader.{on, resume, skip, bodyOf, beginOf, storedFrom, lengthOf, partOf, endOf, countOf, numberOf, offsetOf, symbolOf, stepOf, start};
 ghost use Rattle.program.specs.Sane.{Sane};
 

@@ -1,5 +1,5 @@
 -- `program::act::act_of` meets its contract. Assumes nothing.
-use mathlib.Core.Path.{refl, _∙_}
+use mathlib.Core.Path.{refl}
 use Rattle.answers.proofs.Tests.{if-eq, if-ne}
 use Rattle.program.proofs.Modes.{by-act, rest-quiet}
 use borrow.Author.Needs.{needs}

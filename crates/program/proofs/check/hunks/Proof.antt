@@ -1,7 +1,7 @@
 -- `program::check::hunks` meets its contract: what is left of the walk decides. Assumes nothing.
 use borrow.Author.Needs.{needs}
 use Prim.Native.Nat.{_-_}
-use mathlib.Core.Path.{_≡_, refl, sym, _∙_}
+use mathlib.Core.Path.{refl, sym, _∙_}
 use lib.ListN.{length}
 use Rattle.program.proofs.Walks.{Reads, reads-start, reads-on, walk-bad, walk-end}
 use Rattle.program.proofs.check.hunks.Statement.{statement}

@@ -1,0 +1,178 @@
+-- One act at a time: what it asks lies inside, and what it does. Assumes nothing.
+use Prim.Native.Nat.{ℕ, zero, suc, _+_, _*_, _<_, _≤_}
+use mathlib.Core.Path.{_≡_, refl, sym, ap, subst, _∙_}
+use mathlib.Core.List.{List, [], _∷_}
+use mathlib.Core.Bool.{Bool, true, false}
+use native.Mathlib.Omega.{arith}
+use native.Mathlib.Decide.{decLt}
+use lib.Dec.{eqb}
+use lib.ListN.{length, set, length-set}
+use types.Run.{OneOf}
+use denote.Enum.Declared.{tagOf}
+use Rattle.words.specs.Word.{setWord, addAt}
+use Rattle.words.specs.Shift.{Target, shiftAll}
+use Rattle.words.proofs.Words.{length-setWord, length-addAt}
+use Rattle.answers.specs.Tests.{pick}
+use Rattle.program.proofs.act.Act.{the-type}
+use Rattle.program.specs.declared.act.Act.{Act}
+use Rattle.program.specs.declared.act.Act.the-variants.{Quiet, Body, Store, Add}
+use Rattle.program.specs.declared.reader.Cursor.{Cursor}
+use Rattle.program.specs.declared.reader.Mode.{Mode}
+use Rattle.program.specs.declared.reader.Mode.the-variants as mode
+use Rattle.program.specs.declared.reader.Next.{Next}
+use Rattle.program.specs.declared.reader.Next.the-variants.{On}
+use Rattle.program.specs.Header.{totalOf, sizeOf}
+use Rattle.program.specs.Reader.{turn, stepOf}
+use Rattle.program.specs.Acts.{asks, actOf, pass}
+use Rattle.program.specs.Sane.{Sound, Sane, ModeFits, placeOf}
+use Rattle.program.proofs.Modes.{none}
+use Rattle.program.proofs.Sanes.{offset-in}
+use Rattle.loader.specs.Memory.{loadedOf, ActFits, place1, placed, target1, targets, shift1, amountOf}
+use Rattle.loader.specs.Table.{entry1}
+
+-- ---- what a word asks for lies inside
+
+zero-le : {n : ℕ} → 0 ≤ n
+zero-le = omega arith
+
+place-up : (size : ℕ → ℕ) (i j : ℕ) → i ≤ j → placeOf size i ≤ placeOf size j
+unfolding placeOf
+place-up size zero j h = zero-le
+place-up size (suc i) zero h = absurd (omega arith)
+place-up size (suc i) (suc j) h = go (decLt i j) (λ q. place-up size (suc i) j q)
+  where
+    go : Dec (i < j) → (suc i ≤ j → placeOf size (suc i) ≤ placeOf size j) → placeOf size (suc i) ≤ placeOf size (suc j)
+    go (yes q) f = omega (arith, f (omega arith))
+    go (no q) f = let e : i ≡ j = omega arith in rw e (omega arith)
+
+opened : (size : ℕ → ℕ) (i : ℕ) → placeOf size (suc i) ≡ placeOf size i + 4 * size i
+unfolding placeOf
+opened size i = refl
+
+module _ (file : List ℕ) (c : Cursor) (at w : ℕ) (d : Cursor) (s : Sane file c) where
+  inside : c .hunk < totalOf file → c .place + 4 * sizeOf file (c .hunk) ≤ loadedOf file
+  inside h = omega (arith, s .placed, place-up (sizeOf file) (suc (c .hunk)) (totalOf file) h, opened (sizeOf file) (c .hunk))
+
+  low : c .place < 4294967296
+  low = omega (arith, s .low, s .hunks, s .sound .few)
+
+  fits-in : (m : Mode) → ModeFits (totalOf file) (c .hunk) (c .stored) m → turn (totalOf file) (sizeOf file) c w m ≡ On d → ActFits (loadedOf file) (totalOf file) (asks c at w m)
+  unfolding pick
+  fits-in mode.Begin h e = go (eqb w 0x3E8)
+    where
+      go : (b : Bool) → ActFits (loadedOf file) (totalOf file) (pick b Quiet (Body (c .hunk) (c .place) w))
+      go true = tt
+      go false = (h, low)
+  fits-in mode.NameLength h e = tt
+  fits-in mode.Body h e = (h, low)
+  fits-in (mode.Length k) h e = tt
+  fits-in (mode.Stored i) h e = omega (arith, inside (h .0), s .fits, h .1)
+  fits-in mode.Part h e = tt
+  fits-in mode.Count h e = tt
+  fits-in (mode.Number n) h e = tt
+  fits-in (mode.Offset n k) h e = (omega (arith, inside (h .0), s .fits, offset-in file c w d s (h .0) n k e), h .1)
+  fits-in mode.Symbol h e = tt
+  fits-in mode.DebugLength h e = tt
+  fits-in (mode.Skip n a) h e = tt
+  fits-in mode.End h e = tt
+
+  pub act-fits : stepOf (totalOf file) (sizeOf file) c w ≡ On d → ActFits (loadedOf file) (totalOf file) (actOf c at w)
+  unfolding stepOf actOf
+  act-fits = fits-in (c .mode) (s .mode)
+
+more-room : (m n t u : ℕ) (a : Act) → m ≤ n → t ≤ u → ActFits m t a → ActFits n u a
+more-room m n t u Quiet h k f = tt
+more-room m n t u (Body x p z) h k f = (omega (arith, f .0), f .1)
+more-room m n t u (Store p w) h k f = omega arith
+more-room m n t u (Add p z b) h k f = (omega (arith, f .0), omega (arith, f .1))
+
+pub fits : (file : List ℕ) (c : Cursor) (at w : ℕ) (r : Next) (d : Cursor) (a : Act) (n t : ℕ) → Sane file c → r ≡ stepOf (totalOf file) (sizeOf file) c w → r ≡ On d → a ≡ actOf c at w → loadedOf file ≤ n → totalOf file ≤ t → ActFits n t a
+fits file c at w r d a n t s q e x h k = more-room (loadedOf file) n (totalOf file) t a h k (rw x (act-fits file c at w d s (sym q ∙ e)))
+
+place-low : (file : List ℕ) → Sound file → (i : ℕ) → i ≤ totalOf file → placeOf (sizeOf file) i ≤ i * 262144
+unfolding placeOf
+place-low file s zero h = omega arith
+place-low file s (suc i) h = omega (arith, place-low file s i (omega arith), s .small i (omega arith))
+
+pub loaded-low : (file : List ℕ) → Sound file → loadedOf file ≤ 4294967296
+loaded-low file s = omega (arith, place-low file s (totalOf file) (omega arith), s .few)
+
+pub cursor-low : (file : List ℕ) (c : Cursor) → Sane file c → c .place ≤ 4294967296
+cursor-low file c s = omega (arith, s .low, s .hunks, s .sound .few)
+
+-- ---- storing
+
+module _ (n t : ℕ) (a : Act) (f : ActFits n t a) where
+  pub store-room : (p w : ℕ) → a ≡ Store p w → p + 4 ≤ n
+  store-room p w e = subst (ActFits n t) e f
+
+  pub add-room : (p k b : ℕ) → a ≡ Add p k b → (p + 4 ≤ n) × (k < t)
+  add-room p k b e = subst (ActFits n t) e f
+
+  pub body-room : (h p k : ℕ) → a ≡ Body h p k → (h < t) × (p < 4294967296)
+  body-room h p k e = subst (ActFits n t) e f
+
+pub store-done : (m r : List ℕ) (a : Act) (p w : ℕ) → a ≡ Store p w → r ≡ setWord m p w → r ≡ place1 m a
+store-done m r a p w e h = h ∙ sym (ap (place1 m) e)
+
+pub store-rest : (m : List ℕ) (a : Act) → OneOf (0 ∷ 1 ∷ 3 ∷ []) (tagOf the-type a) → m ≡ place1 m a
+unfolding pick
+store-rest m Quiet h = refl
+store-rest m (Body x p k) h = refl
+store-rest m (Store p w) h = absurd (none (0 ∷ 1 ∷ 3 ∷ []) 2 tt h)
+store-rest m (Add p k b) h = refl
+
+pub length-place1 : (m n : List ℕ) (a : Act) → n ≡ place1 m a → length n ≡ length m
+length-place1 m n Quiet e = ap length e
+length-place1 m n (Body x p k) e = ap length e
+length-place1 m n (Store p w) e = ap length e ∙ length-setWord m p w
+length-place1 m n (Add p k b) e = ap length e
+
+-- ---- adding
+
+pub add-done : (m r : List ℕ) (f : ℕ → ℕ) (a : Act) (p k b : ℕ) → a ≡ Add p k b → r ≡ addAt m p (f k) → r ≡ shift1 m f a
+add-done m r f a p k b e h = h ∙ sym (ap (shift1 m f) e)
+
+pub add-rest : (m : List ℕ) (f : ℕ → ℕ) (a : Act) → OneOf (0 ∷ 1 ∷ 2 ∷ []) (tagOf the-type a) → m ≡ shift1 m f a
+unfolding pick
+add-rest m f Quiet h = refl
+add-rest m f (Body x p k) h = refl
+add-rest m f (Store p w) h = refl
+add-rest m f (Add p k b) h = absurd (none (0 ∷ 1 ∷ 2 ∷ []) 3 tt h)
+
+pub length-shift1 : (m n : List ℕ) (f : ℕ → ℕ) (a : Act) → n ≡ shift1 m f a → length n ≡ length m
+length-shift1 m n f Quiet e = ap length e
+length-shift1 m n f (Body x p k) e = ap length e
+length-shift1 m n f (Store p w) e = ap length e
+length-shift1 m n f (Add p k b) e = ap length e ∙ length-addAt m p (f k)
+
+-- a pass that adds is relocation over the targets
+shift-target : (m : List ℕ) (f : ℕ → ℕ) (a : Act) (ts : List Target) → shiftAll (shift1 m f a) ts f ≡ shiftAll m (target1 a ts) f
+unfolding shiftAll
+shift-target m f Quiet ts = refl
+shift-target m f (Body x p k) ts = refl
+shift-target m f (Store p w) ts = refl
+shift-target m f (Add p k b) ts = refl
+
+pub pass-shift : (f : ℕ → ℕ) (m : List ℕ) (us : List Act) → pass (λ x a. shift1 x f a) m us ≡ shiftAll m (targets us) f
+unfolding pass targets shiftAll
+pass-shift f m [] = refl
+pass-shift f m (a ∷ us) = pass-shift f (shift1 m f a) us ∙ shift-target m f a (targets us)
+
+-- ---- recording
+
+pub entry-done : (file bases t r : List ℕ) (a : Act) (h p k s b : ℕ) → a ≡ Body h p k → s ≡ sizeOf file h → b ≡ amountOf bases h → r ≡ set (set (set (set t (4 * h) k) (4 * h + 1) p) (4 * h + 2) s) (4 * h + 3) b → r ≡ entry1 file bases t a
+entry-done file bases t r a h p k s b e q y x = x ∙ rw (e, q, y)
+
+pub entry-rest : (file bases t : List ℕ) (a : Act) → OneOf (0 ∷ 2 ∷ 3 ∷ []) (tagOf the-type a) → t ≡ entry1 file bases t a
+unfolding pick
+entry-rest file bases t Quiet h = refl
+entry-rest file bases t (Body x p k) h = absurd (none (0 ∷ 2 ∷ 3 ∷ []) 1 tt h)
+entry-rest file bases t (Store p w) h = refl
+entry-rest file bases t (Add p k b) h = refl
+
+pub length-entry : (file bases t r : List ℕ) (a : Act) → r ≡ entry1 file bases t a → length r ≡ length t
+length-entry file bases t r Quiet e = ap length e
+length-entry file bases t r (Body h p k) e = ap length e ∙ simp length-set
+length-entry file bases t r (Store p w) e = ap length e
+length-entry file bases t r (Add p k b) e = ap length e

@@ -1,0 +1,229 @@
+-- What an accepted file has, and what the calls answer and leave. Assumes nothing.
+use Prim.Native.Nat.{ℕ, zero, suc, _+_, _*_, _%_, _≤_}
+use mathlib.Core.Path.{_≡_, refl, sym, ap, _∙_}
+use mathlib.Core.List.{List, [], _∷_, _++_, append-nil}
+use mathlib.Core.Bool.{Bool, true, false}
+use native.Mathlib.Omega.{arith}
+use lib.ListN.{length, getD, replicate, take, drop, drop-of-length-le}
+use lib.Dec.{ltb, eqb}
+use borrow.Author.Tests.{ltb-false, eqb-true}
+use Rattle.answers.specs.Tests.{pick}
+use Rattle.answers.specs.Refusals.{refusal}
+use Rattle.answers.specs.declared.Refusal.{Refusal}
+use Rattle.answers.specs.declared.Tested.{Tested}
+use Rattle.answers.specs.declared.Tested.the-variants.{Passed, Failed}
+use Rattle.program.specs.declared.check.Answer.{Answer}
+use Rattle.program.specs.declared.check.Answer.the-variants.{Accepted, Refused}
+use Rattle.program.specs.declared.reader.Cursor.{Cursor}
+use Rattle.program.specs.declared.reader.Mode.{Mode}
+use Rattle.program.specs.declared.reader.Mode.the-variants as mode
+use Rattle.program.specs.declared.reader.Next.{Next}
+use Rattle.program.specs.declared.reader.Next.the-variants.{On, Bad}
+use Rattle.program.specs.Header.{totalOf, sizeOf, startAt, heads}
+use Rattle.program.specs.Reader.{start, stepOf}
+use Rattle.program.specs.Check.{endedOf, next, walk, wordsFrom, and, checkOf}
+use Rattle.program.specs.Sane.{Sane, ModeFits, placeOf}
+use Rattle.program.proofs.Heads.{sound-header}
+use Rattle.program.proofs.Sanes.{step-sane, start-sane}
+use Rattle.loader.specs.declared.calls.Outcome.{Outcome}
+use Rattle.loader.specs.Memory.{loadedOf, placed}
+use Rattle.loader.specs.Bases.{basesFrom, basesFault}
+use Rattle.loader.specs.Near.{clashOf}
+use Rattle.loader.specs.Calls.{roomFault, also, lastTests, loadAnswer, moveAnswer, Fills, filledBy, filled, Good}
+
+pub never : {A : Type 0} (r : Refusal) (t n : ℕ) → Refused r ≡ Accepted t n → A
+never r t n h = let z : _≡_ {A = ℕ} 0 1 = cc in absurd (omega arith)
+
+same-numbers : (a b t n : ℕ) → Accepted a b ≡ Accepted t n → (a ≡ t) × (b ≡ n)
+same-numbers a b t n h = ((cc), (cc))
+
+-- ---- an accepted walk ends behind the last hunk
+
+record Whole (file : List ℕ) (t n : ℕ) : Type 0 where
+  hunks : t ≡ totalOf file
+  bytes : n ≡ loadedOf file
+
+module _ (file : List ℕ) (t n : ℕ) where
+  ended-whole : (c : Cursor) (m : Mode) → c .place ≡ placeOf (sizeOf file) (c .hunk) → ModeFits (totalOf file) (c .hunk) (c .stored) m → endedOf (length file) c m ≡ Accepted t n → Whole file t n
+  ended-whole c mode.End p h e =
+      let q = same-numbers (c .hunk) (c .place) t n e in
+      record { hunks = sym (q .0) ∙ h; bytes = sym (q .1) ∙ p ∙ ap (placeOf (sizeOf file)) h }
+  ended-whole c mode.Begin p h e = never _ t n e
+  ended-whole c mode.NameLength p h e = never _ t n e
+  ended-whole c mode.Body p h e = never _ t n e
+  ended-whole c (mode.Length k) p h e = never _ t n e
+  ended-whole c (mode.Stored i) p h e = never _ t n e
+  ended-whole c mode.Part p h e = never _ t n e
+  ended-whole c mode.Count p h e = never _ t n e
+  ended-whole c (mode.Number x) p h e = never _ t n e
+  ended-whole c (mode.Offset x y) p h e = never _ t n e
+  ended-whole c mode.Symbol p h e = never _ t n e
+  ended-whole c mode.DebugLength p h e = never _ t n e
+  ended-whole c (mode.Skip x a) p h e = never _ t n e
+
+  walk-whole : (at : ℕ) (c : Cursor) (ws : List ℕ) → Sane file c → walk (totalOf file) (sizeOf file) (length file) at c ws ≡ Accepted t n → Whole file t n
+  unfolding walk
+  walk-whole at c [] s e = ended-whole c (c .mode) (s .placed) (s .mode) e
+  walk-whole at c (w ∷ ws) s e = go (stepOf (totalOf file) (sizeOf file) c w) refl e (λ d x y. walk-whole (at + 4) d ws (step-sane file c w d s x) y)
+    where
+      go : (r : Next) → stepOf (totalOf file) (sizeOf file) c w ≡ r → next r at (λ d. walk (totalOf file) (sizeOf file) (length file) (at + 4) d ws) ≡ Accepted t n → ((d : Cursor) → stepOf (totalOf file) (sizeOf file) c w ≡ On d → walk (totalOf file) (sizeOf file) (length file) (at + 4) d ws ≡ Accepted t n → Whole file t n) → Whole file t n
+      go (On d) x y f = f d x y
+      go (Bad v) x y f = never _ t n y
+
+  pick-not : (b : Bool) (r : Refusal) (a : Answer) → pick b (Refused r) a ≡ Accepted t n → a ≡ Accepted t n
+  unfolding pick
+  pick-not true r a h = never r t n h
+  pick-not false r a h = h
+
+  pick-so : (b : Bool) (r : Refusal) (a : Answer) → pick b a (Refused r) ≡ Accepted t n → (b ≡ true) × (a ≡ Accepted t n)
+  unfolding pick
+  pick-so true r a h = (refl, h)
+  pick-so false r a h = never r t n h
+
+  and-so : (h : Tested) (a : Answer) → and h a ≡ Accepted t n → (h ≡ Passed) × (a ≡ Accepted t n)
+  and-so Passed a h = (refl, h)
+  and-so (Failed r) a h = never r t n h
+
+  pub checked : checkOf file ≡ Accepted t n → Good file t n
+  unfolding checkOf
+  checked h =
+      let a = pick-so (eqb (length file % 4) 0) (refusal 30 0) _ (pick-not (eqb (length file) 0) (refusal 30 0) _ h) in
+      let b = and-so (heads file 0 5) _ (a .1) in
+      let c = and-so (heads file 5 (totalOf file)) _ (b .1) in
+      let s = sound-header file (b .0) (c .0) in
+      let w = walk-whole (startAt file) start (wordsFrom file (startAt file)) (start-sane file s) (c .1) in
+      record { sound = s; even = eqb-true _ _ (a .0); hunks = w .hunks; bytes = w .bytes }
+
+-- ---- further tests
+
+pub also-so : (a : Answer) (h : Tested) (t n : ℕ) → also a h ≡ Accepted t n → (a ≡ Accepted t n) × (h ≡ Passed)
+also-so (Accepted a b) Passed t n e = (e, refl)
+also-so (Accepted a b) (Failed r) t n e = never r t n e
+also-so (Refused r) h t n e = never r t n e
+
+pub also-failed : (a : Answer) (h : Tested) (t n : ℕ) (r : Refusal) → a ≡ Accepted t n → h ≡ Failed r → Refused r ≡ also a h
+also-failed a h t n r x y = rw (x, y)
+
+pub pick-passed : (b : Bool) (r : Refusal) (h : Tested) → pick b (Failed r) h ≡ Passed → (b ≡ false) × (h ≡ Passed)
+unfolding pick
+pick-passed true r h q = let z : _≡_ {A = ℕ} 0 1 = cc in absurd (omega arith)
+pick-passed false r h q = (refl, q)
+
+room-passed : (t n m tb w : ℕ) → roomFault t n m tb w ≡ Passed → (n ≤ m) × (t ≤ tb) × (n ≤ w)
+room-passed t n m tb w h =
+    let a = pick-passed (ltb m n) (refusal 41 0) _ h in
+    let b = pick-passed (ltb tb t) (refusal 41 0) _ (a .1) in
+    let c = pick-passed (ltb w n) (refusal 41 0) _ (b .1) in
+    (ltb-false m n (a .0), ltb-false tb t (b .0), ltb-false w n (c .0))
+
+pub bases-passed : (file bases : List ℕ) (from : ℕ) → basesFault file bases from ≡ Passed → length bases ≡ totalOf file
+unfolding basesFault pick
+bases-passed file bases from h = go (eqb (length bases) (totalOf file)) refl h
+  where
+    go : (b : Bool) → eqb (length bases) (totalOf file) ≡ b → pick b (basesFrom file bases from 0 (totalOf file)) (Failed (refusal 40 from)) ≡ Passed → length bases ≡ totalOf file
+    go true e q = eqb-true _ _ e
+    go false e q = let z : _≡_ {A = ℕ} 0 1 = cc in absurd (omega arith)
+
+-- ---- room and near targets, in code
+
+module _ (file : List ℕ) (a : Answer) (t n m tb w : ℕ) (ea : a ≡ Accepted t n) (g : Good file t n) (h : Tested) (eh : h ≡ roomFault t n m tb w) where
+  room-same : h ≡ roomFault (totalOf file) (loadedOf file) m tb w
+  room-same = eh ∙ ap (λ x. roomFault x n m tb w) (g .hunks) ∙ ap (λ x. roomFault (totalOf file) x m tb w) (g .bytes)
+
+  both : (k : Tested) → h ≡ k → lastTests file a m tb w ≡ also (also (Accepted t n) k) (clashOf file)
+  both k x = ap (λ z. also z (clashOf file)) (ap (λ u. also u (roomFault (totalOf file) (loadedOf file) m tb w)) ea ∙ ap (also (Accepted t n)) (sym room-same ∙ x))
+
+  pub last-room : (f : Refusal) (r : Answer) → h ≡ Failed f → r ≡ also (Accepted t n) h → r ≡ lastTests file a m tb w
+  last-room f r x y = y ∙ ap (also (Accepted t n)) x ∙ sym (both (Failed f) x)
+
+  pub last-fits : h ≡ Passed → loadedOf file ≤ w
+  last-fits x = omega (arith, room-passed t n m tb w (sym eh ∙ x) .2, g .bytes)
+
+  pub last-clash : (k : Tested) (r : Answer) → h ≡ Passed → k ≡ clashOf file → r ≡ also (Accepted t n) k → r ≡ lastTests file a m tb w
+  last-clash k r x y z = z ∙ ap (also (Accepted t n)) y ∙ sym (both Passed x)
+
+-- ---- the answers, in code
+
+module _ (file bases : List ℕ) (m tb w : ℕ) (v : Answer) (ev : v ≡ checkOf file) where
+  pub load-refused : (f : Refusal) → v ≡ Refused f → v ≡ loadAnswer file bases m tb w
+  unfolding loadAnswer
+  load-refused f h = rw (← ev, h)
+
+  pub load-last : (h : Tested) (a r : Answer) → h ≡ basesFault file bases 0 → a ≡ also v h → r ≡ lastTests file a m tb w → r ≡ loadAnswer file bases m tb w
+  unfolding loadAnswer
+  load-last h a r eh ea er = er ∙ rw (← ev, ← eh, ← ea)
+
+module _ (file old new : List ℕ) (m tb w : ℕ) (v : Answer) (ev : v ≡ checkOf file) where
+  pub move-refused : (f : Refusal) → v ≡ Refused f → v ≡ moveAnswer file old new m tb w
+  unfolding moveAnswer
+  move-refused f h = rw (← ev, h)
+
+  pub move-last : (t : ℕ) (h k : Tested) (a b r : Answer) → t ≡ totalOf file → h ≡ basesFault file old 0 → a ≡ also v h → k ≡ basesFault file new t → b ≡ also a k → r ≡ lastTests file b m tb w → r ≡ moveAnswer file old new m tb w
+  unfolding moveAnswer
+  move-last t h k a b r et eh ea ek eb er = er ∙ rw (← ev, ← eh, ← ea, ap (basesFault file new) (sym et) ∙ sym ek, ← eb)
+
+-- ---- what an accepted call has
+
+pub record LoadFacts (file bases : List ℕ) (m tb w t n : ℕ) : Type 0 where
+  pub file-good : Good file t n
+  pub bases-good : basesFault file bases 0 ≡ Passed
+  pub count : length bases ≡ totalOf file
+  pub fits : loadedOf file ≤ m
+  pub records : totalOf file ≤ tb
+  pub works : loadedOf file ≤ w
+  pub apart : clashOf file ≡ Passed
+
+load-with : (file bases : List ℕ) (m tb w t n : ℕ) (a : Answer) → (a ≡ Accepted t n → (checkOf file ≡ Accepted t n) × (basesFault file bases 0 ≡ Passed)) → lastTests file a m tb w ≡ Accepted t n → LoadFacts file bases m tb w t n
+load-with file bases m tb w t n v f h =
+    let a = also-so _ (clashOf file) t n h in
+    let b = also-so _ (roomFault (totalOf file) (loadedOf file) m tb w) t n (a .0) in
+    let c = f (b .0) in
+    let r = room-passed _ _ m tb w (b .1) in
+    record { file-good = checked file t n (c .0); bases-good = c .1; count = bases-passed file bases 0 (c .1); fits = r .0; records = r .1; works = r .2; apart = a .1 }
+
+pub load-facts : (file bases : List ℕ) (m tb w t n : ℕ) (r : Answer) → r ≡ loadAnswer file bases m tb w → r ≡ Accepted t n → LoadFacts file bases m tb w t n
+unfolding loadAnswer
+load-facts file bases m tb w t n r er h =
+    load-with file bases m tb w t n (also (checkOf file) (basesFault file bases 0)) (also-so (checkOf file) (basesFault file bases 0) t n) (sym er ∙ h)
+
+pub record MoveFacts (file old new : List ℕ) (m tb w t n : ℕ) : Type 0 where
+  pub load : LoadFacts file old m tb w t n
+  pub new-good : basesFault file new (totalOf file) ≡ Passed
+  pub count : length new ≡ totalOf file
+
+pub move-facts : (file old new : List ℕ) (m tb w t n : ℕ) (r : Answer) → r ≡ moveAnswer file old new m tb w → r ≡ Accepted t n → MoveFacts file old new m tb w t n
+unfolding moveAnswer
+move-facts file old new m tb w t n r er h =
+    let x = also (also (checkOf file) (basesFault file old 0)) (basesFault file new (totalOf file)) in
+    let a = also-so _ (clashOf file) t n (sym er ∙ h) in
+    let b = also-so x (roomFault (totalOf file) (loadedOf file) m tb w) t n (a .0) in
+    let c = also-so (also (checkOf file) (basesFault file old 0)) (basesFault file new (totalOf file)) t n (b .0) in
+    record {
+      load = load-with file old m tb w t n x (λ _. also-so (checkOf file) (basesFault file old 0) t n (c .0)) (sym er ∙ h);
+      new-good = c .1;
+      count = bases-passed file new (totalOf file) (c .1);
+    }
+
+-- ---- areas of zeros
+
+getD-zeros : (n k : ℕ) → _≡_ {A = ℕ} (getD (replicate n 0) k 0) 0
+getD-zeros zero k = refl
+getD-zeros (suc n) zero = refl
+getD-zeros (suc n) (suc k) = getD-zeros n k
+
+pub all-zero : (w : List ℕ) (n : ℕ) → w ≡ replicate n 0 → (k : ℕ) → getD w k 0 ≡ 0
+all-zero w n e k = ap (λ (l : List ℕ). getD l k 0) e ∙ getD-zeros n k
+
+pub wiped : (a r : List ℕ) (n : ℕ) → n ≡ length a → r ≡ replicate n 0 ++ drop n a → r ≡ replicate (length a) 0
+wiped a r n e h =
+    let d : length a ≤ length a = omega arith in
+    h ∙ rw e (ap (λ (l : List ℕ). replicate (length a) 0 ++ l) (drop-of-length-le a d) ∙ append-nil _)
+
+-- ---- the table is filled
+
+module _ (o : Outcome) (room t n : ℕ) (p : Fills o room) (e : o .answer ≡ Accepted t n) where
+  pub fill-room : (4 * t ≤ length (o .records)) × (4 * t ≤ room)
+  fill-room = let f : (t ≤ 64) × (4 * t ≤ room) = rw e at (p .fills) in (omega (arith, f .0, p .whole), f .1)
+
+pub fill-done : (o : Outcome) (table r : List ℕ) (t n : ℕ) → o .answer ≡ Accepted t n → r ≡ take (4 * t) (o .records) ++ drop (4 * t) table → r ≡ filled o table
+fill-done o table r t n e h = h ∙ sym (ap (λ a. filledBy a (o .records) table) e)

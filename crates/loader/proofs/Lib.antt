@@ -1,0 +1,15 @@
+-- Laws of what specs/ defines, and the theorems.
+-- what an act does, and that it lies inside
+pub mod Acts
+-- marks in the work area
+pub mod Marking
+-- lists of bases
+pub mod Entries
+-- loops that write numbers
+pub mod Copies
+-- what the calls answer
+pub mod Answering
+-- all that a file asks for lies inside
+pub mod Inside
+-- the calls leave what they promise
+pub mod Calling

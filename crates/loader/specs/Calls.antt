@@ -1,0 +1,110 @@
+-- What a load and a move answer, and what they leave: the file's own faults, then bases, room, near targets (the build paper, "The program
+-- file" and "Numbers"). A refused call leaves memory and table; the work area comes back all 0.
+use Prim.Native.Nat.{ℕ, _*_, _/_, _%_, _≤_}
+use mathlib.Core.Path.{_≡_}
+use mathlib.Core.List.{List, _++_}
+use lib.Dec.{ltb}
+use lib.ListN.{length, take, drop, replicate}
+use Rattle.answers.specs.Tests.{pick}
+use Rattle.answers.specs.Refusals.{refusal}
+use Rattle.answers.specs.declared.Tested.{Tested}
+use Rattle.answers.specs.declared.Tested.the-variants.{Passed, Failed}
+use Rattle.program.specs.declared.check.Answer.{Answer}
+use Rattle.program.specs.declared.check.Answer.the-variants.{Accepted, Refused}
+use Rattle.program.specs.Header.{totalOf}
+use Rattle.program.specs.Acts.{actsOf}
+use Rattle.program.specs.Check.{checkOf}
+use Rattle.program.specs.Sane.{Sound}
+use Rattle.loader.specs.declared.calls.Outcome.{Outcome}
+use Rattle.loader.specs.Memory.{loadedOf, loadOf, moveOf}
+use Rattle.loader.specs.Table.{tableRoom, listed, tableOf}
+use Rattle.loader.specs.Bases.{basesFault}
+use Rattle.loader.specs.Near.{clashOf}
+
+-- n bytes of memory and of work area, and t records
+abbrev pub roomFault : ℕ → ℕ → ℕ → ℕ → ℕ → Tested
+roomFault t n memory records work =
+    pick (ltb memory n) (Failed (refusal 41 0))
+    (pick (ltb records t) (Failed (refusal 41 0))
+    (pick (ltb work n) (Failed (refusal 41 0)) Passed))
+
+-- a further test of what is accepted so far
+abbrev pub also : Answer → Tested → Answer
+also (Accepted t n) Passed = Accepted t n
+also (Accepted t n) (Failed r) = Refused r
+also (Refused r) h = Refused r
+
+-- of memory and work area by their lengths, and of the table by its records
+abbrev pub lastTests : List ℕ → Answer → ℕ → ℕ → ℕ → Answer
+lastTests file a memory records work =
+    also (also a (roomFault (totalOf file) (loadedOf file) memory records work)) (clashOf file)
+
+unfoldable pub loadAnswer : List ℕ → List ℕ → ℕ → ℕ → ℕ → Answer
+loadAnswer file bases memory records work =
+    lastTests file (also (checkOf file) (basesFault file bases 0)) memory records work
+
+-- the new list counts on from T
+unfoldable pub moveAnswer : List ℕ → List ℕ → List ℕ → ℕ → ℕ → ℕ → Answer
+moveAnswer file old new memory records work =
+    lastTests file (also (also (checkOf file) (basesFault file old 0)) (basesFault file new (totalOf file))) memory records work
+
+-- accepted: the new contents; refused: the old
+abbrev pub effect : Answer → List ℕ → List ℕ → List ℕ
+effect (Accepted t n) new old = new
+effect (Refused r) new old = old
+
+-- ---- the core, which is lent a number of records, and hands their numbers back
+
+-- the records at the bases, in room for 64; zeros where refused
+abbrev pub handed : List ℕ → List ℕ → Answer → List ℕ
+handed file bases a = effect a (listed file bases (replicate tableRoom 0) (actsOf file)) (replicate tableRoom 0)
+
+pub record LoadsCore (file bases memory work : List ℕ) (records : ℕ) (o : Outcome) (memory′ work′ : List ℕ) : Type 0 where
+  pub answer : o .answer ≡ loadAnswer file bases (length memory) records (length work)
+  pub loaded : memory′ ≡ effect (o .answer) (loadOf file bases memory) memory
+  pub numbers : o .records ≡ handed file bases (o .answer)
+  pub clean : work′ ≡ replicate (length work) 0
+
+pub record MovesCore (file old new memory work : List ℕ) (records : ℕ) (o : Outcome) (memory′ work′ : List ℕ) : Type 0 where
+  pub answer : o .answer ≡ moveAnswer file old new (length memory) records (length work)
+  pub shifted : memory′ ≡ effect (o .answer) (moveOf file old new memory) memory
+  pub numbers : o .records ≡ handed file new (o .answer)
+  pub clean : work′ ≡ replicate (length work) 0
+
+-- an accepted outcome's records have room in a table of so many numbers
+abbrev pub FillsBy : Answer → ℕ → Type 0
+FillsBy (Accepted t n) room = (t ≤ 64) × (4 * t ≤ room)
+FillsBy (Refused r) room = Unit
+
+pub record Fills (o : Outcome) (room : ℕ) : Type 0 where
+  pub fills : FillsBy (o .answer) room
+  pub whole : length (o .records) ≡ tableRoom
+
+-- and are written to its front
+abbrev pub filledBy : Answer → List ℕ → List ℕ → List ℕ
+filledBy (Accepted t n) numbers table = take (4 * t) numbers ++ drop (4 * t) table
+filledBy (Refused r) numbers table = table
+
+abbrev pub filled : Outcome → List ℕ → List ℕ
+filled o table = filledBy (o .answer) (o .records) table
+
+-- ---- the calls, which are lent a table of four numbers a record
+
+pub record Loads (file bases memory table work : List ℕ) (r : Answer) (memory′ table′ work′ : List ℕ) : Type 0 where
+  pub answer : r ≡ loadAnswer file bases (length memory) (length table / 4) (length work)
+  pub loaded : memory′ ≡ effect r (loadOf file bases memory) memory
+  pub recorded : table′ ≡ effect r (tableOf file bases table) table
+  pub clean : work′ ≡ replicate (length work) 0
+
+pub record Moves (file old new memory table work : List ℕ) (r : Answer) (memory′ table′ work′ : List ℕ) : Type 0 where
+  pub answer : r ≡ moveAnswer file old new (length memory) (length table / 4) (length work)
+  pub shifted : memory′ ≡ effect r (moveOf file old new memory) memory
+  pub recorded : table′ ≡ effect r (tableOf file new table) table
+  pub clean : work′ ≡ replicate (length work) 0
+
+-- what an accepted file has
+pub record Good (file : List ℕ) (t n : ℕ) : Type 0 where
+  pub sound : Sound file
+  pub even : length file % 4 ≡ 0
+  pub hunks : t ≡ totalOf file
+  pub bytes : n ≡ loadedOf file

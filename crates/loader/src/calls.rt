@@ -1,0 +1,230 @@
+// Load and move on plain slices, with no demands on what is lent.
+use crate::bases::bases_fault;
+use crate::marks::mark_all;
+use crate::memory::add_all;
+use crate::memory::clear;
+use crate::memory::store_all;
+use crate::memory::wipe;
+use crate::table::write_all;
+use answers::Refusal;
+use answers::Tested;
+use program::check::Answer;
+use program::check::check;
+use program::header::total;
+ghost use mathlib.Core.Path.{_≡_};
+ghost use mathlib.Core.List.{_++_};
+ghost use Prim.Native.Nat.{ℕ, _<_, _≤_};
+ghost use lib.ListN.{length, getD, take, drop};
+ghost use Rattle.answers.specs.Refusals.{refusal};
+ghost use Rattle.loader.specs.Memory.{moved, amountOf};
+ghost use Rattle.loader.specs.Calls.{roomFault, also, lastTests, loadAnswer, moveAnswer, LoadsCore, MovesCore, Fills, filled, Loads, Moves, Good};
+
+// An answer, and the records' numbers beside it.
+pub struct Outcome {
+    pub answer: Answer,
+    pub records: [u32; 256],
+}
+
+fn short() -> Tested
+    ensures { λ r. ⌜ r ≡ Tested.Failed (refusal 41 0) ⌝ }
+{
+    Tested::Failed(Refusal {
+        number: 41,
+        place: 0,
+    })
+}
+
+fn room_fault(t: u32, n: usize, memory: usize, records: usize, work: usize) -> Tested
+    ensures { λ r. ⌜ r ≡ roomFault t n memory records work ⌝ }
+{
+    if memory < n {
+        return short();
+    }
+    if records < t as usize {
+        return short();
+    }
+    if work < n {
+        return short();
+    }
+    Tested::Passed
+}
+
+// A further test of what is accepted so far.
+fn also_test(a: Answer, h: Tested) -> Answer
+    ensures { λ r. ⌜ r ≡ also a h ⌝ }
+{
+    let Answer::Accepted(_, _) = a else {
+        return a;
+    };
+    let Tested::Failed(f) = h else {
+        return a;
+    };
+    Answer::Refused(f)
+}
+
+// Room and near targets, after the other tests.
+fn last_tests(file: &[u8], a: Answer, memory: usize, records: usize, work: &mut [u8]) -> Answer
+    requires { ⌜ ((t : ℕ) → (n : ℕ) → a ≡ Answer.Accepted t n → Good (now file) t n) × ((k : ℕ) → getD (now work) k 0 ≡ 0) ⌝ }
+    ensures { λ r. ⌜ r ≡ lastTests (now (file .entry)) a memory records (length (now (work .entry))) ⌝ }
+{
+    let Answer::Accepted(t, n) = a else {
+        return a;
+    };
+    let h = room_fault(t, n, memory, records, work.len());
+    let Tested::Passed = h else {
+        return also_test(a, h);
+    };
+    also_test(a, mark_all(file, work))
+}
+
+fn load_answer(file: &[u8], bases: &[u32], memory: usize, records: usize, work: &mut [u8]) -> Answer
+    requires { ⌜ ((k : ℕ) → getD (now work) k 0 ≡ 0) ⌝ }
+    ensures { λ r. ⌜ r ≡ loadAnswer (now (file .entry)) (now (bases .entry)) memory records (length (now (work .entry))) ⌝ }
+{
+    let v = check(file);
+    let Answer::Accepted(_, _) = v else {
+        return v;
+    };
+    let a = also_test(v, bases_fault(file, bases, 0));
+    last_tests(file, a, memory, records, work)
+}
+
+fn move_answer(
+    file: &[u8],
+    old: &[u32],
+    new: &[u32],
+    memory: usize,
+    records: usize,
+    work: &mut [u8],
+) -> Answer
+    requires { ⌜ ((k : ℕ) → getD (now work) k 0 ≡ 0) ⌝ }
+    ensures { λ r. ⌜ r ≡ moveAnswer (now (file .entry)) (now (old .entry)) (now (new .entry)) memory records (length (now (work .entry))) ⌝ }
+{
+    let v = check(file);
+    let Answer::Accepted(_, _) = v else {
+        return v;
+    };
+    let a = also_test(v, bases_fault(file, old, 0));
+    let b = also_test(a, bases_fault(file, new, total(file) as usize));
+    last_tests(file, b, memory, records, work)
+}
+
+// New minus old of each entry, modulo 2^32.
+fn differences(old: &[u32], new: &[u32], amounts: &mut [u32])
+    requires { ⌜ (length (now new) ≤ length (now old)) × (length (now new) ≤ length (now amounts)) ⌝ }
+    ensures { λ _. ⌜ ((k : ℕ) → k < length (now (new .entry)) → amountOf (now (amounts .exit)) k ≡ moved (now (old .entry)) (now (new .entry)) k) ⌝ }
+{
+    let mut i: usize = 0;
+    while i < new.len() {
+        amounts[i] = std::num::wrapping_sub_u32(new[i], old[i]);
+        i += 1;
+    }
+}
+
+// Copies the first n numbers.
+fn copy_numbers(from: &[u32], n: usize, to: &mut [u32])
+    requires { ⌜ (n ≤ length (now from)) × (n ≤ length (now to)) ⌝ }
+    ensures { λ _. ⌜ now (to .exit) ≡ take n (now (from .entry)) ++ drop n (now (to .entry)) ⌝ }
+{
+    let mut i: usize = 0;
+    while i < n {
+        to[i] = from[i];
+        i += 1;
+    }
+}
+
+// Loads a program, and hands the records' numbers back.
+pub fn load_core(
+    file: &[u8],
+    bases: &[u32],
+    memory: &mut [u8],
+    records: usize,
+    work: &mut [u8],
+) -> Outcome
+    ensures { λ r. ⌜ LoadsCore (now (file .entry)) (now (bases .entry)) (now (memory .entry)) (now (work .entry)) records r (now (memory .exit)) (now (work .exit)) ⌝ }
+{
+    let mut numbers = [0u32; 256];
+    wipe(work);
+    let a = load_answer(file, bases, memory.len(), records, work);
+    wipe(work);
+    if let Answer::Accepted(_, n) = a {
+        clear(memory, n);
+        store_all(file, memory);
+        add_all(file, memory, bases);
+        write_all(file, bases, &mut numbers);
+    }
+    Outcome {
+        answer: a,
+        records: numbers,
+    }
+}
+
+// Moves a loaded program, and hands the records' numbers back.
+pub fn move_core(
+    file: &[u8],
+    old: &[u32],
+    new: &[u32],
+    memory: &mut [u8],
+    records: usize,
+    work: &mut [u8],
+) -> Outcome
+    ensures { λ r. ⌜ MovesCore (now (file .entry)) (now (old .entry)) (now (new .entry)) (now (memory .entry)) (now (work .entry)) records r (now (memory .exit)) (now (work .exit)) ⌝ }
+{
+    let mut numbers = [0u32; 256];
+    let mut amounts = [0u32; 64];
+    wipe(work);
+    let a = move_answer(file, old, new, memory.len(), records, work);
+    wipe(work);
+    if let Answer::Accepted(_, _) = a {
+        differences(old, new, &mut amounts);
+        add_all(file, memory, &amounts);
+        write_all(file, new, &mut numbers);
+    }
+    Outcome {
+        answer: a,
+        records: numbers,
+    }
+}
+
+// Writes the records of an accepted program to a table of four numbers a record.
+fn fill(o: Outcome, table: &mut [u32])
+    requires { ⌜ Fills o (length (now table)) ⌝ }
+    ensures { λ _. ⌜ now (table .exit) ≡ filled o (now (table .entry)) ⌝ }
+{
+    let a = o.answer;
+    let numbers = o.records;
+    if let Answer::Accepted(t, _) = a {
+        copy_numbers(&numbers, 4 * t as usize, table);
+    }
+}
+
+// Loads a program at the given bases.
+pub fn load(
+    file: &[u8],
+    bases: &[u32],
+    memory: &mut [u8],
+    table: &mut [u32],
+    work: &mut [u8],
+) -> Answer
+    ensures { λ r. ⌜ Loads (now (file .entry)) (now (bases .entry)) (now (memory .entry)) (now (table .entry)) (now (work .entry)) r (now (memory .exit)) (now (table .exit)) (now (work .exit)) ⌝ }
+{
+    let o = load_core(file, bases, memory, table.len() / 4, work);
+    fill(o, table);
+    o.answer
+}
+
+// Moves a loaded program from the old bases to the new ones.
+pub fn move_program(
+    file: &[u8],
+    old: &[u32],
+    new: &[u32],
+    memory: &mut [u8],
+    table: &mut [u32],
+    work: &mut [u8],
+) -> Answer
+    ensures { λ r. ⌜ Moves (now (file .entry)) (now (old .entry)) (now (new .entry)) (now (memory .entry)) (now (table .entry)) (now (work .entry)) r (now (memory .exit)) (now (table .exit)) (now (work .exit)) ⌝ }
+{
+    let o = move_core(file, old, new, memory, table.len() / 4, work);
+    fill(o, table);
+    o.answer
+}

@@ -1,0 +1,59 @@
+// Two targets of one hunk less than 4 bytes apart, found by marks in the work area.
+use answers::Refusal;
+use answers::Tested;
+use program::act::Act;
+use program::act::act_of;
+use program::header::WORDS;
+use program::header::total;
+use program::reader::Next;
+use program::reader::begin;
+use program::reader::step;
+ghost use mathlib.Core.Path.{_≡_};
+ghost use Prim.Native.Nat.{ℕ, _%_, _≤_};
+ghost use lib.ListN.{length, getD};
+ghost use Rattle.program.specs.Sane.{Sound};
+ghost use Rattle.loader.specs.Memory.{ActFits, loadedOf};
+ghost use Rattle.loader.specs.Near.{clashOf, Marks};
+
+// Four bytes of 1.
+const MARK: u32 = 0x01010101;
+
+// Marks the four bytes of a target; true where one was marked before.
+fn mark_act(work: &mut [u8], a: Act) -> bool
+    requires { ⌜ ActFits (length (now work)) 64 a ⌝ }
+    ensures { λ r. ⌜ Marks (now (work .entry)) a r (now (work .exit)) ⌝ }
+{
+    let Act::Add(p, _, _) = a else {
+        return false;
+    };
+    if words::word(work, p) != 0 {
+        return true;
+    }
+    words::put_word(work, p, MARK);
+    false
+}
+
+// The first target too near an earlier one; the work area is all 0 at first.
+pub fn mark_all(file: &[u8], work: &mut [u8]) -> Tested
+    requires { ⌜ (Sound (now file)) × (length (now file) % 4 ≡ 0) × (loadedOf (now file) ≤ length (now work)) × ((k : ℕ) → getD (now work) k 0 ≡ 0) ⌝ }
+    ensures { λ r. ⌜ r ≡ clashOf (now (file .entry)) ⌝ }
+{
+    let mut c = begin();
+    let mut at = 4 * WORDS + 4 * total(file) as usize;
+    while at < file.len() {
+        let w = words::word(file, at);
+        let n = step(file, c, w);
+        let Next::On(d) = n else {
+            return Tested::Passed;
+        };
+        if mark_act(work, act_of(c, at, w)) {
+            return Tested::Failed(Refusal {
+                number: 42,
+                place: at,
+            });
+        }
+        c = d;
+        at += 4;
+    }
+    Tested::Passed
+}

@@ -1,0 +1,94 @@
+// The passes over a program file that write memory: stored words, and amounts added to targets.
+use program::act::Act;
+use program::act::act_of;
+use program::header::WORDS;
+use program::header::total;
+use program::reader::Next;
+use program::reader::begin;
+use program::reader::step;
+ghost use mathlib.Core.Path.{_≡_};
+ghost use mathlib.Core.List.{_++_};
+ghost use Prim.Native.Nat.{_%_, _≤_};
+ghost use lib.ListN.{length, replicate, drop};
+ghost use Rattle.words.specs.Shift.{shiftAll};
+ghost use Rattle.program.specs.Header.{totalOf};
+ghost use Rattle.program.specs.Acts.{actsOf};
+ghost use Rattle.program.specs.Sane.{Sound};
+ghost use Rattle.loader.specs.Memory.{ActFits, place1, placed, shift1, targetsOf, loadedOf, amountOf};
+
+// Sets the first n bytes to 0.
+pub fn clear(bytes: &mut [u8], n: usize)
+    requires { ⌜ n ≤ length (now bytes) ⌝ }
+    ensures { λ _. ⌜ now (bytes .exit) ≡ replicate n 0 ++ drop n (now (bytes .entry)) ⌝ }
+{
+    let mut i = 0;
+    while i < n {
+        bytes[i] = 0;
+        i += 1;
+    }
+}
+
+// Sets every byte to 0.
+pub fn wipe(bytes: &mut [u8])
+    ensures { λ _. ⌜ now (bytes .exit) ≡ replicate (length (now (bytes .entry))) 0 ⌝ }
+{
+    let n = bytes.len();
+    clear(bytes, n);
+}
+
+fn store_act(memory: &mut [u8], a: Act)
+    requires { ⌜ ActFits (length (now memory)) 64 a ⌝ }
+    ensures { λ _. ⌜ now (memory .exit) ≡ place1 (now (memory .entry)) a ⌝ }
+{
+    if let Act::Store(p, w) = a {
+        words::put_word(memory, p, w);
+    }
+}
+
+// Stores the words of all hunks.
+pub fn store_all(file: &[u8], memory: &mut [u8])
+    requires { ⌜ (Sound (now file)) × (length (now file) % 4 ≡ 0) × (loadedOf (now file) ≤ length (now memory)) ⌝ }
+    ensures { λ _. ⌜ now (memory .exit) ≡ placed (now (memory .entry)) (actsOf (now (file .entry))) ⌝ }
+{
+    let mut c = begin();
+    let mut at = 4 * WORDS + 4 * total(file) as usize;
+    while at < file.len() {
+        let w = words::word(file, at);
+        let n = step(file, c, w);
+        let Next::On(d) = n else {
+            return;
+        };
+        store_act(memory, act_of(c, at, w));
+        c = d;
+        at += 4;
+    }
+}
+
+fn add_act(memory: &mut [u8], amounts: &[u32], a: Act)
+    requires { ⌜ ActFits (length (now memory)) (length (now amounts)) a ⌝ }
+    ensures { λ _. ⌜ now (memory .exit) ≡ shift1 (now (memory .entry)) (amountOf (now (amounts .entry))) a ⌝ }
+{
+    if let Act::Add(p, k, _) = a {
+        let i = k as usize;
+        words::add_at(memory, p, amounts[i]);
+    }
+}
+
+// Adds to each target the amount of its hunk.
+pub fn add_all(file: &[u8], memory: &mut [u8], amounts: &[u32])
+    requires { ⌜ (Sound (now file)) × (length (now file) % 4 ≡ 0) × (loadedOf (now file) ≤ length (now memory)) × (totalOf (now file) ≤ length (now amounts)) ⌝ }
+    ensures { λ _. ⌜ now (memory .exit) ≡ shiftAll (now (memory .entry)) (targetsOf (now (file .entry))) (amountOf (now (amounts .entry))) ⌝ }
+{
+    let mut c = begin();
+    let mut at = 4 * WORDS + 4 * total(file) as usize;
+    while at < file.len() {
+        let w = words::word(file, at);
+        let n = step(file, c, w);
+        let Next::On(d) = n else {
+            return;
+        };
+        add_act(memory, amounts, act_of(c, at, w));
+        c = d;
+        at += 4;
+    }
+}

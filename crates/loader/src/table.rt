@@ -1,0 +1,49 @@
+// The records of the hunks: kind, place, size and base of each.
+use program::act::Act;
+use program::act::act_of;
+use program::header::WORDS;
+use program::header::size;
+use program::header::total;
+use program::reader::Next;
+use program::reader::begin;
+use program::reader::step;
+ghost use mathlib.Core.Path.{_≡_};
+ghost use Prim.Native.Nat.{_*_, _%_, _≤_};
+ghost use lib.ListN.{length};
+ghost use Rattle.program.specs.Header.{totalOf};
+ghost use Rattle.program.specs.Acts.{actsOf};
+ghost use Rattle.program.specs.Sane.{Sound};
+ghost use Rattle.loader.specs.Memory.{ActFits};
+ghost use Rattle.loader.specs.Table.{entry1, listed};
+
+fn write_act(file: &[u8], bases: &[u32], table: &mut [u32], a: Act)
+    requires { ⌜ (Sound (now file)) × (ActFits 4294967296 (totalOf (now file)) a) × (totalOf (now file) ≤ length (now bases)) × (4 * totalOf (now file) ≤ length (now table)) ⌝ }
+    ensures { λ _. ⌜ now (table .exit) ≡ entry1 (now (file .entry)) (now (bases .entry)) (now (table .entry)) a ⌝ }
+{
+    if let Act::Body(h, p, k) = a {
+        let i = h as usize;
+        table[4 * i] = k;
+        table[4 * i + 1] = p as u32;
+        table[4 * i + 2] = size(file, h);
+        table[4 * i + 3] = bases[i];
+    }
+}
+
+// Writes the record of each hunk.
+pub fn write_all(file: &[u8], bases: &[u32], table: &mut [u32])
+    requires { ⌜ (Sound (now file)) × (length (now file) % 4 ≡ 0) × (totalOf (now file) ≤ length (now bases)) × (4 * totalOf (now file) ≤ length (now table)) ⌝ }
+    ensures { λ _. ⌜ now (table .exit) ≡ listed (now (file .entry)) (now (bases .entry)) (now (table .entry)) (actsOf (now (file .entry))) ⌝ }
+{
+    let mut c = begin();
+    let mut at = 4 * WORDS + 4 * total(file) as usize;
+    while at < file.len() {
+        let w = words::word(file, at);
+        let n = step(file, c, w);
+        let Next::On(d) = n else {
+            return;
+        };
+        write_act(file, bases, table, act_of(c, at, w));
+        c = d;
+        at += 4;
+    }
+}
