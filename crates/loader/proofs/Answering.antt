@@ -101,6 +101,9 @@ also-so (Accepted a b) Passed t n e = (e, refl)
 also-so (Accepted a b) (Failed r) t n e = never r t n e
 also-so (Refused r) h t n e = never r t n e
 
+pub also-both : (a : Answer) (h : Tested) (t n : ℕ) → a ≡ Accepted t n → h ≡ Passed → also a h ≡ Accepted t n
+also-both a h t n e f = rw (e, f)
+
 pub also-failed : (a : Answer) (h : Tested) (t n : ℕ) (r : Refusal) → a ≡ Accepted t n → h ≡ Failed r → Refused r ≡ also a h
 also-failed a h t n r x y = rw (x, y)
 

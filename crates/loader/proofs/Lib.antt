@@ -13,3 +13,7 @@ pub mod Answering
 pub mod Inside
 -- the calls leave what they promise
 pub mod Calling
+-- the laws of moving
+pub mod Moving
+-- the contracts decide
+pub mod Deciding
