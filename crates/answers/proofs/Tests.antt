@@ -6,6 +6,9 @@ use mathlib.Core.List.{List, [], _∷_, _++_}
 use native.Mathlib.Omega.{arith}
 use lib.Dec.{T, leb, ltb, eqb, lt→ltb}
 use borrow.Author.Tests.{eq-eqb, ne-eqb, le-leb, lt-leb, lt-ltb, le-ltb}
+use Rattle.answers.specs.declared.Refusal.{Refusal}
+use Rattle.answers.specs.declared.Tested.{Tested}
+use Rattle.answers.specs.declared.Tested.the-variants.{Passed, Failed}
 use Rattle.answers.specs.Tests.{pick, must, never, first, tests}
 
 -- ---- the first of two numbers
@@ -19,6 +22,33 @@ pub first-refuses : (a b : ℕ) → 0 < a → first a b ≡ a
 unfolding first
 first-refuses zero b h = absurd (omega arith)
 first-refuses (suc a) b h = refl
+
+-- ---- what a passed test says, and what makes it pass
+
+pub must-passed : (t : Bool) (v : ℕ) → must t (suc v) ≡ 0 → t ≡ true
+unfolding must
+must-passed true v e = refl
+must-passed false v e = absurd (omega arith)
+
+pub must-passes : (t : Bool) (v : ℕ) → t ≡ true → must t v ≡ 0
+unfolding must
+must-passes true v e = refl
+must-passes false v e = let z : _≡_ {A = ℕ} 0 1 = cc in absurd (omega arith)
+
+pub never-passed : (t : Bool) (v : ℕ) → never t (suc v) ≡ 0 → t ≡ false
+unfolding never
+never-passed true v e = absurd (omega arith)
+never-passed false v e = refl
+
+pub never-passes : (t : Bool) (v : ℕ) → t ≡ false → never t v ≡ 0
+unfolding never
+never-passes true v e = let z : _≡_ {A = ℕ} 0 1 = cc in absurd (omega arith)
+never-passes false v e = refl
+
+pub pick-passed : (b : Bool) (r : Refusal) (h : Tested) → pick b (Failed r) h ≡ Passed → (b ≡ false) × (h ≡ Passed)
+unfolding pick
+pick-passed true r h q = let z : _≡_ {A = ℕ} 0 1 = cc in absurd (omega arith)
+pick-passed false r h q = (refl, q)
 
 -- ---- a test at a time, as code makes them
 

@@ -8,6 +8,7 @@ use lib.ListN.{length, getD, replicate, take, drop, drop-of-length-le}
 use lib.Dec.{ltb, eqb}
 use borrow.Author.Tests.{ltb-false, eqb-true}
 use Rattle.answers.specs.Tests.{pick}
+use Rattle.answers.proofs.Tests.{pick-passed}
 use Rattle.answers.specs.Refusals.{refusal}
 use Rattle.answers.specs.declared.Refusal.{Refusal}
 use Rattle.answers.specs.declared.Tested.{Tested}
@@ -106,11 +107,6 @@ also-both a h t n e f = rw (e, f)
 
 pub also-failed : (a : Answer) (h : Tested) (t n : ℕ) (r : Refusal) → a ≡ Accepted t n → h ≡ Failed r → Refused r ≡ also a h
 also-failed a h t n r x y = rw (x, y)
-
-pub pick-passed : (b : Bool) (r : Refusal) (h : Tested) → pick b (Failed r) h ≡ Passed → (b ≡ false) × (h ≡ Passed)
-unfolding pick
-pick-passed true r h q = let z : _≡_ {A = ℕ} 0 1 = cc in absurd (omega arith)
-pick-passed false r h q = (refl, q)
 
 room-passed : (t n m tb w : ℕ) → roomFault t n m tb w ≡ Passed → (n ≤ m) × (t ≤ tb) × (n ≤ w)
 room-passed t n m tb w h =

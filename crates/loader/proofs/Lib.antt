@@ -17,3 +17,7 @@ pub mod Calling
 pub mod Moving
 -- the contracts decide
 pub mod Deciding
+-- what a file asks for, in the page's terms
+pub mod PageActs
+-- what a load and a move do, in the page's terms
+pub mod PageLoads

@@ -13,6 +13,7 @@ use Rattle.words.specs.Shift.{Target}
 use Rattle.words.proofs.Words.{Bytes, Far}
 use Rattle.words.proofs.Shifts.{FarAll, Apart, Within, length-shiftAll, shiftAll-twice, shiftAll-zero, shiftAll-mod, shiftAll-moved}
 use Rattle.answers.specs.Tests.{pick}
+use Rattle.answers.proofs.Tests.{pick-passed}
 use Rattle.answers.specs.Refusals.{refusal}
 use Rattle.answers.specs.declared.Tested.{Tested}
 use Rattle.answers.specs.declared.Tested.the-variants.{Passed, Failed}
@@ -29,7 +30,7 @@ use Rattle.loader.specs.Near.{near, nearAny, clash, clashOf}
 use Rattle.loader.specs.Calls.{roomFault, loadAnswer, moveAnswer, Loads, Moves}
 use Rattle.loader.proofs.Marking.{near-false, no-bool}
 use Rattle.loader.proofs.Inside.{within-targets, within-more, length-listed, length-bodies}
-use Rattle.loader.proofs.Answering.{also-so, also-both, pick-passed, LoadFacts, load-facts}
+use Rattle.loader.proofs.Answering.{also-so, also-both, LoadFacts, load-facts}
 
 -- ---- accepted targets are apart
 

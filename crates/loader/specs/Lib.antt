@@ -9,3 +9,5 @@ pub mod Bases
 pub mod Near
 -- what the calls answer, and what they leave
 pub mod Calls
+-- a load in the terms of the page
+pub mod Pages

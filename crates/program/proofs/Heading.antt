@@ -10,9 +10,9 @@ use lib.Dec.{ltb, leb, eqb}
 use borrow.Author.Tests.{le-ltb, le-leb, eq-eqb, ne-eqb, ltb-false, leb-true, eqb-true, eqb-false}
 use Rattle.words.specs.Word.{wordAt, wordsAt}
 use Rattle.answers.specs.Tests.{pick, must}
-use Rattle.answers.specs.declared.Refusal.{Refusal}
+use Rattle.answers.proofs.Tests.{must-passed, pick-passed}
 use Rattle.answers.specs.declared.Tested.{Tested}
-use Rattle.answers.specs.declared.Tested.the-variants.{Passed, Failed}
+use Rattle.answers.specs.declared.Tested.the-variants.{Passed}
 use Rattle.program.specs.Header.{totalOf, headFault, judge, heads}
 
 -- ---- words
@@ -97,18 +97,13 @@ module _ (t w : ℕ) where
 
   -- ---- what they say
 
-  must-zero : (b : Bool) (v : ℕ) → must b (suc v) ≡ 0 → b ≡ true
-  unfolding must
-  must-zero true v e = refl
-  must-zero false v e = absurd (omega arith)
-
   pub is-0 : headFault t 0 w ≡ 0 → w ≡ 0x3F3
   unfolding pick
-  is-0 e = eqb-true w 0x3F3 (must-zero _ 31 e)
+  is-0 e = eqb-true w 0x3F3 (must-passed _ 31 e)
 
   pub is-1 : headFault t 1 w ≡ 0 → w ≡ 0
   unfolding pick
-  is-1 e = eqb-true w 0 (must-zero _ 32 e)
+  is-1 e = eqb-true w 0 (must-passed _ 32 e)
 
   pub is-2 : headFault t 2 w ≡ 0 → (1 ≤ w) × (w ≤ 64)
   unfolding pick
@@ -116,27 +111,22 @@ module _ (t w : ℕ) where
     where
       go : (b : Bool) → eqb w 0 ≡ b → pick b 32 (must (leb w 64) 32) ≡ 0 → (1 ≤ w) × (w ≤ 64)
       go true q x = absurd (omega arith)
-      go false q x = let z = eqb-false w 0 q in (omega (arith, z), leb-true w 64 (must-zero _ 31 x))
+      go false q x = let z = eqb-false w 0 q in (omega (arith, z), leb-true w 64 (must-passed _ 31 x))
 
   pub is-3 : headFault t 3 w ≡ 0 → w ≡ 0
   unfolding pick
-  is-3 e = eqb-true w 0 (must-zero _ 31 e)
+  is-3 e = eqb-true w 0 (must-passed _ 31 e)
 
   pub is-4 : headFault t 4 w ≡ 0 → w + 1 ≡ t
   unfolding pick
-  is-4 e = eqb-true (w + 1) t (must-zero _ 31 e)
+  is-4 e = eqb-true (w + 1) t (must-passed _ 31 e)
 
   pub is-size : (i : ℕ) → headFault t (5 + i) w ≡ 0 → w ≤ 65536
-  is-size i e = leb-true w 65536 (must-zero _ 33 (sym (size-test i) ∙ e))
+  is-size i e = leb-true w 65536 (must-passed _ 33 (sym (size-test i) ∙ e))
 
 judge-pass : (v at : ℕ) (r : Tested) → judge v at r ≡ Passed → (v ≡ 0) × (r ≡ Passed)
 judge-pass zero at r e = (refl, e)
 judge-pass (suc v) at r e = let z : _≡_ {A = ℕ} 0 1 = cc in absurd (omega arith)
-
-pick-pass : (b : Bool) (q : Refusal) (r : Tested) → pick b (Failed q) r ≡ Passed → (b ≡ false) × (r ≡ Passed)
-unfolding pick
-pick-pass true q r e = let z : _≡_ {A = ℕ} 0 1 = cc in absurd (omega arith)
-pick-pass false q r e = (refl, e)
 
 -- word j is there, and has no fault
 abbrev pub Fine : List ℕ → ℕ → Type 0
@@ -146,7 +136,7 @@ pub each-fine : (file : List ℕ) (n i : ℕ) → heads file i n ≡ Passed → 
 unfolding heads
 each-fine file zero i e j l h = absurd (omega arith)
 each-fine file (suc n) i e j l h =
-    let a = pick-pass (ltb (length file) (4 * i + 4)) _ _ e in
+    let a = pick-passed (ltb (length file) (4 * i + 4)) _ _ e in
     let b = judge-pass (headFault (totalOf file) i (wordAt file (4 * i))) (4 * i) _ (a .1) in
     go (decLt i j) (ltb-false (length file) (4 * i + 4) (a .0), b .0) (λ q. each-fine file n (i + 1) (b .1) j (omega arith) (omega arith))
   where

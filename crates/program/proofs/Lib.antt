@@ -1,5 +1,7 @@
 -- Laws of what specs/ defines, for this crate and those above it.
--- the header, word by word
+-- the header's words, and its tests both ways
+pub mod Heading
+-- the header in code, and what holds behind it
 pub mod Heads
 -- what holds while a file is read
 pub mod Sanes
@@ -9,9 +11,9 @@ pub mod Modes
 pub mod Walks
 -- passes over what a file asks for
 pub mod Passes
--- hunks written out are accepted; what is accepted is hunks written out; the header both ways
+-- hunks written out are accepted
 pub mod Taken
+-- what is accepted is hunks written out
 pub mod Traced
-pub mod Heading
 -- a program file is what the page says
 pub mod Pages

@@ -64,7 +64,7 @@ module _ (file : List ℕ) (hs : List Hunk) (p : Program hs) (even : length file
   head-length : length (headWords hs) ≡ 5 + length hs
   head-length = omega (arith, length-map hs (λ h. h .size))
 
-  is-total : totalOf file ≡ length hs
+  pub is-total : totalOf file ≡ length hs
   is-total = cut .first 2 (omega (arith, head-length))
 
   is-long : 20 + 4 * length hs ≤ length file
@@ -76,7 +76,7 @@ module _ (file : List ℕ) (hs : List Hunk) (p : Program hs) (even : length file
       let a : 20 + 4 * i ≡ 0 + 4 * suc (suc (suc (suc (suc i)))) = omega arith in
       rw a (cut .first (suc (suc (suc (suc (suc i))))) (omega (arith, head-length)))
 
-  all-sized : Sized (totalOf file) (sizeOf file) 0 hs
+  pub all-sized : Sized (totalOf file) (sizeOf file) 0 hs
   all-sized =
       sized-of (totalOf file) (sizeOf file) hs 0 (rw is-total (p .hunks)) (omega (arith, is-total))
       (λ i l. let a : 0 + i ≡ i = omega arith in rw a (is-sized i l))
@@ -105,7 +105,7 @@ module _ (file : List ℕ) (hs : List Hunk) (p : Program hs) (even : length file
           let a : 4 * (5 + i) ≡ 20 + 4 * i = omega arith in
           rw (d, a) (fault-size (totalOf file) (sizeOf file i) i (rw (is-sized i l) (small-sizes (length hs) hs i (p .hunks) l)))
 
-  rest-words : wordsAt file (startAt file) ((length file - startAt file) / 4) ≡ joined hunkWords hs
+  pub rest-words : wordsAt file (startAt file) ((length file - startAt file) / 4) ≡ joined hunkWords hs
   rest-words =
       let a : startAt file ≡ 0 + 4 * length (headWords hs) = omega (arith, is-total, head-length) in
       let b : (length file - startAt file) / 4 ≡ length file / 4 - length (headWords hs) = omega (arith, is-total, head-length) in

@@ -1,6 +1,6 @@
 -- A block passes its tests exactly if it is as the law of a volume says. Assumes nothing.
 use Prim.Native.Nat.{ℕ, zero, suc, _+_, _≤_, _<_}
-use mathlib.Core.Path.{_≡_, refl, sym, ap₂, _∙_}
+use mathlib.Core.Path.{_≡_, refl, sym, _∙_}
 use mathlib.Core.Logic.{_≢_, _⊎_, inl, inr, _↔_}
 use mathlib.Core.Bool.{Bool, true, false}
 use mathlib.Core.List.{List, [], _∷_, _++_}
@@ -10,7 +10,7 @@ use lib.Dec.{leb, eqb}
 use borrow.Author.Tests.{eq-eqb, ne-eqb, le-leb, eqb-true, eqb-false, leb-true, leb-false}
 use Rattle.answers.specs.Tests.{first}
 use Rattle.reach.specs.References.{At, _∈_}
-use Rattle.answers.proofs.Tests.{first-zero}
+use Rattle.answers.proofs.Tests.{first-zero, must-passed, must-passes, never-passed, never-passes}
 use Rattle.volume.specs.declared.disk.Disk.{Disk}
 use Rattle.answers.specs.Tests.{pick, must, never, tests}
 use Rattle.volume.specs.Disks.{rootOf, fileLimit}
@@ -22,26 +22,6 @@ use Rattle.volume.specs.Law.{Root, Entry, Lists, ListBlock, DataBlock}
 use Rattle.volume.specs.Rules.{rootRules, rootFault, allZero, mapRules, mapFault, bitmapFault, entryTypes, entryWords, entryName, entryFault, countRules, emptyRules, fileFault, listWords, listFault, dataWords, dataLinks, dataFault}
 
 -- ---- what a passed test says, and what makes it pass
-
-pub must-passed : (t : Bool) (v : ℕ) → must t (suc v) ≡ 0 → t ≡ true
-unfolding must
-must-passed true v e = refl
-must-passed false v e = absurd (omega arith)
-
-pub must-passes : (t : Bool) (v : ℕ) → t ≡ true → must t v ≡ 0
-unfolding must
-must-passes true v e = refl
-must-passes false v e = let z : _≡_ {A = ℕ} 0 1 = cc in absurd (omega arith)
-
-pub never-passed : (t : Bool) (v : ℕ) → never t (suc v) ≡ 0 → t ≡ false
-unfolding never
-never-passed true v e = absurd (omega arith)
-never-passed false v e = refl
-
-pub never-passes : (t : Bool) (v : ℕ) → t ≡ false → never t v ≡ 0
-unfolding never
-never-passes true v e = let z : _≡_ {A = ℕ} 0 1 = cc in absurd (omega arith)
-never-passes false v e = refl
 
 module _ (a b v : ℕ) where
   pub is : must (eqb a b) (suc v) ≡ 0 → a ≡ b

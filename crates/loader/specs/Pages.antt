@@ -1,0 +1,56 @@
+-- A load in the terms of the page: records, memory and targets of a list of hunks that stand end to end (the build paper, "The program file").
+use Prim.Native.Nat.{ℕ, _+_, _-_, _*_, _/_, _%_}
+use mathlib.Core.List.{List, [], _∷_, _++_, map}
+use lib.ListN.{length, replicate}
+use Rattle.words.specs.Word.{addAt}
+use Rattle.program.specs.Page.{Body, Group, Part, Hunk, code, stores, bss, relocation, symbols, debug, joined, storedWords}
+use Rattle.loader.specs.Memory.{amountOf}
+
+-- ---- records
+
+abbrev pub kindOf : Body → ℕ
+kindOf (code ws) = 0x3E9
+kindOf (stores ws) = 0x3EA
+kindOf (bss n) = 0x3EB
+
+-- kind, place, size and base of each hunk; the first stands at byte p and has number i
+abbrev pub recordNumbers : ℕ → ℕ → List Hunk → List ℕ → List ℕ
+recordNumbers p i [] bases = []
+recordNumbers p i (h ∷ hs) bases =
+    kindOf (h .body) ∷ p ∷ h .size ∷ amountOf bases i ∷ recordNumbers (p + 4 * h .size) (i + 1) hs bases
+
+-- ---- memory, with no amount added yet
+
+-- the highest byte first
+abbrev pub wordBytes : ℕ → List ℕ
+wordBytes w = w / 16777216 % 256 ∷ w / 65536 % 256 ∷ w / 256 % 256 ∷ w % 256 ∷ []
+
+-- the stored words, and zeros up to the size
+abbrev pub hunkBytes : Hunk → List ℕ
+hunkBytes h = joined wordBytes (storedWords (h .body)) ++ replicate (4 * (h .size - length (storedWords (h .body)))) 0
+
+abbrev pub imageOf : List Hunk → List ℕ
+imageOf hs = joined hunkBytes hs
+
+-- ---- targets: the place of a word in memory, and the hunk whose base it gets
+
+-- of a hunk at byte p
+abbrev pub groupTargets : ℕ → List Group → List (ℕ × ℕ)
+groupTargets p [] = []
+groupTargets p (g ∷ gs) = map (λ o. (p + o, g .hunk)) (g .offsets) ++ groupTargets p gs
+
+abbrev pub partTargets : ℕ → List Part → List (ℕ × ℕ)
+partTargets p [] = []
+partTargets p (relocation gs ∷ ps) = groupTargets p gs ++ partTargets p ps
+partTargets p (symbols us ∷ ps) = partTargets p ps
+partTargets p (debug ws ∷ ps) = partTargets p ps
+
+-- of all hunks, in file order; the first stands at byte p
+abbrev pub pageTargets : ℕ → List Hunk → List (ℕ × ℕ)
+pageTargets p [] = []
+pageTargets p (h ∷ hs) = partTargets p (h .parts) ++ pageTargets (p + 4 * h .size) hs
+
+-- each target gets its amount, one after the other
+unfoldable pub relocated : List ℕ → List (ℕ × ℕ) → (ℕ → ℕ) → List ℕ
+relocated m [] f = m
+relocated m (t ∷ ts) f = relocated (addAt m (t .0) (f (t .1))) ts f
