@@ -17,3 +17,5 @@ pub mod Taken
 pub mod Traced
 -- a program file is what the page says
 pub mod Pages
+-- what each refusal of the check says
+pub mod Refusing

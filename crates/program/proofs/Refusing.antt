@@ -1,0 +1,308 @@
+-- What each refusal of the check says of the file, and that it is given exactly then. Assumes nothing.
+use Prim.Native.Nat.{ℕ, zero, suc, _+_, _*_, _-_, _/_, _%_, _<_, _≤_}
+use mathlib.Core.Path.{_≡_, refl, sym, ap, subst, _∙_}
+use mathlib.Core.Logic.{_≢_, _⊎_, inl, inr}
+use mathlib.Core.List.{List}
+use mathlib.Core.Bool.{Bool, true, false}
+use native.Mathlib.Omega.{arith}
+use native.Mathlib.Decide.{decLt}
+use lib.Dec.{ltb, leb, eqb}
+use lib.ListN.{length}
+use borrow.Author.Tests.{eqb-true, eqb-false, ltb-true, ltb-false, leb-true, lt-ltb, le-ltb, eq-eqb, ne-eqb}
+use Rattle.words.specs.Word.{wordAt}
+use Rattle.answers.specs.Tests.{pick}
+use Rattle.answers.specs.Refusals.{refusal}
+use Rattle.answers.specs.declared.Refusal.{Refusal}
+use Rattle.answers.specs.declared.Tested.{Tested}
+use Rattle.answers.specs.declared.Tested.the-variants.{Passed, Failed}
+use Rattle.program.specs.declared.check.Answer.{Answer}
+use Rattle.program.specs.declared.check.Answer.the-variants.{Accepted, Refused}
+use Rattle.program.specs.declared.reader.Cursor.{Cursor}
+use Rattle.program.specs.declared.reader.Mode.{Mode}
+use Rattle.program.specs.declared.reader.Mode.the-variants.{Begin, NameLength, Body, Length, Stored, Part, Count, Number, Offset, Symbol, DebugLength, Skip, End}
+use Rattle.program.specs.declared.reader.Next.{Next}
+use Rattle.program.specs.declared.reader.Next.the-variants.{On, Bad}
+use Rattle.program.specs.Header.{totalOf, sizeOf, startAt, headFault, judge, heads}
+use Rattle.program.specs.Reader.{start, on, bodyOf, endOf, turn, stepOf}
+use Rattle.program.specs.Check.{no as nay, endedOf, restOf, walkOf, and, checkOf}
+use Rattle.program.proofs.Heading.{Fine, each-fine, heads-pass}
+use Rattle.program.proofs.Heads.{sound-header}
+use Rattle.program.proofs.Sanes.{pick-on}
+use Rattle.program.proofs.Walks.{Reads, reads-start, reads-on, walk-on, walk-bad, walk-end}
+
+-- ---- 30: a length of 0, or one that is no multiple of 4
+
+abbrev pub Unwhole : List ℕ → Type 0
+Unwhole file = (length file ≡ 0) ⊎ (length file % 4 ≢ 0)
+
+-- ---- 31 to 34 in the header: word j is the first that is missing or wrong
+
+-- one of the five words, or the size of one of the hunks
+abbrev pub OfHeader : List ℕ → ℕ → Type 0
+OfHeader file j = (j < 5) ⊎ ((5 ≤ j) × (j < 5 + totalOf file))
+
+pub record HeadWord (file : List ℕ) (f : Refusal) : Type 0 where
+  pub word : ℕ
+  pub within : OfHeader file word
+  pub before : (i : ℕ) → i < word → Fine file i
+  pub cause : ((length file < 4 * word + 4) × (f ≡ refusal 31 (length file))) ⊎ ((4 * word + 4 ≤ length file) × (headFault (totalOf file) word (wordAt file (4 * word)) ≢ 0) × (f ≡ refusal (headFault (totalOf file) word (wordAt file (4 * word))) (4 * word)))
+
+-- ---- 35 to 39: the reader comes to a word that it does not take
+
+pub record HunkWord (file : List ℕ) (f : Refusal) : Type 0 where
+  pub cursor : Cursor
+  pub at : ℕ
+  pub reads : Reads file cursor at
+  pub there : at < length file
+  pub number : ℕ
+  pub refuses : stepOf (totalOf file) (sizeOf file) cursor (wordAt file at) ≡ Bad number
+  pub said : f ≡ refusal number at
+
+-- ---- 31 behind the header: the words are over, and the last hunk has not ended
+
+pub record Missing (file : List ℕ) (f : Refusal) : Type 0 where
+  pub cursor : Cursor
+  pub reads : Reads file cursor (length file)
+  pub unended : cursor .mode ≢ End
+  pub said : f ≡ refusal 31 (length file)
+
+-- ---- the header
+
+failed-same : (r f : Refusal) → Failed r ≡ Failed f → f ≡ r
+failed-same r f e = cc
+
+passed-not : {X : Type 0} (f : Refusal) → Passed ≡ Failed f → X
+passed-not f e = let z : _≡_ {A = ℕ} 0 1 = cc in absurd (omega arith)
+
+fine-more : (file : List ℕ) (i : ℕ) → ((j : ℕ) → j < i → Fine file j) → Fine file i → (j : ℕ) → j < i + 1 → Fine file j
+fine-more file i b x j h = go (decLt j i)
+  where
+    go : Dec (j < i) → Fine file j
+    go (yes q) = b j q
+    go (no q) = let e : i ≡ j = omega arith in subst (Fine file) e x
+
+heads-why : (file : List ℕ) (f : Refusal) (n i : ℕ) → ((j : ℕ) → i ≤ j → j < i + n → OfHeader file j) → ((j : ℕ) → j < i → Fine file j) → heads file i n ≡ Failed f → HeadWord file f
+unfolding heads pick
+heads-why file f zero i w b e = passed-not f e
+heads-why file f (suc n) i w b e = long (ltb (length file) (4 * i + 4)) refl e (heads-why file f n (i + 1) (λ j l h. w j (omega arith) (omega arith)))
+  where
+    wrong : (v : ℕ) → headFault (totalOf file) i (wordAt file (4 * i)) ≡ v → 4 * i + 4 ≤ length file → judge v (4 * i) (heads file (i + 1) n) ≡ Failed f → (((j : ℕ) → j < i + 1 → Fine file j) → heads file (i + 1) n ≡ Failed f → HeadWord file f) → HeadWord file f
+    wrong zero q l x k = k (fine-more file i b (l, q)) x
+    wrong (suc v) q l x k =
+        record { word = i; within = w i (omega arith) (omega arith); before = b; cause = inr (l, (λ z. omega (arith, q, z)), failed-same _ f x ∙ ap (λ u. refusal u (4 * i)) (sym q)) }
+
+    long : (t : Bool) → ltb (length file) (4 * i + 4) ≡ t → pick t (Failed (refusal 31 (length file))) (judge (headFault (totalOf file) i (wordAt file (4 * i))) (4 * i) (heads file (i + 1) n)) ≡ Failed f → (((j : ℕ) → j < i + 1 → Fine file j) → heads file (i + 1) n ≡ Failed f → HeadWord file f) → HeadWord file f
+    long true q x k = record { word = i; within = w i (omega arith) (omega arith); before = b; cause = inl (ltb-true _ _ q, failed-same _ f x) }
+    long false q x k = wrong _ refl (ltb-false _ _ q) x k
+
+-- ---- the hunks
+
+refused-same : (r f : Refusal) → Refused r ≡ Refused f → f ≡ r
+refused-same r f e = cc
+
+accepted-not : {X : Type 0} (t n : ℕ) (f : Refusal) → Accepted t n ≡ Refused f → X
+accepted-not t n f e = let z : _≡_ {A = ℕ} 0 1 = cc in absurd (omega arith)
+
+on-bad : {X : Type 0} (d : Cursor) (v : ℕ) → On d ≡ Bad v → X
+on-bad d v e = let z : _≡_ {A = ℕ} 0 1 = cc in absurd (omega arith)
+
+ended-why : (file : List ℕ) (f : Refusal) (c : Cursor) (m : Mode) → endedOf (length file) c m ≡ Refused f → (m ≢ End) × (f ≡ refusal 31 (length file))
+ended-why file f c End e = accepted-not _ _ f e
+ended-why file f c Begin e = ((λ q. absurd (other q)), refused-same _ f e)
+  where
+    other : Begin ≡ End → ⊥
+    other q = let z : _≡_ {A = ℕ} 0 1 = cc in omega arith
+ended-why file f c NameLength e = ((λ q. let z : _≡_ {A = ℕ} 0 1 = cc in omega arith), refused-same _ f e)
+ended-why file f c Body e = ((λ q. let z : _≡_ {A = ℕ} 0 1 = cc in omega arith), refused-same _ f e)
+ended-why file f c (Length k) e = ((λ q. let z : _≡_ {A = ℕ} 0 1 = cc in omega arith), refused-same _ f e)
+ended-why file f c (Stored i) e = ((λ q. let z : _≡_ {A = ℕ} 0 1 = cc in omega arith), refused-same _ f e)
+ended-why file f c Part e = ((λ q. let z : _≡_ {A = ℕ} 0 1 = cc in omega arith), refused-same _ f e)
+ended-why file f c Count e = ((λ q. let z : _≡_ {A = ℕ} 0 1 = cc in omega arith), refused-same _ f e)
+ended-why file f c (Number n) e = ((λ q. let z : _≡_ {A = ℕ} 0 1 = cc in omega arith), refused-same _ f e)
+ended-why file f c (Offset n k) e = ((λ q. let z : _≡_ {A = ℕ} 0 1 = cc in omega arith), refused-same _ f e)
+ended-why file f c Symbol e = ((λ q. let z : _≡_ {A = ℕ} 0 1 = cc in omega arith), refused-same _ f e)
+ended-why file f c DebugLength e = ((λ q. let z : _≡_ {A = ℕ} 0 1 = cc in omega arith), refused-same _ f e)
+ended-why file f c (Skip n a) e = ((λ q. let z : _≡_ {A = ℕ} 0 1 = cc in omega arith), refused-same _ f e)
+
+module _ (file : List ℕ) (f : Refusal) (even : length file % 4 ≡ 0) where
+  -- n words are left
+  walk-why : (n at : ℕ) (c : Cursor) → length file ≡ at + 4 * n → Reads file c at → restOf file at c ≡ Refused f → HunkWord file f ⊎ Missing file f
+  walk-why zero at c l r e =
+      let q : at ≡ length file = omega arith in
+      let p = ended-why file f c (c .mode) (sym (walk-end file at c (omega arith)) ∙ e) in
+      inr (record { cursor = c; reads = subst (Reads file c) q r; unended = p .0; said = p .1 })
+  walk-why (suc n) at c l r e = go (stepOf (totalOf file) (sizeOf file) c (wordAt file at)) refl (walk-why n (at + 4))
+    where
+      h : at < length file
+      h = omega arith
+
+      go : (x : Next) → stepOf (totalOf file) (sizeOf file) c (wordAt file at) ≡ x → ((d : Cursor) → length file ≡ at + 4 + 4 * n → Reads file d (at + 4) → restOf file (at + 4) d ≡ Refused f → HunkWord file f ⊎ Missing file f) → HunkWord file f ⊎ Missing file f
+      go (On d) q k = k d (omega arith) (reads-on file c at (wordAt file at) _ d r even h refl refl q) (sym (walk-on file at c (wordAt file at) _ even (r .aligned) h refl refl d q) ∙ e)
+      go (Bad v) q k =
+          inl (record { cursor = c; at = at; reads = r; there = h; number = v; refuses = q; said = refused-same _ f (sym (walk-bad file at c (wordAt file at) _ even (r .aligned) h refl refl v q) ∙ e) })
+
+-- ---- the whole check
+
+-- the header has no fault
+pub record Headed (file : List ℕ) : Type 0 where
+  pub five : heads file 0 5 ≡ Passed
+  pub sized : heads file 5 (totalOf file) ≡ Passed
+
+abbrev pub Whole : List ℕ → Type 0
+Whole file = (length file ≢ 0) × (length file % 4 ≡ 0)
+
+abbrev pub Because : List ℕ → Refusal → Type 0
+Because file f = (Unwhole file × (f ≡ refusal 30 0)) ⊎ (Whole file × HeadWord file f) ⊎ (Whole file × Headed file × (HunkWord file f ⊎ Missing file f))
+
+module _ (file : List ℕ) (f : Refusal) where
+  all-why : Whole file → (a b : Tested) → heads file 0 5 ≡ a → heads file 5 (totalOf file) ≡ b → and a (and b (walkOf file)) ≡ Refused f → Because file f
+  all-why w (Failed r) b p q e = inr (inl (w, heads-why file f 5 0 (λ j l h. inl (omega arith)) (λ j h. absurd (omega arith)) (p ∙ ap Failed (sym (refused-same r f e)))))
+  all-why w Passed (Failed r) p q e = inr (inl (w, heads-why file f (totalOf file) 5 (λ j l h. inr (l, h)) (λ j h. each-fine file 5 0 p j (omega arith) h) (q ∙ ap Failed (sym (refused-same r f e)))))
+  all-why w Passed Passed p q e =
+      let s = sound-header file p q in
+      let even = w .1 in
+      let n = (length file - startAt file) / 4 in
+      inr (inr (w, record { five = p; sized = q }, walk-why file f even n (startAt file) start (omega (arith, s .long, even)) (reads-start file start (startAt file) (totalOf file) s refl refl refl) e))
+
+  -- the check refuses for one of these reasons
+  pub check-why : checkOf file ≡ Refused f → Because file f
+  unfolding checkOf pick
+  check-why e = empty (eqb (length file) 0) refl (eqb (length file % 4) 0) refl e
+    where
+      empty : (x : Bool) → eqb (length file) 0 ≡ x → (y : Bool) → eqb (length file % 4) 0 ≡ y → pick x (nay 30 0) (pick y (and (heads file 0 5) (and (heads file 5 (totalOf file)) (walkOf file))) (nay 30 0)) ≡ Refused f → Because file f
+      empty true p y q e = inl (inl (eqb-true _ _ p), refused-same _ f e)
+      empty false p false q e = inl (inr (eqb-false _ _ q), refused-same _ f e)
+      empty false p true q e = all-why (eqb-false _ _ p, eqb-true _ _ q) (heads file 0 5) (heads file 5 (totalOf file)) refl refl e
+
+-- ---- and each of these reasons gives that refusal
+
+module _ (file : List ℕ) (f : Refusal) where
+  heads-fail : (w : HeadWord file f) (n i : ℕ) → i ≤ w .word → w .word < i + n → heads file i n ≡ Failed f
+  unfolding heads pick judge
+  heads-fail w zero i l h = absurd (omega arith)
+  heads-fail w (suc n) i l h = go (decLt i (w .word)) (heads-fail w n (i + 1))
+    where
+      here : i ≡ w .word → ((length file < 4 * w .word + 4) × (f ≡ refusal 31 (length file))) ⊎ ((4 * w .word + 4 ≤ length file) × (headFault (totalOf file) (w .word) (wordAt file (4 * w .word)) ≢ 0) × (f ≡ refusal (headFault (totalOf file) (w .word) (wordAt file (4 * w .word))) (4 * w .word))) → heads file i (suc n) ≡ Failed f
+      here e (inl c) = rw (e, lt-ltb _ _ (c .0), c .1)
+      here e (inr c) = rw (e, le-ltb _ _ (c .0), c .2) (judged (headFault (totalOf file) (w .word) (wordAt file (4 * w .word))) (c .1))
+        where
+          judged : (v : ℕ) → v ≢ 0 → judge v (4 * w .word) (heads file (w .word + 1) n) ≡ Failed (refusal v (4 * w .word))
+          judged zero z = absurd (z refl)
+          judged (suc v) z = refl
+
+      go : Dec (i < w .word) → (i + 1 ≤ w .word → w .word < i + 1 + n → heads file (i + 1) n ≡ Failed f) → heads file i (suc n) ≡ Failed f
+      go (yes q) k = let x = w .before i q in rw (le-ltb _ _ (x .0), x .1) (k (omega arith) (omega arith))
+      go (no q) k = here (omega arith) (w .cause)
+
+  -- a reader that comes there refuses there
+  walk-refuses : Whole file → HunkWord file f ⊎ Missing file f → walkOf file ≡ Refused f
+  walk-refuses w (inl c) =
+      c .reads .rest ∙ walk-bad file (c .at) (c .cursor) (wordAt file (c .at)) _ (w .1) (c .reads .aligned) (c .there) refl refl (c .number) (c .refuses) ∙ ap Refused (sym (c .said))
+  walk-refuses w (inr c) =
+      c .reads .rest ∙ walk-end file (length file) (c .cursor) (omega arith) ∙ unended (c .cursor .mode) (c .unended) ∙ ap Refused (sym (c .said))
+    where
+      unended : (m : Mode) → m ≢ End → endedOf (length file) (c .cursor) m ≡ nay 31 (length file)
+      unended End h = absurd (h refl)
+      unended Begin h = refl
+      unended NameLength h = refl
+      unended Body h = refl
+      unended (Length k) h = refl
+      unended (Stored i) h = refl
+      unended Part h = refl
+      unended Count h = refl
+      unended (Number n) h = refl
+      unended (Offset n k) h = refl
+      unended Symbol h = refl
+      unended DebugLength h = refl
+      unended (Skip n a) h = refl
+
+  whole-check : Whole file → checkOf file ≡ and (heads file 0 5) (and (heads file 5 (totalOf file)) (walkOf file))
+  unfolding checkOf pick
+  whole-check w = rw (ne-eqb _ _ (w .0), eq-eqb _ _ (w .1))
+
+  head-refuses : (w : HeadWord file f) → OfHeader file (w .word) → and (heads file 0 5) (and (heads file 5 (totalOf file)) (walkOf file)) ≡ Refused f
+  head-refuses w (inl h) = rw (heads-fail w 5 0 (omega arith) (omega arith))
+  head-refuses w (inr h) =
+      let p : heads file 0 5 ≡ Passed = heads-pass file 5 0 (omega (arith, w .before 4 (omega (arith, h .0)) .0)) (λ j l q. w .before j (omega (arith, h .0)) .1) in
+      rw (p, heads-fail w (totalOf file) 5 (h .0) (h .1))
+
+  -- each is given exactly then
+  pub why-check : Because file f → checkOf file ≡ Refused f
+  unfolding checkOf pick
+  why-check (inl u) = short (u .0) ∙ ap Refused (sym (u .1))
+    where
+      short : Unwhole file → checkOf file ≡ nay 30 0
+      short (inl h) = rw (eq-eqb _ _ h)
+      short (inr h) = go (eqb (length file) 0)
+        where
+          go : (b : Bool) → pick b (nay 30 0) (pick (eqb (length file % 4) 0) (and (heads file 0 5) (and (heads file 5 (totalOf file)) (walkOf file))) (nay 30 0)) ≡ nay 30 0
+          go true = refl
+          go false = rw (ne-eqb _ _ h)
+  why-check (inr (inl c)) = whole-check (c .0) ∙ head-refuses (c .1) (c .1 .within)
+  why-check (inr (inr c)) = whole-check (c .0) ∙ rw (c .1 .five, c .1 .sized) (walk-refuses (c .0) (c .2))
+
+-- ---- what the number of a hunk's word says: by what the reader expects there
+
+abbrev pub Refuses : ℕ → (ℕ → ℕ) → Cursor → ℕ → ℕ → Mode → Type 0
+Refuses t size c w v Begin = (v ≡ 35) × (w ≢ 0x3E8) × (w ≢ 0x3E9) × (w ≢ 0x3EA) × (w ≢ 0x3EB)
+Refuses t size c w v Body = (v ≡ 35) × (w ≢ 0x3E9) × (w ≢ 0x3EA) × (w ≢ 0x3EB)
+Refuses t size c w v (Length k) = (v ≡ 36) × (size (c .hunk) < w)
+Refuses t size c w v Part = (v ≡ 35) × (w ≢ 0x3EC) × (w ≢ 0x3F0) × (w ≢ 0x3F1) × (w ≢ 0x3F2)
+Refuses t size c w v (Number n) = (v ≡ 38) × (t ≤ w)
+Refuses t size c w v (Offset n k) = (v ≡ 38) × ((w % 2 ≢ 0) ⊎ (4 * c .stored < w + 4))
+Refuses t size c w v Symbol = (v ≡ 37) × (0x1000000 ≤ w)
+Refuses t size c w v End = v ≡ 39
+Refuses t size c w v NameLength = ⊥
+Refuses t size c w v (Stored i) = ⊥
+Refuses t size c w v Count = ⊥
+Refuses t size c w v DebugLength = ⊥
+Refuses t size c w v (Skip n a) = ⊥
+
+bad-same : (a v : ℕ) → Bad a ≡ Bad v → v ≡ a
+bad-same a v e = cc
+
+module _ (t : ℕ) (size : ℕ → ℕ) (c : Cursor) (w v : ℕ) where
+  -- either way the reader goes on
+  both-on : {Q : Type 0} (b : Bool) (x y : Cursor) → pick b (On x) (On y) ≡ Bad v → Q
+  unfolding pick
+  both-on true x y e = on-bad x v e
+  both-on false x y e = on-bad y v e
+
+  body-why : bodyOf c w ≡ Bad v → (v ≡ 35) × (w ≢ 0x3E9) × (w ≢ 0x3EA) × (w ≢ 0x3EB)
+  body-why =
+      pick-on (eqb w 0x3E9) (on c (Length w)) _ (Bad v) (λ _. on-bad _ v)
+      (λ p. pick-on (eqb w 0x3EA) (on c (Length w)) _ (Bad v) (λ _. on-bad _ v)
+      (λ q. pick-on (eqb w 0x3EB) (on c (Length w)) (Bad 35) (Bad v) (λ _. on-bad _ v)
+      (λ r e. (bad-same 35 v e, eqb-false _ _ p, eqb-false _ _ q, eqb-false _ _ r))))
+
+  turn-why : (m : Mode) → turn t size c w m ≡ Bad v → Refuses t size c w v m
+  turn-why Begin =
+      pick-on (eqb w 0x3E8) (on c NameLength) (bodyOf c w) (Bad v) (λ _. on-bad _ v)
+      (λ p e. let b = body-why e in (b .0, eqb-false _ _ p, b .1, b .2, b .3))
+  turn-why NameLength = λ e. both-on (eqb w 0) _ _ e
+  turn-why Body = λ e. body-why e
+  turn-why (Length k) =
+      pick-on (ltb (size (c .hunk)) w) (Bad 36) _ (Bad v) (λ p e. (bad-same 36 v e, ltb-true _ _ p)) (λ p e. both-on _ _ _ e)
+  turn-why (Stored i) = λ e. both-on _ _ _ e
+  turn-why Part =
+      pick-on (eqb w 0x3EC) (on c Count) _ (Bad v) (λ _. on-bad _ v)
+      (λ p. pick-on (eqb w 0x3F0) (on c Symbol) _ (Bad v) (λ _. on-bad _ v)
+      (λ q. pick-on (eqb w 0x3F1) (on c DebugLength) _ (Bad v) (λ _. on-bad _ v)
+      (λ r. pick-on (eqb w 0x3F2) (endOf t size c) (Bad 35) (Bad v) (λ _. on-bad _ v)
+      (λ s e. (bad-same 35 v e, eqb-false _ _ p, eqb-false _ _ q, eqb-false _ _ r, eqb-false _ _ s)))))
+  turn-why Count = λ e. both-on _ _ _ e
+  turn-why (Number n) = pick-on (ltb w t) (on c (Offset n w)) (Bad 38) (Bad v) (λ _. on-bad _ v) (λ p e. (bad-same 38 v e, ltb-false _ _ p))
+  turn-why (Offset n k) =
+      pick-on (eqb (w % 2) 0) _ (Bad 38) (Bad v)
+      (λ _. pick-on (ltb (4 * c .stored) (w + 4)) (Bad 38) _ (Bad v) (λ p e. (bad-same 38 v e, inr (ltb-true _ _ p))) (λ p e. both-on _ _ _ e))
+      (λ p e. (bad-same 38 v e, inl (eqb-false _ _ p)))
+  turn-why Symbol =
+      pick-on (eqb w 0) (on c Part) _ (Bad v) (λ _. on-bad _ v)
+      (λ _. pick-on (leb 0x1000000 w) (Bad 37) _ (Bad v) (λ p e. (bad-same 37 v e, leb-true _ _ p)) (λ _. on-bad _ v))
+  turn-why DebugLength = λ e. both-on _ _ _ e
+  turn-why (Skip n a) = λ e. both-on _ _ _ e
+  turn-why End = λ e. bad-same 39 v e
+
+  pub step-why : stepOf t size c w ≡ Bad v → Refuses t size c w v (c .mode)
+  unfolding stepOf
+  step-why = turn-why (c .mode)
