@@ -21,7 +21,7 @@ use Rattle.program.specs.declared.reader.Mode.the-variants.{Begin, NameL
 use Rattle.program.specs.declared.reader.Next.{Next}
 use Rattle.program.specs.Header.{totalOf}
 use Rattle.program.specs.Reader.{turn, stepOf}
-use Rattle.program.specs.Check.{no, endedOf}
+use Rattle.program.specs.Check.{refuse, endedOf}
 use Rattle.program.specs.Acts.{asks, actOf}
 use Rattle.program.specs.Sane.{ModeFits, Sane}
 
@@ -69,7 +69,7 @@ rest-quiet c at w = go (c .mode)
 abbrev missing : List ℕ
 missing = 0 ∷ 1 ∷ 2 ∷ 3 ∷ 4 ∷ 5 ∷ 6 ∷ 7 ∷ 8 ∷ 9 ∷ 10 ∷ 11 ∷ []
 
-pub rest-open : (end : ℕ) (c : Cursor) (m : Mode) → OneOf missing (tagOf the-type m) → no 31 end ≡ endedOf end c m
+pub rest-open : (end : ℕ) (c : Cursor) (m : Mode) → OneOf missing (tagOf the-type m) → refuse 31 end ≡ endedOf end c m
 unfolding pick
 rest-open end c End h = absurd (none missing 12 tt h)
 rest-open end c Begin h = refl

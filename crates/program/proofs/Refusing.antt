@@ -24,7 +24,7 @@ use Rattle.program.specs.declared.reader.Next.{Next}
 use Rattle.program.specs.declared.reader.Next.the-variants.{On, Bad}
 use Rattle.program.specs.Header.{totalOf, sizeOf, startAt, headFault, judge, heads}
 use Rattle.program.specs.Reader.{start, on, bodyOf, endOf, turn, stepOf}
-use Rattle.program.specs.Check.{no as nay, endedOf, restOf, walkOf, and, checkOf}
+use Rattle.program.specs.Check.{refuse, endedOf, restOf, walkOf, and, checkOf}
 use Rattle.program.proofs.Heading.{Fine, each-fine, heads-pass}
 use Rattle.program.proofs.Heads.{sound-header}
 use Rattle.program.proofs.Sanes.{pick-on}
@@ -169,7 +169,7 @@ module _ (file : List ℕ) (f : Refusal) where
   unfolding checkOf pick
   check-why e = empty (eqb (length file) 0) refl (eqb (length file % 4) 0) refl e
     where
-      empty : (x : Bool) → eqb (length file) 0 ≡ x → (y : Bool) → eqb (length file % 4) 0 ≡ y → pick x (nay 30 0) (pick y (and (heads file 0 5) (and (heads file 5 (totalOf file)) (walkOf file))) (nay 30 0)) ≡ Refused f → Because file f
+      empty : (x : Bool) → eqb (length file) 0 ≡ x → (y : Bool) → eqb (length file % 4) 0 ≡ y → pick x (refuse 30 0) (pick y (and (heads file 0 5) (and (heads file 5 (totalOf file)) (walkOf file))) (refuse 30 0)) ≡ Refused f → Because file f
       empty true p y q e = inl (inl (eqb-true _ _ p), refused-same _ f e)
       empty false p false q e = inl (inr (eqb-false _ _ q), refused-same _ f e)
       empty false p true q e = all-why (eqb-false _ _ p, eqb-true _ _ q) (heads file 0 5) (heads file 5 (totalOf file)) refl refl e
@@ -201,7 +201,7 @@ module _ (file : List ℕ) (f : Refusal) where
   walk-refuses w (inr c) =
       c .reads .rest ∙ walk-end file (length file) (c .cursor) (omega arith) ∙ unended (c .cursor .mode) (c .unended) ∙ ap Refused (sym (c .said))
     where
-      unended : (m : Mode) → m ≢ End → endedOf (length file) (c .cursor) m ≡ nay 31 (length file)
+      unended : (m : Mode) → m ≢ End → endedOf (length file) (c .cursor) m ≡ refuse 31 (length file)
       unended End h = absurd (h refl)
       unended Begin h = refl
       unended NameLength h = refl
@@ -231,11 +231,11 @@ module _ (file : List ℕ) (f : Refusal) where
   unfolding checkOf pick
   why-check (inl u) = short (u .0) ∙ ap Refused (sym (u .1))
     where
-      short : Unwhole file → checkOf file ≡ nay 30 0
+      short : Unwhole file → checkOf file ≡ refuse 30 0
       short (inl h) = rw (eq-eqb _ _ h)
       short (inr h) = go (eqb (length file) 0)
         where
-          go : (b : Bool) → pick b (nay 30 0) (pick (eqb (length file % 4) 0) (and (heads file 0 5) (and (heads file 5 (totalOf file)) (walkOf file))) (nay 30 0)) ≡ nay 30 0
+          go : (b : Bool) → pick b (refuse 30 0) (pick (eqb (length file % 4) 0) (and (heads file 0 5) (and (heads file 5 (totalOf file)) (walkOf file))) (refuse 30 0)) ≡ refuse 30 0
           go true = refl
           go false = rw (ne-eqb _ _ h)
   why-check (inr (inl c)) = whole-check (c .0) ∙ head-refuses (c .1) (c .1 .within)

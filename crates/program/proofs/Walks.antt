@@ -17,7 +17,7 @@ use Rattle.program.specs.declared.reader.Next.{Next}
 use Rattle.program.specs.declared.reader.Next.the-variants.{On, Bad}
 use Rattle.program.specs.Header.{totalOf, sizeOf, heads}
 use Rattle.program.specs.Reader.{start, stepOf}
-use Rattle.program.specs.Check.{no, endedOf, walk, wordsFrom, restOf, walkOf, checkOf}
+use Rattle.program.specs.Check.{refuse, endedOf, walk, wordsFrom, restOf, walkOf, checkOf}
 use Rattle.program.specs.Sane.{Sound, Sane}
 use Rattle.program.proofs.Heads.{sound-header}
 use Rattle.program.proofs.Sanes.{start-sane, step-sane}
@@ -44,7 +44,7 @@ module _ (file : List ℕ) (at : ℕ) where
       unfolding walk
       walk-on d e = rw (words-next h k l, ← p, ← q, e)
 
-      pub walk-bad : (v : ℕ) → r ≡ Bad v → restOf file at c ≡ no v at
+      pub walk-bad : (v : ℕ) → r ≡ Bad v → restOf file at c ≡ refuse v at
       unfolding walk
       walk-bad v e = rw (words-next h k l, ← p, ← q, e)
 
@@ -76,12 +76,12 @@ reads-on file c at w r d i h l p q e =
 -- ---- the whole check
 
 module _ (file : List ℕ) where
-  pub check-empty : (r : Answer) → length file ≡ 0 → r ≡ no 30 0 → r ≡ checkOf file
+  pub check-empty : (r : Answer) → length file ≡ 0 → r ≡ refuse 30 0 → r ≡ checkOf file
   unfolding checkOf pick
   check-empty r h e = rw (eq-eqb _ _ h) e
 
   module _ (some : length file ≡ 0 → ⊥) where
-    pub check-odd : (r : Answer) → (length file % 4 ≡ 0 → ⊥) → r ≡ no 30 0 → r ≡ checkOf file
+    pub check-odd : (r : Answer) → (length file % 4 ≡ 0 → ⊥) → r ≡ refuse 30 0 → r ≡ checkOf file
     unfolding checkOf pick
     check-odd r h e = rw (ne-eqb _ _ some, ne-eqb _ _ h) e
 

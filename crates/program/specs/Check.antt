@@ -29,28 +29,28 @@ abbrev pub numbersOf : Answer → Numbers
 numbersOf (Accepted t n) = record { number = 0; place = 0; hunks = t; bytes = n }
 numbersOf (Refused r) = record { number = r .number; place = r .place; hunks = 0; bytes = 0 }
 
-abbrev pub no : ℕ → ℕ → Answer
-no v at = Refused (refusal v at)
+abbrev pub refuse : ℕ → ℕ → Answer
+refuse v at = Refused (refusal v at)
 
 -- the words are over, at the file's end: a word is missing unless the last hunk has ended
 abbrev pub endedOf : ℕ → Cursor → Mode → Answer
 endedOf end c End = Accepted (c .hunk) (c .place)
-endedOf end c Begin = no 31 end
-endedOf end c NameLength = no 31 end
-endedOf end c Body = no 31 end
-endedOf end c (Length k) = no 31 end
-endedOf end c (Stored i) = no 31 end
-endedOf end c Part = no 31 end
-endedOf end c Count = no 31 end
-endedOf end c (Number n) = no 31 end
-endedOf end c (Offset n k) = no 31 end
-endedOf end c Symbol = no 31 end
-endedOf end c DebugLength = no 31 end
-endedOf end c (Skip n a) = no 31 end
+endedOf end c Begin = refuse 31 end
+endedOf end c NameLength = refuse 31 end
+endedOf end c Body = refuse 31 end
+endedOf end c (Length k) = refuse 31 end
+endedOf end c (Stored i) = refuse 31 end
+endedOf end c Part = refuse 31 end
+endedOf end c Count = refuse 31 end
+endedOf end c (Number n) = refuse 31 end
+endedOf end c (Offset n k) = refuse 31 end
+endedOf end c Symbol = refuse 31 end
+endedOf end c DebugLength = refuse 31 end
+endedOf end c (Skip n a) = refuse 31 end
 
 abbrev pub next : Next → ℕ → (Cursor → Answer) → Answer
 next (On d) at f = f d
-next (Bad v) at f = no v at
+next (Bad v) at f = refuse v at
 
 -- the words that are left, the first of them at byte `at` of a file that ends at `end`
 unfoldable pub walk : ℕ → (ℕ → ℕ) → ℕ → ℕ → Cursor → List ℕ → Answer
@@ -76,5 +76,5 @@ and (Failed r) a = Refused r
 
 unfoldable pub checkOf : List ℕ → Answer
 checkOf file =
-    pick (eqb (length file) 0) (no 30 0)
-    (pick (eqb (length file % 4) 0) (and (heads file 0 5) (and (heads file 5 (totalOf file)) (walkOf file))) (no 30 0))
+    pick (eqb (length file) 0) (refuse 30 0)
+    (pick (eqb (length file % 4) 0) (and (heads file 0 5) (and (heads file 5 (totalOf file)) (walkOf file))) (refuse 30 0))

@@ -12,7 +12,7 @@ use answers::Tested;
 ghost use mathlib.Core.Path.{_≡_};
 ghost use Prim.Native.Nat.{_%_};
 ghost use lib.ListN.{length};
-ghost use Rattle.program.specs.Check.{no, endedOf, checkOf, walkOf};
+ghost use Rattle.program.specs.Check.{refuse, endedOf, checkOf, walkOf};
 ghost use Rattle.program.specs.Sane.{Sound};
 
 // What a check, a load and a move answer.
@@ -23,7 +23,7 @@ pub enum Answer {
 }
 
 pub fn refused(number: u32, place: usize) -> Answer
-    ensures { λ r. ⌜ r ≡ no number place ⌝ }
+    ensures { λ r. ⌜ r ≡ refuse number place ⌝ }
 {
     Answer::Refused(Refusal {
         number: number,
