@@ -5,27 +5,57 @@ use libc::STDOUT_FILENO;
 // How many bytes `io::buffer` has.
 const PIECE: u32 = 4096;
 
-// What is kept from one request to the next: the held image's length, and whether there may be another request.
+// What is kept from one request to the next: the lengths of the held image and of the held file, the bytes of memory and the records
+// that the last load was lent, and whether there may be another request.
 pub struct State {
     pub image: u32,
+    pub file: u32,
+    pub memory: u32,
+    pub records: u32,
     pub more: bool,
 }
 
-// Before the first request no image is held.
+// Before the first request nothing is held.
 pub fn start() -> State {
     State {
         image: 0,
+        file: 0,
+        memory: 0,
+        records: 0,
         more: true,
     }
 }
 
 impl State {
+    // An image of so many bytes is held now.
+    pub fn with_image(mut self, length: u32) -> State {
+        self.image = length;
+        self
+    }
+
+    // A file of so many bytes is held now.
+    pub fn with_file(mut self, length: u32) -> State {
+        self.file = length;
+        self
+    }
+
+    // A load was lent so many bytes of memory and so many records.
+    pub fn with_load(mut self, memory: u32, records: u32) -> State {
+        self.memory = memory;
+        self.records = records;
+        self
+    }
+
     // The input has ended.
-    pub fn ended(self) -> State {
-        State {
-            image: self.image,
-            more: false,
-        }
+    pub fn ended(mut self) -> State {
+        self.more = false;
+        self
+    }
+
+    // A bad request, whose body has been read.
+    pub fn bad(self) -> State {
+        bad_request();
+        self
     }
 
     // The input ended inside a request.
@@ -37,8 +67,7 @@ impl State {
     // A bad request, of whose body `length` bytes are still to be skipped.
     pub fn refused(self, length: u32) -> State {
         if skip(length) {
-            bad_request();
-            return self;
+            return self.bad();
         }
         self.broken()
     }

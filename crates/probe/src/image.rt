@@ -9,10 +9,7 @@ fn take(state: State, length: u32, part: &mut [u8]) -> State {
         io::write_all(STDOUT_FILENO, b"image ");
         io::print_decimal(STDOUT_FILENO, length as u64);
         io::write_all(STDOUT_FILENO, b"\n");
-        return State {
-            image: length,
-            more: true,
-        };
+        return state.with_image(length);
     }
     state.broken()
 }

@@ -1,7 +1,9 @@
 // Answers requests from standard input until it ends, a line for each. A request is eight bytes, its number and its body's length,
 // both big-endian, and then the body.
+mod checksum;
 mod frame;
 mod image;
+mod programs;
 
 use frame::Frame;
 use frame::State;
@@ -11,50 +13,108 @@ ghost use lib.ListN.{length};
 // The longest image that is taken.
 const IMAGE_ROOM: usize = 1802240;
 
+// The longest file that is taken.
+const FILE_ROOM: usize = 1048576;
+
+// The most memory, and the largest work area, that a program is lent.
+const AREA_ROOM: usize = 524288;
+
+// The numbers of the records that a program is lent at most: four for each of 80.
+const TABLE_ROOM: usize = 320;
+
 // The numbers of the requests.
 const IMAGE: u32 = 1;
 
 const PATCH: u32 = 2;
 
+const FILE: u32 = 6;
+
+const LOAD: u32 = 7;
+
+const MOVE: u32 = 8;
+
 // Reads the body of a request and answers it.
-fn answer(number: u32, length: u32, state: State, room: &mut [u8]) -> State {
+fn answer(
+    number: u32,
+    length: u32,
+    state: State,
+    image: &mut [u8],
+    file: &mut [u8],
+    memory: &mut [u8],
+    table: &mut [u32],
+    work: &mut [u8],
+) -> State {
     if number == IMAGE {
-        return image::image(length, state, room);
+        return image::image(length, state, image);
     }
     if number == PATCH {
-        return image::patch(length, state, room);
+        return image::patch(length, state, image);
+    }
+    if number == FILE {
+        return programs::file(length, state, file);
+    }
+    if number == LOAD {
+        return programs::call(false, length, state, file, memory, table, work);
+    }
+    if number == MOVE {
+        return programs::call(true, length, state, file, memory, table, work);
     }
     state.refused(length)
 }
 
 // Takes one request, if there is another.
-fn one(state: State, room: &mut [u8]) -> State {
+fn one(
+    state: State,
+    image: &mut [u8],
+    file: &mut [u8],
+    memory: &mut [u8],
+    table: &mut [u32],
+    work: &mut [u8],
+) -> State {
     let next = frame::next();
     match next {
-        Frame::Request(number, length) => answer(number, length, state, room),
+        Frame::Request(number, length) => {
+            answer(number, length, state, image, file, memory, table, work)
+        }
         Frame::Broken => state.broken(),
         Frame::End => state.ended(),
     }
 }
 
 // Takes one request after the other.
-fn all(room: &mut [u8]) {
+fn all(image: &mut [u8], file: &mut [u8], memory: &mut [u8], table: &mut [u32], work: &mut [u8]) {
     let mut state = frame::start();
     let mut turns = u64::MAX;
     while turns > 0 && state.more {
-        state = one(state, room);
+        state = one(state, image, file, memory, table, work);
         turns -= 1;
     }
 }
 
-// Room for an image. The `ensures` gives only its length, so that no proof computes the list.
-fn room() -> [u8; IMAGE_ROOM]
+// Rooms for an image, for a file, and for memory or a work area. The `ensures` gives only the length, so that no proof computes the list.
+fn image_room() -> [u8; IMAGE_ROOM]
     ensures { λ r. ⌜ 1802240 ≡ length r ⌝ }
 {
     [0; IMAGE_ROOM]
 }
 
+fn file_room() -> [u8; FILE_ROOM]
+    ensures { λ r. ⌜ 1048576 ≡ length r ⌝ }
+{
+    [0; FILE_ROOM]
+}
+
+fn area_room() -> [u8; AREA_ROOM]
+    ensures { λ r. ⌜ 524288 ≡ length r ⌝ }
+{
+    [0; AREA_ROOM]
+}
+
 fn main() {
-    let mut image = room();
-    all(&mut image);
+    let mut image = image_room();
+    let mut file = file_room();
+    let mut memory = area_room();
+    let mut work = area_room();
+    let mut table = [0u32; TABLE_ROOM];
+    all(&mut image, &mut file, &mut memory, &mut table, &mut work);
 }

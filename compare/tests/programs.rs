@@ -1,0 +1,694 @@
+//! Holds the program `probe` to the loader of this package: 6 takes a program file over, 7 loads it, 8 moves it.
+//!
+//! Every answer but those of the worked case comes from a [`Model`] of `probe`. Where the instrument's description
+//! leaves room, the model takes it like this:
+//!
+//! - What answers `bad request` changes nothing: the held file, memory, table and their lengths stay.
+//! - A load or move that is refused has been made all the same. Such a load fills the areas and sets their lengths.
+//! - A move may lend at most the memory and the records that the last load was lent, even after moves that were lent
+//!   less; what such a move was not lent keeps its bytes. Before any load both lengths are 0.
+//! - The work area of a move is lent anew and bound by its room alone, not by the last load.
+//! - Each list of bases may have 256 entries, so a move's two lists together 512.
+//! - A new file leaves memory and table alone.
+//! - A body that is not whole numbers is a bad request with 7 and 8.
+
+use std::collections::BTreeMap;
+
+use compare::bad_programs::{bad_bases, scratch, short_room, BASE_CAUSES, CAUSES};
+use compare::driver::{checksum, Batch};
+use compare::loader::{load, relocate, Lent, Loaded, RECORD};
+use compare::program::{Refusal, BSS, CODE, DATA, END, HEADER, RELOCATIONS};
+use compare::programs::{bytes, file, good_bases, good_program, worked_file, Room};
+use compare::rng::Rng;
+
+const FILE: u32 = 6;
+const LOAD: u32 = 7;
+const MOVE: u32 = 8;
+
+/// The longest file that `probe` takes.
+const FILE_ROOM: usize = 1_048_576;
+/// The most memory, and the largest work area, that it lends.
+const AREA_ROOM: usize = 524_288;
+/// The most records that it lends.
+const RECORDS: usize = 80;
+/// The most entries of a list of bases.
+const BASES: usize = 256;
+
+const BAD: &str = "bad request";
+
+/// What is in the areas before a load; the work area is filled before a move too.
+const MEMORY: u8 = 0x55;
+const TABLE: u32 = 0x5555_5555;
+const WORK: u8 = 0xAA;
+
+/// The largest room that `probe` lends.
+const MOST: Room = Room { memory: AREA_ROOM, records: RECORDS, work: AREA_ROOM };
+
+/// No room at all.
+const NONE: Room = Room { memory: 0, records: 0, work: 0 };
+
+/// Room for all small files of these tests.
+const SOME: Room = Room { memory: 100, records: 5, work: 100 };
+
+/// What `probe` remembers between requests.
+#[derive(Default)]
+struct Model {
+    file: Vec<u8>,
+    memory: Vec<u8>,
+    table: Vec<u32>,
+}
+
+/// The numbers of a body, if it is made of whole ones.
+fn numbers(body: &[u8]) -> Option<Vec<u32>> {
+    let whole = body.len().is_multiple_of(4);
+    let number = |four: &[u8]| four.iter().fold(0, |high, &low| high << 8 | u32::from(low));
+    whole.then(|| body.chunks(4).map(number).collect())
+}
+
+/// The room that the first three numbers ask for, if `most` has as much, and the other numbers.
+fn room(numbers: &[u32], most: Room) -> Option<(Room, &[u32])> {
+    let (&[memory, records, work], rest) = numbers.split_first_chunk()?;
+    let room = Room { memory: memory as usize, records: records as usize, work: work as usize };
+    let fits = room.memory <= most.memory && room.records <= most.records && room.work <= most.work;
+    fits.then_some((room, rest))
+}
+
+/// The line for a call that was made with these areas.
+fn line(verb: &str, result: Result<Loaded, Refusal>, memory: &[u8], table: &[u32], work: &[u8]) -> String {
+    let answer = match result {
+        Ok(Loaded { hunks, bytes }) => format!("{verb} {hunks} {bytes}"),
+        Err(Refusal { number, place }) => format!("refused {number} {place}"),
+    };
+    let [memory, table, work] = [checksum(memory), checksum(&bytes(table)), checksum(work)];
+    format!("{answer} memory {memory} table {table} work {work}")
+}
+
+impl Model {
+    fn answer(&mut self, number: u32, body: &[u8]) -> String {
+        let answer = match number {
+            FILE => self.take(body),
+            LOAD => numbers(body).and_then(|numbers| self.load(&numbers)),
+            MOVE => numbers(body).and_then(|numbers| self.relocate(&numbers)),
+            _ => None,
+        };
+        answer.unwrap_or(BAD.to_string())
+    }
+
+    fn take(&mut self, body: &[u8]) -> Option<String> {
+        if body.len() > FILE_ROOM {
+            return None;
+        }
+        self.file = body.to_vec();
+        Some(format!("file {}", body.len()))
+    }
+
+    fn load(&mut self, numbers: &[u32]) -> Option<String> {
+        let (room, bases) = room(numbers, MOST)?;
+        if bases.len() > BASES {
+            return None;
+        }
+        self.memory = vec![MEMORY; room.memory];
+        self.table = vec![TABLE; RECORD * room.records];
+        let mut work = vec![WORK; room.work];
+        let lent = Lent { memory: &mut self.memory, table: &mut self.table, work: &mut work };
+        let result = load(&self.file, bases, lent);
+        Some(line("loaded", result, &self.memory, &self.table, &work))
+    }
+
+    fn relocate(&mut self, numbers: &[u32]) -> Option<String> {
+        let held = Room { memory: self.memory.len(), records: self.table.len() / RECORD, ..MOST };
+        let (room, lists) = room(numbers, held)?;
+        let (&count, lists) = lists.split_first()?;
+        let (old, new) = lists.split_at_checked(count as usize)?;
+        if old.len() > BASES || new.len() > BASES {
+            return None;
+        }
+        let memory = &mut self.memory[..room.memory];
+        let table = &mut self.table[..RECORD * room.records];
+        let mut work = vec![WORK; room.work];
+        let result = relocate(&self.file, old, new, Lent { memory, table, work: &mut work });
+        Some(line("moved", result, &self.memory[..room.memory], &self.table[..RECORD * room.records], &work))
+    }
+}
+
+/// How often each kind of answer is due.
+#[derive(Default)]
+struct Tally {
+    calls: usize,
+    loaded: usize,
+    moved: usize,
+    refused: BTreeMap<u32, usize>,
+    bad: usize,
+}
+
+impl Tally {
+    fn count(&mut self, answer: &str) {
+        let mut words = answer.split(' ');
+        let verb = words.next().expect("an answer");
+        self.calls += usize::from(verb != "file" && verb != "bad");
+        match verb {
+            "loaded" => self.loaded += 1,
+            "moved" => self.moved += 1,
+            "bad" => self.bad += 1,
+            "refused" => {
+                let number = words.next().and_then(|word| word.parse().ok()).expect("a number");
+                *self.refused.entry(number).or_default() += 1;
+            }
+            _ => {}
+        }
+    }
+}
+
+/// Requests for one run of `probe`, with the answers that the model gives.
+struct Session {
+    model: Model,
+    batch: Batch,
+    tally: Tally,
+    about: String,
+}
+
+/// The body of a load.
+fn load_body(room: Room, bases: &[u32]) -> Vec<u8> {
+    bytes(&[&[room.memory as u32, room.records as u32, room.work as u32], bases].concat())
+}
+
+/// The body of a move.
+fn move_body(room: Room, old: &[u32], new: &[u32]) -> Vec<u8> {
+    let numbers = [room.memory as u32, room.records as u32, room.work as u32, old.len() as u32];
+    bytes(&[&numbers, old, new].concat())
+}
+
+impl Session {
+    fn new() -> Session {
+        Session { model: Model::default(), batch: Batch::new(), tally: Tally::default(), about: "at first".into() }
+    }
+
+    /// Says what the next requests are about.
+    fn about(&mut self, about: impl Into<String>) {
+        self.about = about.into();
+    }
+
+    fn ask(&mut self, number: u32, body: &[u8]) -> String {
+        let answer = self.model.answer(number, body);
+        self.tally.count(&answer);
+        self.batch.ask_about(&self.about, number, body, &answer);
+        answer
+    }
+
+    /// A request of which the answer's beginning is known beforehand, and not only by the model.
+    fn expect(&mut self, number: u32, body: &[u8], beginning: &str) {
+        let answer = self.ask(number, body);
+        assert!(answer.starts_with(beginning), "{}: {answer:?}, not {beginning:?}", self.about);
+    }
+
+    fn file(&mut self, bytes: &[u8]) {
+        self.ask(FILE, bytes);
+    }
+
+    fn load(&mut self, room: Room, bases: &[u32]) -> String {
+        self.ask(LOAD, &load_body(room, bases))
+    }
+
+    fn relocate(&mut self, room: Room, old: &[u32], new: &[u32]) -> String {
+        self.ask(MOVE, &move_body(room, old, new))
+    }
+
+    /// A request that has to be turned away, and then one that shows memory, table and file to be the old ones: a move
+    /// that stays where it is.
+    fn turned_away(&mut self, number: u32, body: &[u8], bases: &[u32]) {
+        self.expect(number, body, BAD);
+        let held = Room { memory: self.model.memory.len(), records: self.model.table.len() / RECORD, work: 100 };
+        self.relocate(held, bases, bases);
+    }
+
+    fn run(self) {
+        self.batch.compare("probe");
+    }
+}
+
+/// The checksums of areas that hold these words and bytes, in the form of an answer.
+fn sums(memory: &[u8], table: &[u32], work: &[u8]) -> String {
+    format!("memory {} table {} work {}", checksum(memory), checksum(&bytes(table)), checksum(work))
+}
+
+const WORKED_BASES: [u32; 2] = [0x3000, 0x7000];
+
+/// The build paper's own case (section "Worked cases"), without the model.
+#[test]
+fn the_worked_case() {
+    let first = [0x0000_3008, 0x123C_00FF, 0x7001_4E71, 0x4EB9_0000, 0x7006_2239, 0x0000_7008];
+    let second = [0x2A3C_AAAA, 0xAAAA_4E71, 0x7201_4EF9, 0x0000_300A];
+    let loaded = [&first[..], &second].concat();
+    let first = [0x0000_4008, 0x123C_00FF, 0x7001_4E71, 0x4EB9_0000, 0x9006_2239, 0x0000_9008];
+    let second = [0x2A3C_AAAA, 0xAAAA_4E71, 0x7201_4EF9, 0x0000_400A];
+    let moved = [&first[..], &second].concat();
+    let memory = |words: &[u32]| [bytes(words), vec![MEMORY; 6]].concat();
+    let table = |bases: [u32; 2]| [0x3E9, 0, 6, bases[0], 0x3E9, 24, 4, bases[1], TABLE, TABLE, TABLE, TABLE];
+    let at_first = sums(&memory(&loaded), &table(WORKED_BASES), &[0; 41]);
+    let at_last = sums(&memory(&moved), &table([0x4000, 0x9000]), &[0; 41]);
+    let untouched = sums(&[MEMORY; 39], &[TABLE; 12], &[0; 41]);
+    let room = Room { memory: 46, records: 3, work: 41 };
+
+    let mut batch = Batch::new();
+    batch.ask(FILE, &worked_file(), "file 148");
+    batch.ask(LOAD, &load_body(room, &WORKED_BASES), &format!("loaded 2 40 {at_first}"));
+    let there = move_body(room, &WORKED_BASES, &[0x4000, 0x9000]);
+    batch.ask(MOVE, &there, &format!("moved 2 40 {at_last}"));
+    let wrong = move_body(room, &WORKED_BASES, &[0x4000, 0x4000]);
+    batch.ask(MOVE, &wrong, &format!("refused 40 3 {at_last}"));
+    let back = move_body(room, &[0x4000, 0x9000], &WORKED_BASES);
+    batch.ask(MOVE, &back, &format!("moved 2 40 {at_first}"));
+    let short = load_body(Room { memory: 39, ..room }, &WORKED_BASES);
+    batch.ask(LOAD, &short, &format!("refused 41 0 {untouched}"));
+    batch.compare("probe");
+}
+
+#[test]
+fn a_sum_wraps() {
+    let words = [HEADER, 0, 1, 0, 0, 1, DATA, 1, u32::MAX, RELOCATIONS, 1, 0, 0, 0, END];
+    let mut batch = Batch::new();
+    batch.ask(FILE, &bytes(&words), "file 60");
+    let room = Room { memory: 4, records: 1, work: 4 };
+    let loaded = sums(&bytes(&[3]), &[0x3EA, 0, 1, 4], &[0; 4]);
+    batch.ask(LOAD, &load_body(room, &[4]), &format!("loaded 1 4 {loaded}"));
+    let moved = sums(&bytes(&[0xFFFF_FFFB]), &[0x3EA, 0, 1, 0xFFFF_FFFC], &[0; 4]);
+    batch.ask(MOVE, &move_body(room, &[4], &[0xFFFF_FFFC]), &format!("moved 1 4 {moved}"));
+    batch.compare("probe");
+}
+
+#[test]
+fn before_any_file_its_length_is_zero() {
+    let mut session = Session::new();
+    session.about("before any load");
+    session.expect(MOVE, &move_body(NONE, &[], &[]), "refused 30 0 ");
+    session.expect(MOVE, &move_body(Room { work: 9, ..NONE }, &[4], &[8]), "refused 30 0 ");
+    session.expect(MOVE, &move_body(Room { memory: 1, ..NONE }, &[4], &[8]), BAD);
+    session.expect(MOVE, &move_body(Room { records: 1, ..NONE }, &[4], &[8]), BAD);
+    session.about("before any file");
+    session.expect(LOAD, &load_body(SOME, &[4, 8]), "refused 30 0 ");
+    session.expect(MOVE, &move_body(SOME, &[4], &[8]), "refused 30 0 ");
+    session.expect(LOAD, &load_body(NONE, &[]), "refused 30 0 memory 0 table 0 work 0");
+    session.about("no bytes as a file");
+    session.file(&worked_file());
+    session.expect(LOAD, &load_body(SOME, &WORKED_BASES), "loaded 2 40 ");
+    session.file(&[]);
+    session.expect(LOAD, &load_body(SOME, &WORKED_BASES), "refused 30 0 ");
+    session.run();
+}
+
+/// A file of so many words: one hunk of one word, the rest debug words.
+fn long_file(words: usize) -> Vec<u8> {
+    let mut file = vec![HEADER, 0, 1, 0, 0, 1, CODE, 1, 77, RELOCATIONS, 1, 0, 0, 0, 0x3F1];
+    file.push((words - file.len() - 2) as u32);
+    file.resize(words - 1, 0xC5C5_C5C5);
+    file.push(END);
+    bytes(&file)
+}
+
+#[test]
+fn files_of_every_length_up_to_the_room() {
+    let mut session = Session::new();
+    for length in [0, 1, 2, 3, 4, 147, 148, 149, 5_000, FILE_ROOM - 1, FILE_ROOM] {
+        session.about(format!("{length} bytes"));
+        session.expect(FILE, &vec![0; length], &format!("file {length}"));
+        let number = if length == 0 || length % 4 != 0 { 30 } else { 32 };
+        session.expect(LOAD, &load_body(SOME, &[0]), &format!("refused {number} 0 "));
+    }
+    session.about("a good file as long as the room");
+    let longest = long_file(FILE_ROOM / 4);
+    assert_eq!(longest.len(), FILE_ROOM);
+    session.file(&longest);
+    session.expect(LOAD, &load_body(SOME, &[0x1000]), "loaded 1 4 ");
+    session.about("the last word of the longest file missing");
+    session.file(&longest[..FILE_ROOM - 4]);
+    session.expect(LOAD, &load_body(SOME, &[0x1000]), "refused 31 1048572 ");
+    session.about("files over the room");
+    session.file(&worked_file());
+    session.load(SOME, &WORKED_BASES);
+    session.turned_away(FILE, &vec![0; FILE_ROOM + 1], &WORKED_BASES);
+    session.turned_away(FILE, &vec![0; FILE_ROOM + 4], &WORKED_BASES);
+    session.expect(LOAD, &load_body(SOME, &WORKED_BASES), "loaded 2 40 ");
+    session.run();
+}
+
+#[test]
+fn lengths_above_the_room_are_bad() {
+    let mut session = Session::new();
+    session.file(&worked_file());
+    session.load(SOME, &WORKED_BASES);
+    let above = [
+        Room { memory: AREA_ROOM + 1, ..SOME },
+        Room { records: RECORDS + 1, ..SOME },
+        Room { work: AREA_ROOM + 1, ..SOME },
+        Room { memory: 1 << 31, ..SOME },
+        Room { records: 1 << 28, ..SOME },
+        Room { records: 1 << 30, ..SOME },
+        Room { work: 0xFFFF_FFFF, ..SOME },
+        Room { memory: 0xFFFF_FFFF, records: 0xFFFF_FFFF, work: 0xFFFF_FFFF },
+    ];
+    for room in above {
+        session.about(format!("{room:?}"));
+        session.turned_away(LOAD, &load_body(room, &WORKED_BASES), &WORKED_BASES);
+        session.turned_away(MOVE, &move_body(room, &WORKED_BASES, &WORKED_BASES), &WORKED_BASES);
+    }
+    for room in [
+        Room { memory: AREA_ROOM, ..SOME },
+        Room { records: RECORDS, ..SOME },
+        Room { work: AREA_ROOM, ..SOME },
+        MOST,
+    ] {
+        session.about(format!("{room:?}"));
+        session.expect(LOAD, &load_body(room, &WORKED_BASES), "loaded 2 40 ");
+        session.expect(MOVE, &move_body(room, &WORKED_BASES, &[0, 0x100]), "moved 2 40 ");
+    }
+    session.run();
+}
+
+#[test]
+fn a_move_has_at_most_the_room_of_the_last_load() {
+    let mut session = Session::new();
+    session.file(&worked_file());
+    session.load(SOME, &WORKED_BASES);
+    let there = |room| move_body(room, &WORKED_BASES, &WORKED_BASES);
+    session.about("one more than the last load");
+    session.turned_away(MOVE, &there(Room { memory: SOME.memory + 1, ..SOME }), &WORKED_BASES);
+    session.turned_away(MOVE, &there(Room { records: SOME.records + 1, ..SOME }), &WORKED_BASES);
+    session.about("more work area than the last load");
+    session.expect(MOVE, &there(Room { work: SOME.work + 1, ..SOME }), "moved 2 40 ");
+    session.about("less than the last load");
+    let less = Room { memory: 40, records: 2, work: 40 };
+    session.expect(MOVE, &move_body(less, &WORKED_BASES, &[0, 0x1000]), "moved 2 40 ");
+    session.expect(MOVE, &move_body(Room { memory: 39, ..less }, &[0, 0x1000], &[4, 0x1000]), "refused 41 0 ");
+    session.expect(MOVE, &move_body(Room { records: 1, ..less }, &[0, 0x1000], &[4, 0x1000]), "refused 41 0 ");
+    session.expect(MOVE, &move_body(NONE, &[0, 0x1000], &[4, 0x1000]), "refused 41 0 memory 0 table 0 work 0");
+    session.about("as much as the last load, after moves with less");
+    session.expect(MOVE, &move_body(SOME, &[0, 0x1000], &[0x2000, 0]), "moved 2 40 ");
+    session.about("a refused load counts");
+    session.expect(LOAD, &load_body(Room { memory: 39, ..SOME }, &WORKED_BASES), "refused 41 0 ");
+    session.expect(MOVE, &move_body(Room { memory: 40, ..SOME }, &WORKED_BASES, &[0, 0x1000]), BAD);
+    session.expect(MOVE, &move_body(Room { memory: 39, ..SOME }, &WORKED_BASES, &[0, 0x1000]), "refused 41 0 ");
+    session.about("a bad request does not");
+    session.expect(LOAD, &load_body(SOME, &WORKED_BASES), "loaded 2 40 ");
+    session.expect(LOAD, &load_body(Room { memory: 50, records: 81, work: 50 }, &WORKED_BASES), BAD);
+    session.expect(MOVE, &move_body(SOME, &WORKED_BASES, &[0, 0x1000]), "moved 2 40 ");
+    session.run();
+}
+
+#[test]
+fn lists_of_bases_have_their_room() {
+    let mut session = Session::new();
+    let list = |count: usize| vec![0x40; count];
+    session.file(&worked_file());
+    session.load(SOME, &WORKED_BASES);
+    session.about("long lists");
+    for count in [BASES + 1, BASES + 2, 300, 1_000, 70_000] {
+        session.turned_away(LOAD, &load_body(SOME, &list(count)), &WORKED_BASES);
+        session.turned_away(MOVE, &move_body(SOME, &list(count), &WORKED_BASES), &WORKED_BASES);
+        session.turned_away(MOVE, &move_body(SOME, &WORKED_BASES, &list(count)), &WORKED_BASES);
+        session.turned_away(MOVE, &move_body(SOME, &list(count), &list(count)), &WORKED_BASES);
+    }
+    session.about("lists as long as the room");
+    session.expect(MOVE, &move_body(SOME, &list(BASES), &WORKED_BASES), "refused 40 0 ");
+    session.expect(MOVE, &move_body(SOME, &WORKED_BASES, &list(BASES)), "refused 40 2 ");
+    session.expect(MOVE, &move_body(SOME, &list(BASES), &list(BASES)), "refused 40 0 ");
+    session.expect(LOAD, &load_body(SOME, &list(BASES)), "refused 40 0 ");
+    session.about("no bases");
+    session.expect(LOAD, &load_body(SOME, &[]), "refused 40 0 ");
+    session.expect(MOVE, &move_body(SOME, &[], &[]), "refused 40 0 ");
+    session.expect(MOVE, &move_body(SOME, &WORKED_BASES, &[]), "refused 40 2 ");
+    session.run();
+}
+
+#[test]
+fn the_count_of_old_bases_splits_the_lists() {
+    let mut session = Session::new();
+    session.file(&worked_file());
+    session.load(SOME, &WORKED_BASES);
+    let body = |count: u32, bases: &[u32]| bytes(&[&[100, 5, 100, count], bases].concat());
+    session.about("a count above the numbers that follow");
+    for count in [5, 6, 256, 257, 0x4000_0000, 0x4000_0002, 0x8000_0002, u32::MAX] {
+        session.turned_away(MOVE, &body(count, &[0x3000, 0x7000, 0x4000, 0x9000]), &WORKED_BASES);
+    }
+    session.turned_away(MOVE, &body(1, &[]), &WORKED_BASES);
+    session.about("a count within the numbers that follow");
+    for (count, answer) in [(0, "refused 40 0 "), (1, "refused 40 0 "), (3, "refused 40 0 "), (4, "refused 40 0 ")]
+    {
+        session.expect(MOVE, &body(count, &[0x3000, 0x7000, 0x4000, 0x9000]), answer);
+    }
+    session.expect(MOVE, &body(2, &[0x3000, 0x7000]), "refused 40 2 ");
+    session.expect(MOVE, &body(2, &[0x3000, 0x7000, 0x4000]), "refused 40 2 ");
+    session.expect(MOVE, &body(2, &[0x3000, 0x7000, 0x4000, 0x9000]), "moved 2 40 ");
+    session.run();
+}
+
+#[test]
+fn bodies_that_lack_something_are_bad() {
+    let mut session = Session::new();
+    session.file(&worked_file());
+    session.load(SOME, &WORKED_BASES);
+    let (load, there) = (load_body(SOME, &WORKED_BASES), move_body(SOME, &WORKED_BASES, &[0, 0x1000]));
+    for length in 0..load.len() {
+        session.about(format!("{length} bytes"));
+        if length < 12 || length % 4 != 0 {
+            session.turned_away(LOAD, &load[..length], &WORKED_BASES);
+        }
+    }
+    for length in 0..there.len() {
+        session.about(format!("{length} bytes"));
+        // the count of old bases is the fourth number, and two are due
+        if length < 24 || length % 4 != 0 {
+            session.turned_away(MOVE, &there[..length], &WORKED_BASES);
+        }
+    }
+    session.about("whole numbers");
+    session.expect(MOVE, &there[..24], "refused 40 2 ");
+    session.expect(MOVE, &there, "moved 2 40 ");
+    session.expect(LOAD, &load[..12], "refused 40 0 ");
+    session.expect(LOAD, &load, "loaded 2 40 ");
+    session.run();
+}
+
+#[test]
+fn input_that_ends_inside_a_request() {
+    let (load, there) = (load_body(SOME, &WORKED_BASES), move_body(SOME, &WORKED_BASES, &[0, 0x1000]));
+    let frame = |number: u32, length: usize, body: &[u8]| {
+        [&number.to_be_bytes()[..], &(length as u32).to_be_bytes(), body].concat()
+    };
+    for broken in [
+        frame(FILE, 148, &worked_file()[..147]),
+        frame(FILE, 1, &[]),
+        frame(FILE, FILE_ROOM, &[0; 1_000]),
+        frame(FILE, FILE_ROOM + 1, &[0; 1_000]),
+        frame(LOAD, load.len(), &load[..load.len() - 1]),
+        frame(LOAD, load.len(), &load[..12]),
+        frame(LOAD, 5_000, &load),
+        frame(MOVE, there.len(), &there[..there.len() - 4]),
+        frame(MOVE, there.len(), &[]),
+        frame(MOVE, 0xFFFF_FFFC, &there),
+    ] {
+        let mut session = Session::new();
+        session.file(&worked_file());
+        session.load(SOME, &WORKED_BASES);
+        session.batch.break_off(&broken, BAD);
+        session.run();
+    }
+}
+
+/// Two hunks of the largest size fill the memory to its last byte; targets lie at all ends.
+#[test]
+fn the_largest_program_that_fits() {
+    let words = 65_536;
+    let mut rng = Rng::new(50);
+    let hunk = |rng: &mut Rng, kind: u32| {
+        let stored: Vec<u32> = (0..words).map(|_| rng.draw() as u32).collect();
+        let last = 4 * words - 4;
+        let offsets = [RELOCATIONS, 3, 1, last, 0, 6, 1, 0, last - 4, 0];
+        [&[kind, words], &stored[..], &offsets, &[END]].concat()
+    };
+    let hunks = [hunk(&mut rng, CODE), hunk(&mut rng, DATA)].concat();
+    let file = bytes(&[&[HEADER, 0, 2, 0, 1, words, words], &hunks[..]].concat());
+    let (old, new) = ([0xFFFC_0000, 0xFFF8_0000], [0, 0x0004_0000]);
+    let mut session = Session::new();
+    session.file(&file);
+    session.expect(LOAD, &load_body(MOST, &old), "loaded 2 524288 ");
+    session.expect(MOVE, &move_body(MOST, &old, &new), "moved 2 524288 ");
+    session.expect(LOAD, &load_body(MOST, &new), "loaded 2 524288 ");
+    for room in
+        [Room { memory: AREA_ROOM - 1, ..MOST }, Room { records: 1, ..MOST }, Room { work: AREA_ROOM - 1, ..MOST }]
+    {
+        session.expect(MOVE, &move_body(room, &new, &old), "refused 41 0 ");
+        session.expect(LOAD, &load_body(room, &new), "refused 41 0 ");
+        session.load(MOST, &new);
+    }
+    session.expect(LOAD, &load_body(MOST, &[0, 0x0003_FFFC]), "refused 40 1 ");
+    session.expect(LOAD, &load_body(MOST, &[0xFFFC_0004, 0]), "refused 40 0 ");
+    session.run();
+}
+
+/// 64 hunks of the largest size take 16 MiB, which is more than `probe` lends.
+#[test]
+fn the_largest_program_of_all() {
+    let file = bytes(&[&[HEADER, 0, 64, 0, 63], &[65_536; 64][..], &[BSS, 65_536, END].repeat(64)].concat());
+    let bases = |step: u32| (0..64).map(|index| index * step).collect::<Vec<u32>>();
+    let mut session = Session::new();
+    session.file(&file);
+    session.expect(LOAD, &load_body(MOST, &bases(0x0004_0000)), "refused 41 0 ");
+    session.expect(MOVE, &move_body(MOST, &bases(0x0004_0000), &bases(0x0004_0004)), "refused 41 0 ");
+    session.expect(LOAD, &load_body(MOST, &bases(0x0003_FFFC)), "refused 40 1 ");
+    session.expect(MOVE, &move_body(MOST, &bases(0x0004_0000), &bases(0x0003_FFFC)), "refused 40 65 ");
+    session.run();
+}
+
+/// Every cause of a fault in the file, and of 42, met by a load and by a move.
+fn bad_files(session: &mut Session, rng: &mut Rng) {
+    for cause in CAUSES {
+        for _ in 0..5 {
+            let bad = cause.file(rng);
+            let (old, new) = (good_bases(rng, &bad.sizes), good_bases(rng, &bad.sizes));
+            let needed = Room::needed(&bad.sizes);
+            let room = needed.widened(rng);
+            let due = format!("refused {} {} ", bad.due.number, bad.due.place);
+            session.about(format!("{} by {}, {} bytes", cause.number, cause.what, bad.bytes.len()));
+            session.file(&bad.bytes);
+            session.expect(LOAD, &load_body(room, &old), &due);
+            session.expect(MOVE, &move_body(room, &old, &new), &due);
+            if cause.number != 42 {
+                // faults of the file come before those of bases and room
+                let (bases, _) = bad_bases(rng, &bad.sizes);
+                let short = short_room(rng, needed);
+                session.expect(LOAD, &load_body(short, &bases), &due);
+            }
+        }
+    }
+}
+
+/// A good program: loaded and moved around, then refused for its bases and for its room.
+fn good_files(session: &mut Session, rng: &mut Rng) {
+    for _ in 0..550 {
+        let program = good_program(rng);
+        let (sizes, bytes) = (program.sizes(), file(&program.written()));
+        let [a, b, c] = [(); 3].map(|()| good_bases(rng, &sizes));
+        let needed = Room::needed(&sizes);
+        let room = needed.widened(rng);
+        let accepted = format!("{} {} ", sizes.len(), needed.memory);
+        session.about(format!("a good program of {} hunks", sizes.len()));
+        session.file(&bytes);
+
+        // load at A, move to B, to C and back to A: as it was; and at C as if it had been loaded there
+        let moved = format!("moved {accepted}");
+        let at_a = session.load(room, &a);
+        assert!(at_a.starts_with(&format!("loaded {accepted}")), "{at_a}");
+        session.expect(MOVE, &move_body(room, &a, &b), &moved);
+        let at_c = session.relocate(room, &b, &c);
+        assert_eq!(session.relocate(room, &c, &a), at_a.replace("loaded", "moved"));
+        assert_eq!(session.load(room, &c).replace("loaded", "moved"), at_c);
+
+        // on memory that it was not loaded into with these bases
+        session.expect(MOVE, &move_body(needed, &a, &b), &moved);
+
+        session.about("bad bases");
+        let ((bad, entry), (also_bad, _)) = (bad_bases(rng, &sizes), bad_bases(rng, &sizes));
+        let refused = |entry: usize| format!("refused 40 {entry} ");
+        match rng.below(3) {
+            0 => session.expect(MOVE, &move_body(room, &a, &bad), &refused(sizes.len() + entry)),
+            1 => session.expect(MOVE, &move_body(room, &bad, &a), &refused(entry)),
+            _ => session.expect(MOVE, &move_body(room, &bad, &also_bad), &refused(entry)),
+        }
+        session.about("short room");
+        let short = short_room(rng, needed);
+        let cut =
+            Room { memory: short.memory.min(room.memory), records: short.records.min(room.records), ..short };
+        session.expect(MOVE, &move_body(cut, &b, &c), "refused 41 0 ");
+        session.expect(LOAD, &load_body(short, &c), "refused 41 0 ");
+        if rng.below(2) == 0 {
+            session.about("bad bases and perhaps short room");
+            let room = rng.pick(&[room, short]);
+            session.expect(LOAD, &load_body(room, &bad), &refused(entry));
+        }
+    }
+}
+
+/// Every cause of 40.
+fn bad_lists(session: &mut Session, rng: &mut Rng) {
+    for cause in BASE_CAUSES {
+        session.about(cause.what);
+        let mut made = 0;
+        while made < 6 {
+            let program = good_program(rng);
+            let sizes = program.sizes();
+            let Some((bad, entry)) = cause.bases(rng, &sizes) else { continue };
+            made += 1;
+            let (good, room) = (good_bases(rng, &sizes), Room::needed(&sizes));
+            session.file(&file(&program.written()));
+            session.expect(LOAD, &load_body(room, &bad), &format!("refused 40 {entry} "));
+            session.expect(MOVE, &move_body(room, &bad, &good), &format!("refused 40 {entry} "));
+            session.expect(MOVE, &move_body(room, &good, &bad), &format!("refused 40 {} ", sizes.len() + entry));
+            session.expect(
+                MOVE,
+                &move_body(room, &good, &good),
+                &format!("moved {} {}", sizes.len(), room.memory),
+            );
+        }
+    }
+}
+
+/// Files with scratches, of which nothing is known beforehand; the moves work on what other programs left.
+fn scratched_files(session: &mut Session, rng: &mut Rng) {
+    for _ in 0..700 {
+        let program = good_program(rng);
+        let (sizes, mut bytes) = (program.sizes(), file(&program.written()));
+        scratch(rng, &mut bytes);
+        session.about(format!("a scratched file, {} bytes", bytes.len()));
+        session.file(&bytes);
+        let (old, new) = (good_bases(rng, &sizes), good_bases(rng, &sizes));
+        let room = Room::needed(&sizes);
+        // often a bad request: the last load was another program's, and perhaps a smaller one
+        session.relocate(room, &old, &new);
+        session.load(room.widened(rng), &old);
+        session.relocate(room, &old, &new);
+    }
+}
+
+/// Moves of one program in memory that another one filled.
+fn strange_memory(session: &mut Session, rng: &mut Rng) {
+    for _ in 0..150 {
+        let (one, other) = (good_program(rng), good_program(rng));
+        let [needed, others] = [&one, &other].map(|program| Room::needed(&program.sizes()));
+        let room =
+            Room { memory: needed.memory.max(others.memory), records: 64, work: needed.work.max(others.work) };
+        let [at, old, new] = [&one, &other, &other].map(|program| good_bases(rng, &program.sizes()));
+        session.about("a program in another one's memory");
+        session.file(&file(&one.written()));
+        session.load(room, &at);
+        session.file(&file(&other.written()));
+        let before = session.model.memory.clone();
+        session.expect(MOVE, &move_body(others, &old, &new), "moved ");
+        session.expect(MOVE, &move_body(room, &new, &old), "moved ");
+        assert!(session.model.memory == before, "there and back again");
+    }
+}
+
+/// All of it together, over and over: at least 20,000 calls, each number at least 20 times.
+#[test]
+fn programs_good_and_bad() {
+    let mut sessions = Vec::new();
+    for seed in 60..64 {
+        let (mut session, mut rng) = (Session::new(), Rng::new(seed));
+        bad_files(&mut session, &mut rng);
+        good_files(&mut session, &mut rng);
+        bad_lists(&mut session, &mut rng);
+        scratched_files(&mut session, &mut rng);
+        strange_memory(&mut session, &mut rng);
+        sessions.push(session);
+    }
+    let sum = |of: &dyn Fn(&Tally) -> usize| sessions.iter().map(|session| of(&session.tally)).sum::<usize>();
+    assert!(sum(&|tally| tally.calls) >= 20_000, "{} calls", sum(&|tally| tally.calls));
+    assert!(sum(&|tally| tally.loaded) >= 2_000, "{} loaded", sum(&|tally| tally.loaded));
+    assert!(sum(&|tally| tally.moved) >= 2_000, "{} moved", sum(&|tally| tally.moved));
+    assert!(sum(&|tally| tally.bad) >= 20, "{} bad requests", sum(&|tally| tally.bad));
+    for number in 30..43 {
+        let times = sum(&|tally| tally.refused.get(&number).copied().unwrap_or(0));
+        assert!(times >= 20, "{number} is refused {times} times");
+    }
+    sessions.into_iter().for_each(Session::run);
+}
