@@ -17,6 +17,8 @@ pub mod Calling
 pub mod Moving
 -- the contracts decide
 pub mod Deciding
+-- why a call is refused: each of 40, 41 and 42 exactly then
+pub mod Refusing
 -- what a file asks for, in the page's terms
 pub mod PageActs
 -- what a load and a move do, in the page's terms

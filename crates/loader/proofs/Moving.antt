@@ -34,7 +34,7 @@ use Rattle.loader.proofs.Answering.{also-so, also-both, LoadFacts, load
 
 -- ---- accepted targets are apart
 
-abbrev Among : ℕ → List ℕ → Type 0
+abbrev pub Among : ℕ → List ℕ → Type 0
 Among q [] = ⊥
 Among q (x ∷ xs) = (q ≡ x) ⊎ Among q xs
 
@@ -55,7 +55,7 @@ far-all q seen (t ∷ ts) h a =
     let p = pick-passed (nearAny (t .place) seen) (refusal 42 (t .byte)) _ h in
     (far-one (t .place) q seen (p .0) a, far-all q (t .place ∷ seen) ts (p .1) (inr a))
 
-apart : (seen : List ℕ) (ts : List Target) → clash seen ts ≡ Passed → Apart ts
+pub apart : (seen : List ℕ) (ts : List Target) → clash seen ts ≡ Passed → Apart ts
 unfolding clash
 apart seen [] h = tt
 apart seen (t ∷ ts) h =
