@@ -160,7 +160,7 @@ impl Tally {
 }
 
 /// Requests for one run of `probe`, with the answers that the model gives.
-struct Session {
+struct Talk {
     model: Model,
     batch: Batch,
     tally: Tally,
@@ -178,9 +178,9 @@ fn move_body(room: Room, old: &[u32], new: &[u32]) -> Vec<u8> {
     bytes(&[&numbers, old, new].concat())
 }
 
-impl Session {
-    fn new() -> Session {
-        Session { model: Model::default(), batch: Batch::new(), tally: Tally::default(), about: "at first".into() }
+impl Talk {
+    fn new() -> Talk {
+        Talk { model: Model::default(), batch: Batch::new(), tally: Tally::default(), about: "at first".into() }
     }
 
     /// Says what the next requests are about.
@@ -278,22 +278,22 @@ fn a_sum_wraps() {
 
 #[test]
 fn before_any_file_its_length_is_zero() {
-    let mut session = Session::new();
-    session.about("before any load");
-    session.expect(MOVE, &move_body(NONE, &[], &[]), "refused 30 0 ");
-    session.expect(MOVE, &move_body(Room { work: 9, ..NONE }, &[4], &[8]), "refused 30 0 ");
-    session.expect(MOVE, &move_body(Room { memory: 1, ..NONE }, &[4], &[8]), BAD);
-    session.expect(MOVE, &move_body(Room { records: 1, ..NONE }, &[4], &[8]), BAD);
-    session.about("before any file");
-    session.expect(LOAD, &load_body(SOME, &[4, 8]), "refused 30 0 ");
-    session.expect(MOVE, &move_body(SOME, &[4], &[8]), "refused 30 0 ");
-    session.expect(LOAD, &load_body(NONE, &[]), "refused 30 0 memory 0 table 0 work 0");
-    session.about("no bytes as a file");
-    session.file(&worked_file());
-    session.expect(LOAD, &load_body(SOME, &WORKED_BASES), "loaded 2 40 ");
-    session.file(&[]);
-    session.expect(LOAD, &load_body(SOME, &WORKED_BASES), "refused 30 0 ");
-    session.run();
+    let mut talk = Talk::new();
+    talk.about("before any load");
+    talk.expect(MOVE, &move_body(NONE, &[], &[]), "refused 30 0 ");
+    talk.expect(MOVE, &move_body(Room { work: 9, ..NONE }, &[4], &[8]), "refused 30 0 ");
+    talk.expect(MOVE, &move_body(Room { memory: 1, ..NONE }, &[4], &[8]), BAD);
+    talk.expect(MOVE, &move_body(Room { records: 1, ..NONE }, &[4], &[8]), BAD);
+    talk.about("before any file");
+    talk.expect(LOAD, &load_body(SOME, &[4, 8]), "refused 30 0 ");
+    talk.expect(MOVE, &move_body(SOME, &[4], &[8]), "refused 30 0 ");
+    talk.expect(LOAD, &load_body(NONE, &[]), "refused 30 0 memory 0 table 0 work 0");
+    talk.about("no bytes as a file");
+    talk.file(&worked_file());
+    talk.expect(LOAD, &load_body(SOME, &WORKED_BASES), "loaded 2 40 ");
+    talk.file(&[]);
+    talk.expect(LOAD, &load_body(SOME, &WORKED_BASES), "refused 30 0 ");
+    talk.run();
 }
 
 /// A file of so many words: one hunk of one word, the rest debug words.
@@ -307,35 +307,35 @@ fn long_file(words: usize) -> Vec<u8> {
 
 #[test]
 fn files_of_every_length_up_to_the_room() {
-    let mut session = Session::new();
+    let mut talk = Talk::new();
     for length in [0, 1, 2, 3, 4, 147, 148, 149, 5_000, FILE_ROOM - 1, FILE_ROOM] {
-        session.about(format!("{length} bytes"));
-        session.expect(FILE, &vec![0; length], &format!("file {length}"));
+        talk.about(format!("{length} bytes"));
+        talk.expect(FILE, &vec![0; length], &format!("file {length}"));
         let number = if length == 0 || length % 4 != 0 { 30 } else { 32 };
-        session.expect(LOAD, &load_body(SOME, &[0]), &format!("refused {number} 0 "));
+        talk.expect(LOAD, &load_body(SOME, &[0]), &format!("refused {number} 0 "));
     }
-    session.about("a good file as long as the room");
+    talk.about("a good file as long as the room");
     let longest = long_file(FILE_ROOM / 4);
     assert_eq!(longest.len(), FILE_ROOM);
-    session.file(&longest);
-    session.expect(LOAD, &load_body(SOME, &[0x1000]), "loaded 1 4 ");
-    session.about("the last word of the longest file missing");
-    session.file(&longest[..FILE_ROOM - 4]);
-    session.expect(LOAD, &load_body(SOME, &[0x1000]), "refused 31 1048572 ");
-    session.about("files over the room");
-    session.file(&worked_file());
-    session.load(SOME, &WORKED_BASES);
-    session.turned_away(FILE, &vec![0; FILE_ROOM + 1], &WORKED_BASES);
-    session.turned_away(FILE, &vec![0; FILE_ROOM + 4], &WORKED_BASES);
-    session.expect(LOAD, &load_body(SOME, &WORKED_BASES), "loaded 2 40 ");
-    session.run();
+    talk.file(&longest);
+    talk.expect(LOAD, &load_body(SOME, &[0x1000]), "loaded 1 4 ");
+    talk.about("the last word of the longest file missing");
+    talk.file(&longest[..FILE_ROOM - 4]);
+    talk.expect(LOAD, &load_body(SOME, &[0x1000]), "refused 31 1048572 ");
+    talk.about("files over the room");
+    talk.file(&worked_file());
+    talk.load(SOME, &WORKED_BASES);
+    talk.turned_away(FILE, &vec![0; FILE_ROOM + 1], &WORKED_BASES);
+    talk.turned_away(FILE, &vec![0; FILE_ROOM + 4], &WORKED_BASES);
+    talk.expect(LOAD, &load_body(SOME, &WORKED_BASES), "loaded 2 40 ");
+    talk.run();
 }
 
 #[test]
 fn lengths_above_the_room_are_bad() {
-    let mut session = Session::new();
-    session.file(&worked_file());
-    session.load(SOME, &WORKED_BASES);
+    let mut talk = Talk::new();
+    talk.file(&worked_file());
+    talk.load(SOME, &WORKED_BASES);
     let above = [
         Room { memory: AREA_ROOM + 1, ..SOME },
         Room { records: RECORDS + 1, ..SOME },
@@ -347,9 +347,9 @@ fn lengths_above_the_room_are_bad() {
         Room { memory: 0xFFFF_FFFF, records: 0xFFFF_FFFF, work: 0xFFFF_FFFF },
     ];
     for room in above {
-        session.about(format!("{room:?}"));
-        session.turned_away(LOAD, &load_body(room, &WORKED_BASES), &WORKED_BASES);
-        session.turned_away(MOVE, &move_body(room, &WORKED_BASES, &WORKED_BASES), &WORKED_BASES);
+        talk.about(format!("{room:?}"));
+        talk.turned_away(LOAD, &load_body(room, &WORKED_BASES), &WORKED_BASES);
+        talk.turned_away(MOVE, &move_body(room, &WORKED_BASES, &WORKED_BASES), &WORKED_BASES);
     }
     for room in [
         Room { memory: AREA_ROOM, ..SOME },
@@ -357,115 +357,115 @@ fn lengths_above_the_room_are_bad() {
         Room { work: AREA_ROOM, ..SOME },
         MOST,
     ] {
-        session.about(format!("{room:?}"));
-        session.expect(LOAD, &load_body(room, &WORKED_BASES), "loaded 2 40 ");
-        session.expect(MOVE, &move_body(room, &WORKED_BASES, &[0, 0x100]), "moved 2 40 ");
+        talk.about(format!("{room:?}"));
+        talk.expect(LOAD, &load_body(room, &WORKED_BASES), "loaded 2 40 ");
+        talk.expect(MOVE, &move_body(room, &WORKED_BASES, &[0, 0x100]), "moved 2 40 ");
     }
-    session.run();
+    talk.run();
 }
 
 #[test]
 fn a_move_has_at_most_the_room_of_the_last_load() {
-    let mut session = Session::new();
-    session.file(&worked_file());
-    session.load(SOME, &WORKED_BASES);
+    let mut talk = Talk::new();
+    talk.file(&worked_file());
+    talk.load(SOME, &WORKED_BASES);
     let there = |room| move_body(room, &WORKED_BASES, &WORKED_BASES);
-    session.about("one more than the last load");
-    session.turned_away(MOVE, &there(Room { memory: SOME.memory + 1, ..SOME }), &WORKED_BASES);
-    session.turned_away(MOVE, &there(Room { records: SOME.records + 1, ..SOME }), &WORKED_BASES);
-    session.about("more work area than the last load");
-    session.expect(MOVE, &there(Room { work: SOME.work + 1, ..SOME }), "moved 2 40 ");
-    session.about("less than the last load");
+    talk.about("one more than the last load");
+    talk.turned_away(MOVE, &there(Room { memory: SOME.memory + 1, ..SOME }), &WORKED_BASES);
+    talk.turned_away(MOVE, &there(Room { records: SOME.records + 1, ..SOME }), &WORKED_BASES);
+    talk.about("more work area than the last load");
+    talk.expect(MOVE, &there(Room { work: SOME.work + 1, ..SOME }), "moved 2 40 ");
+    talk.about("less than the last load");
     let less = Room { memory: 40, records: 2, work: 40 };
-    session.expect(MOVE, &move_body(less, &WORKED_BASES, &[0, 0x1000]), "moved 2 40 ");
-    session.expect(MOVE, &move_body(Room { memory: 39, ..less }, &[0, 0x1000], &[4, 0x1000]), "refused 41 0 ");
-    session.expect(MOVE, &move_body(Room { records: 1, ..less }, &[0, 0x1000], &[4, 0x1000]), "refused 41 0 ");
-    session.expect(MOVE, &move_body(NONE, &[0, 0x1000], &[4, 0x1000]), "refused 41 0 memory 0 table 0 work 0");
-    session.about("as much as the last load, after moves with less");
-    session.expect(MOVE, &move_body(SOME, &[0, 0x1000], &[0x2000, 0]), "moved 2 40 ");
-    session.about("a refused load counts");
-    session.expect(LOAD, &load_body(Room { memory: 39, ..SOME }, &WORKED_BASES), "refused 41 0 ");
-    session.expect(MOVE, &move_body(Room { memory: 40, ..SOME }, &WORKED_BASES, &[0, 0x1000]), BAD);
-    session.expect(MOVE, &move_body(Room { memory: 39, ..SOME }, &WORKED_BASES, &[0, 0x1000]), "refused 41 0 ");
-    session.about("a bad request does not");
-    session.expect(LOAD, &load_body(SOME, &WORKED_BASES), "loaded 2 40 ");
-    session.expect(LOAD, &load_body(Room { memory: 50, records: 81, work: 50 }, &WORKED_BASES), BAD);
-    session.expect(MOVE, &move_body(SOME, &WORKED_BASES, &[0, 0x1000]), "moved 2 40 ");
-    session.run();
+    talk.expect(MOVE, &move_body(less, &WORKED_BASES, &[0, 0x1000]), "moved 2 40 ");
+    talk.expect(MOVE, &move_body(Room { memory: 39, ..less }, &[0, 0x1000], &[4, 0x1000]), "refused 41 0 ");
+    talk.expect(MOVE, &move_body(Room { records: 1, ..less }, &[0, 0x1000], &[4, 0x1000]), "refused 41 0 ");
+    talk.expect(MOVE, &move_body(NONE, &[0, 0x1000], &[4, 0x1000]), "refused 41 0 memory 0 table 0 work 0");
+    talk.about("as much as the last load, after moves with less");
+    talk.expect(MOVE, &move_body(SOME, &[0, 0x1000], &[0x2000, 0]), "moved 2 40 ");
+    talk.about("a refused load counts");
+    talk.expect(LOAD, &load_body(Room { memory: 39, ..SOME }, &WORKED_BASES), "refused 41 0 ");
+    talk.expect(MOVE, &move_body(Room { memory: 40, ..SOME }, &WORKED_BASES, &[0, 0x1000]), BAD);
+    talk.expect(MOVE, &move_body(Room { memory: 39, ..SOME }, &WORKED_BASES, &[0, 0x1000]), "refused 41 0 ");
+    talk.about("a bad request does not");
+    talk.expect(LOAD, &load_body(SOME, &WORKED_BASES), "loaded 2 40 ");
+    talk.expect(LOAD, &load_body(Room { memory: 50, records: 81, work: 50 }, &WORKED_BASES), BAD);
+    talk.expect(MOVE, &move_body(SOME, &WORKED_BASES, &[0, 0x1000]), "moved 2 40 ");
+    talk.run();
 }
 
 #[test]
 fn lists_of_bases_have_their_room() {
-    let mut session = Session::new();
+    let mut talk = Talk::new();
     let list = |count: usize| vec![0x40; count];
-    session.file(&worked_file());
-    session.load(SOME, &WORKED_BASES);
-    session.about("long lists");
+    talk.file(&worked_file());
+    talk.load(SOME, &WORKED_BASES);
+    talk.about("long lists");
     for count in [BASES + 1, BASES + 2, 300, 1_000, 70_000] {
-        session.turned_away(LOAD, &load_body(SOME, &list(count)), &WORKED_BASES);
-        session.turned_away(MOVE, &move_body(SOME, &list(count), &WORKED_BASES), &WORKED_BASES);
-        session.turned_away(MOVE, &move_body(SOME, &WORKED_BASES, &list(count)), &WORKED_BASES);
-        session.turned_away(MOVE, &move_body(SOME, &list(count), &list(count)), &WORKED_BASES);
+        talk.turned_away(LOAD, &load_body(SOME, &list(count)), &WORKED_BASES);
+        talk.turned_away(MOVE, &move_body(SOME, &list(count), &WORKED_BASES), &WORKED_BASES);
+        talk.turned_away(MOVE, &move_body(SOME, &WORKED_BASES, &list(count)), &WORKED_BASES);
+        talk.turned_away(MOVE, &move_body(SOME, &list(count), &list(count)), &WORKED_BASES);
     }
-    session.about("lists as long as the room");
-    session.expect(MOVE, &move_body(SOME, &list(BASES), &WORKED_BASES), "refused 40 0 ");
-    session.expect(MOVE, &move_body(SOME, &WORKED_BASES, &list(BASES)), "refused 40 2 ");
-    session.expect(MOVE, &move_body(SOME, &list(BASES), &list(BASES)), "refused 40 0 ");
-    session.expect(LOAD, &load_body(SOME, &list(BASES)), "refused 40 0 ");
-    session.about("no bases");
-    session.expect(LOAD, &load_body(SOME, &[]), "refused 40 0 ");
-    session.expect(MOVE, &move_body(SOME, &[], &[]), "refused 40 0 ");
-    session.expect(MOVE, &move_body(SOME, &WORKED_BASES, &[]), "refused 40 2 ");
-    session.run();
+    talk.about("lists as long as the room");
+    talk.expect(MOVE, &move_body(SOME, &list(BASES), &WORKED_BASES), "refused 40 0 ");
+    talk.expect(MOVE, &move_body(SOME, &WORKED_BASES, &list(BASES)), "refused 40 2 ");
+    talk.expect(MOVE, &move_body(SOME, &list(BASES), &list(BASES)), "refused 40 0 ");
+    talk.expect(LOAD, &load_body(SOME, &list(BASES)), "refused 40 0 ");
+    talk.about("no bases");
+    talk.expect(LOAD, &load_body(SOME, &[]), "refused 40 0 ");
+    talk.expect(MOVE, &move_body(SOME, &[], &[]), "refused 40 0 ");
+    talk.expect(MOVE, &move_body(SOME, &WORKED_BASES, &[]), "refused 40 2 ");
+    talk.run();
 }
 
 #[test]
 fn the_count_of_old_bases_splits_the_lists() {
-    let mut session = Session::new();
-    session.file(&worked_file());
-    session.load(SOME, &WORKED_BASES);
+    let mut talk = Talk::new();
+    talk.file(&worked_file());
+    talk.load(SOME, &WORKED_BASES);
     let body = |count: u32, bases: &[u32]| bytes(&[&[100, 5, 100, count], bases].concat());
-    session.about("a count above the numbers that follow");
+    talk.about("a count above the numbers that follow");
     for count in [5, 6, 256, 257, 0x4000_0000, 0x4000_0002, 0x8000_0002, u32::MAX] {
-        session.turned_away(MOVE, &body(count, &[0x3000, 0x7000, 0x4000, 0x9000]), &WORKED_BASES);
+        talk.turned_away(MOVE, &body(count, &[0x3000, 0x7000, 0x4000, 0x9000]), &WORKED_BASES);
     }
-    session.turned_away(MOVE, &body(1, &[]), &WORKED_BASES);
-    session.about("a count within the numbers that follow");
+    talk.turned_away(MOVE, &body(1, &[]), &WORKED_BASES);
+    talk.about("a count within the numbers that follow");
     for (count, answer) in [(0, "refused 40 0 "), (1, "refused 40 0 "), (3, "refused 40 0 "), (4, "refused 40 0 ")]
     {
-        session.expect(MOVE, &body(count, &[0x3000, 0x7000, 0x4000, 0x9000]), answer);
+        talk.expect(MOVE, &body(count, &[0x3000, 0x7000, 0x4000, 0x9000]), answer);
     }
-    session.expect(MOVE, &body(2, &[0x3000, 0x7000]), "refused 40 2 ");
-    session.expect(MOVE, &body(2, &[0x3000, 0x7000, 0x4000]), "refused 40 2 ");
-    session.expect(MOVE, &body(2, &[0x3000, 0x7000, 0x4000, 0x9000]), "moved 2 40 ");
-    session.run();
+    talk.expect(MOVE, &body(2, &[0x3000, 0x7000]), "refused 40 2 ");
+    talk.expect(MOVE, &body(2, &[0x3000, 0x7000, 0x4000]), "refused 40 2 ");
+    talk.expect(MOVE, &body(2, &[0x3000, 0x7000, 0x4000, 0x9000]), "moved 2 40 ");
+    talk.run();
 }
 
 #[test]
 fn bodies_that_lack_something_are_bad() {
-    let mut session = Session::new();
-    session.file(&worked_file());
-    session.load(SOME, &WORKED_BASES);
+    let mut talk = Talk::new();
+    talk.file(&worked_file());
+    talk.load(SOME, &WORKED_BASES);
     let (load, there) = (load_body(SOME, &WORKED_BASES), move_body(SOME, &WORKED_BASES, &[0, 0x1000]));
     for length in 0..load.len() {
-        session.about(format!("{length} bytes"));
+        talk.about(format!("{length} bytes"));
         if length < 12 || length % 4 != 0 {
-            session.turned_away(LOAD, &load[..length], &WORKED_BASES);
+            talk.turned_away(LOAD, &load[..length], &WORKED_BASES);
         }
     }
     for length in 0..there.len() {
-        session.about(format!("{length} bytes"));
+        talk.about(format!("{length} bytes"));
         // the count of old bases is the fourth number, and two are due
         if length < 24 || length % 4 != 0 {
-            session.turned_away(MOVE, &there[..length], &WORKED_BASES);
+            talk.turned_away(MOVE, &there[..length], &WORKED_BASES);
         }
     }
-    session.about("whole numbers");
-    session.expect(MOVE, &there[..24], "refused 40 2 ");
-    session.expect(MOVE, &there, "moved 2 40 ");
-    session.expect(LOAD, &load[..12], "refused 40 0 ");
-    session.expect(LOAD, &load, "loaded 2 40 ");
-    session.run();
+    talk.about("whole numbers");
+    talk.expect(MOVE, &there[..24], "refused 40 2 ");
+    talk.expect(MOVE, &there, "moved 2 40 ");
+    talk.expect(LOAD, &load[..12], "refused 40 0 ");
+    talk.expect(LOAD, &load, "loaded 2 40 ");
+    talk.run();
 }
 
 #[test]
@@ -486,11 +486,11 @@ fn input_that_ends_inside_a_request() {
         frame(MOVE, there.len(), &[]),
         frame(MOVE, 0xFFFF_FFFC, &there),
     ] {
-        let mut session = Session::new();
-        session.file(&worked_file());
-        session.load(SOME, &WORKED_BASES);
-        session.batch.break_off(&broken, BAD);
-        session.run();
+        let mut talk = Talk::new();
+        talk.file(&worked_file());
+        talk.load(SOME, &WORKED_BASES);
+        talk.batch.break_off(&broken, BAD);
+        talk.run();
     }
 }
 
@@ -508,21 +508,21 @@ fn the_largest_program_that_fits() {
     let hunks = [hunk(&mut rng, CODE), hunk(&mut rng, DATA)].concat();
     let file = bytes(&[&[HEADER, 0, 2, 0, 1, words, words], &hunks[..]].concat());
     let (old, new) = ([0xFFFC_0000, 0xFFF8_0000], [0, 0x0004_0000]);
-    let mut session = Session::new();
-    session.file(&file);
-    session.expect(LOAD, &load_body(MOST, &old), "loaded 2 524288 ");
-    session.expect(MOVE, &move_body(MOST, &old, &new), "moved 2 524288 ");
-    session.expect(LOAD, &load_body(MOST, &new), "loaded 2 524288 ");
+    let mut talk = Talk::new();
+    talk.file(&file);
+    talk.expect(LOAD, &load_body(MOST, &old), "loaded 2 524288 ");
+    talk.expect(MOVE, &move_body(MOST, &old, &new), "moved 2 524288 ");
+    talk.expect(LOAD, &load_body(MOST, &new), "loaded 2 524288 ");
     for room in
         [Room { memory: AREA_ROOM - 1, ..MOST }, Room { records: 1, ..MOST }, Room { work: AREA_ROOM - 1, ..MOST }]
     {
-        session.expect(MOVE, &move_body(room, &new, &old), "refused 41 0 ");
-        session.expect(LOAD, &load_body(room, &new), "refused 41 0 ");
-        session.load(MOST, &new);
+        talk.expect(MOVE, &move_body(room, &new, &old), "refused 41 0 ");
+        talk.expect(LOAD, &load_body(room, &new), "refused 41 0 ");
+        talk.load(MOST, &new);
     }
-    session.expect(LOAD, &load_body(MOST, &[0, 0x0003_FFFC]), "refused 40 1 ");
-    session.expect(LOAD, &load_body(MOST, &[0xFFFC_0004, 0]), "refused 40 0 ");
-    session.run();
+    talk.expect(LOAD, &load_body(MOST, &[0, 0x0003_FFFC]), "refused 40 1 ");
+    talk.expect(LOAD, &load_body(MOST, &[0xFFFC_0004, 0]), "refused 40 0 ");
+    talk.run();
 }
 
 /// 64 hunks of the largest size take 16 MiB, which is more than `probe` lends.
@@ -530,17 +530,17 @@ fn the_largest_program_that_fits() {
 fn the_largest_program_of_all() {
     let file = bytes(&[&[HEADER, 0, 64, 0, 63], &[65_536; 64][..], &[BSS, 65_536, END].repeat(64)].concat());
     let bases = |step: u32| (0..64).map(|index| index * step).collect::<Vec<u32>>();
-    let mut session = Session::new();
-    session.file(&file);
-    session.expect(LOAD, &load_body(MOST, &bases(0x0004_0000)), "refused 41 0 ");
-    session.expect(MOVE, &move_body(MOST, &bases(0x0004_0000), &bases(0x0004_0004)), "refused 41 0 ");
-    session.expect(LOAD, &load_body(MOST, &bases(0x0003_FFFC)), "refused 40 1 ");
-    session.expect(MOVE, &move_body(MOST, &bases(0x0004_0000), &bases(0x0003_FFFC)), "refused 40 65 ");
-    session.run();
+    let mut talk = Talk::new();
+    talk.file(&file);
+    talk.expect(LOAD, &load_body(MOST, &bases(0x0004_0000)), "refused 41 0 ");
+    talk.expect(MOVE, &move_body(MOST, &bases(0x0004_0000), &bases(0x0004_0004)), "refused 41 0 ");
+    talk.expect(LOAD, &load_body(MOST, &bases(0x0003_FFFC)), "refused 40 1 ");
+    talk.expect(MOVE, &move_body(MOST, &bases(0x0004_0000), &bases(0x0003_FFFC)), "refused 40 65 ");
+    talk.run();
 }
 
 /// Every cause of a fault in the file, and of 42, met by a load and by a move.
-fn bad_files(session: &mut Session, rng: &mut Rng) {
+fn bad_files(talk: &mut Talk, rng: &mut Rng) {
     for cause in CAUSES {
         for _ in 0..5 {
             let bad = cause.file(rng);
@@ -548,22 +548,22 @@ fn bad_files(session: &mut Session, rng: &mut Rng) {
             let needed = Room::needed(&bad.sizes);
             let room = needed.widened(rng);
             let due = format!("refused {} {} ", bad.due.number, bad.due.place);
-            session.about(format!("{} by {}, {} bytes", cause.number, cause.what, bad.bytes.len()));
-            session.file(&bad.bytes);
-            session.expect(LOAD, &load_body(room, &old), &due);
-            session.expect(MOVE, &move_body(room, &old, &new), &due);
+            talk.about(format!("{} by {}, {} bytes", cause.number, cause.what, bad.bytes.len()));
+            talk.file(&bad.bytes);
+            talk.expect(LOAD, &load_body(room, &old), &due);
+            talk.expect(MOVE, &move_body(room, &old, &new), &due);
             if cause.number != 42 {
                 // faults of the file come before those of bases and room
                 let (bases, _) = bad_bases(rng, &bad.sizes);
                 let short = short_room(rng, needed);
-                session.expect(LOAD, &load_body(short, &bases), &due);
+                talk.expect(LOAD, &load_body(short, &bases), &due);
             }
         }
     }
 }
 
 /// A good program: loaded and moved around, then refused for its bases and for its room.
-fn good_files(session: &mut Session, rng: &mut Rng) {
+fn good_files(talk: &mut Talk, rng: &mut Rng) {
     for _ in 0..550 {
         let program = good_program(rng);
         let (sizes, bytes) = (program.sizes(), file(&program.written()));
@@ -571,47 +571,47 @@ fn good_files(session: &mut Session, rng: &mut Rng) {
         let needed = Room::needed(&sizes);
         let room = needed.widened(rng);
         let accepted = format!("{} {} ", sizes.len(), needed.memory);
-        session.about(format!("a good program of {} hunks", sizes.len()));
-        session.file(&bytes);
+        talk.about(format!("a good program of {} hunks", sizes.len()));
+        talk.file(&bytes);
 
         // load at A, move to B, to C and back to A: as it was; and at C as if it had been loaded there
         let moved = format!("moved {accepted}");
-        let at_a = session.load(room, &a);
+        let at_a = talk.load(room, &a);
         assert!(at_a.starts_with(&format!("loaded {accepted}")), "{at_a}");
-        session.expect(MOVE, &move_body(room, &a, &b), &moved);
-        let at_c = session.relocate(room, &b, &c);
-        assert_eq!(session.relocate(room, &c, &a), at_a.replace("loaded", "moved"));
-        assert_eq!(session.load(room, &c).replace("loaded", "moved"), at_c);
+        talk.expect(MOVE, &move_body(room, &a, &b), &moved);
+        let at_c = talk.relocate(room, &b, &c);
+        assert_eq!(talk.relocate(room, &c, &a), at_a.replace("loaded", "moved"));
+        assert_eq!(talk.load(room, &c).replace("loaded", "moved"), at_c);
 
         // on memory that it was not loaded into with these bases
-        session.expect(MOVE, &move_body(needed, &a, &b), &moved);
+        talk.expect(MOVE, &move_body(needed, &a, &b), &moved);
 
-        session.about("bad bases");
+        talk.about("bad bases");
         let ((bad, entry), (also_bad, _)) = (bad_bases(rng, &sizes), bad_bases(rng, &sizes));
         let refused = |entry: usize| format!("refused 40 {entry} ");
         match rng.below(3) {
-            0 => session.expect(MOVE, &move_body(room, &a, &bad), &refused(sizes.len() + entry)),
-            1 => session.expect(MOVE, &move_body(room, &bad, &a), &refused(entry)),
-            _ => session.expect(MOVE, &move_body(room, &bad, &also_bad), &refused(entry)),
+            0 => talk.expect(MOVE, &move_body(room, &a, &bad), &refused(sizes.len() + entry)),
+            1 => talk.expect(MOVE, &move_body(room, &bad, &a), &refused(entry)),
+            _ => talk.expect(MOVE, &move_body(room, &bad, &also_bad), &refused(entry)),
         }
-        session.about("short room");
+        talk.about("short room");
         let short = short_room(rng, needed);
         let cut =
             Room { memory: short.memory.min(room.memory), records: short.records.min(room.records), ..short };
-        session.expect(MOVE, &move_body(cut, &b, &c), "refused 41 0 ");
-        session.expect(LOAD, &load_body(short, &c), "refused 41 0 ");
+        talk.expect(MOVE, &move_body(cut, &b, &c), "refused 41 0 ");
+        talk.expect(LOAD, &load_body(short, &c), "refused 41 0 ");
         if rng.below(2) == 0 {
-            session.about("bad bases and perhaps short room");
+            talk.about("bad bases and perhaps short room");
             let room = rng.pick(&[room, short]);
-            session.expect(LOAD, &load_body(room, &bad), &refused(entry));
+            talk.expect(LOAD, &load_body(room, &bad), &refused(entry));
         }
     }
 }
 
 /// Every cause of 40.
-fn bad_lists(session: &mut Session, rng: &mut Rng) {
+fn bad_lists(talk: &mut Talk, rng: &mut Rng) {
     for cause in BASE_CAUSES {
-        session.about(cause.what);
+        talk.about(cause.what);
         let mut made = 0;
         while made < 6 {
             let program = good_program(rng);
@@ -619,69 +619,65 @@ fn bad_lists(session: &mut Session, rng: &mut Rng) {
             let Some((bad, entry)) = cause.bases(rng, &sizes) else { continue };
             made += 1;
             let (good, room) = (good_bases(rng, &sizes), Room::needed(&sizes));
-            session.file(&file(&program.written()));
-            session.expect(LOAD, &load_body(room, &bad), &format!("refused 40 {entry} "));
-            session.expect(MOVE, &move_body(room, &bad, &good), &format!("refused 40 {entry} "));
-            session.expect(MOVE, &move_body(room, &good, &bad), &format!("refused 40 {} ", sizes.len() + entry));
-            session.expect(
-                MOVE,
-                &move_body(room, &good, &good),
-                &format!("moved {} {}", sizes.len(), room.memory),
-            );
+            talk.file(&file(&program.written()));
+            talk.expect(LOAD, &load_body(room, &bad), &format!("refused 40 {entry} "));
+            talk.expect(MOVE, &move_body(room, &bad, &good), &format!("refused 40 {entry} "));
+            talk.expect(MOVE, &move_body(room, &good, &bad), &format!("refused 40 {} ", sizes.len() + entry));
+            talk.expect(MOVE, &move_body(room, &good, &good), &format!("moved {} {}", sizes.len(), room.memory));
         }
     }
 }
 
 /// Files with scratches, of which nothing is known beforehand; the moves work on what other programs left.
-fn scratched_files(session: &mut Session, rng: &mut Rng) {
+fn scratched_files(talk: &mut Talk, rng: &mut Rng) {
     for _ in 0..700 {
         let program = good_program(rng);
         let (sizes, mut bytes) = (program.sizes(), file(&program.written()));
         scratch(rng, &mut bytes);
-        session.about(format!("a scratched file, {} bytes", bytes.len()));
-        session.file(&bytes);
+        talk.about(format!("a scratched file, {} bytes", bytes.len()));
+        talk.file(&bytes);
         let (old, new) = (good_bases(rng, &sizes), good_bases(rng, &sizes));
         let room = Room::needed(&sizes);
         // often a bad request: the last load was another program's, and perhaps a smaller one
-        session.relocate(room, &old, &new);
-        session.load(room.widened(rng), &old);
-        session.relocate(room, &old, &new);
+        talk.relocate(room, &old, &new);
+        talk.load(room.widened(rng), &old);
+        talk.relocate(room, &old, &new);
     }
 }
 
 /// Moves of one program in memory that another one filled.
-fn strange_memory(session: &mut Session, rng: &mut Rng) {
+fn strange_memory(talk: &mut Talk, rng: &mut Rng) {
     for _ in 0..150 {
         let (one, other) = (good_program(rng), good_program(rng));
         let [needed, others] = [&one, &other].map(|program| Room::needed(&program.sizes()));
         let room =
             Room { memory: needed.memory.max(others.memory), records: 64, work: needed.work.max(others.work) };
         let [at, old, new] = [&one, &other, &other].map(|program| good_bases(rng, &program.sizes()));
-        session.about("a program in another one's memory");
-        session.file(&file(&one.written()));
-        session.load(room, &at);
-        session.file(&file(&other.written()));
-        let before = session.model.memory.clone();
-        session.expect(MOVE, &move_body(others, &old, &new), "moved ");
-        session.expect(MOVE, &move_body(room, &new, &old), "moved ");
-        assert!(session.model.memory == before, "there and back again");
+        talk.about("a program in another one's memory");
+        talk.file(&file(&one.written()));
+        talk.load(room, &at);
+        talk.file(&file(&other.written()));
+        let before = talk.model.memory.clone();
+        talk.expect(MOVE, &move_body(others, &old, &new), "moved ");
+        talk.expect(MOVE, &move_body(room, &new, &old), "moved ");
+        assert!(talk.model.memory == before, "there and back again");
     }
 }
 
 /// All of it together, over and over: at least 20,000 calls, each number at least 20 times.
 #[test]
 fn programs_good_and_bad() {
-    let mut sessions = Vec::new();
+    let mut talks = Vec::new();
     for seed in 60..64 {
-        let (mut session, mut rng) = (Session::new(), Rng::new(seed));
-        bad_files(&mut session, &mut rng);
-        good_files(&mut session, &mut rng);
-        bad_lists(&mut session, &mut rng);
-        scratched_files(&mut session, &mut rng);
-        strange_memory(&mut session, &mut rng);
-        sessions.push(session);
+        let (mut talk, mut rng) = (Talk::new(), Rng::new(seed));
+        bad_files(&mut talk, &mut rng);
+        good_files(&mut talk, &mut rng);
+        bad_lists(&mut talk, &mut rng);
+        scratched_files(&mut talk, &mut rng);
+        strange_memory(&mut talk, &mut rng);
+        talks.push(talk);
     }
-    let sum = |of: &dyn Fn(&Tally) -> usize| sessions.iter().map(|session| of(&session.tally)).sum::<usize>();
+    let sum = |of: &dyn Fn(&Tally) -> usize| talks.iter().map(|talk| of(&talk.tally)).sum::<usize>();
     assert!(sum(&|tally| tally.calls) >= 20_000, "{} calls", sum(&|tally| tally.calls));
     assert!(sum(&|tally| tally.loaded) >= 2_000, "{} loaded", sum(&|tally| tally.loaded));
     assert!(sum(&|tally| tally.moved) >= 2_000, "{} moved", sum(&|tally| tally.moved));
@@ -690,5 +686,5 @@ fn programs_good_and_bad() {
         let times = sum(&|tally| tally.refused.get(&number).copied().unwrap_or(0));
         assert!(times >= 20, "{number} is refused {times} times");
     }
-    sessions.into_iter().for_each(Session::run);
+    talks.into_iter().for_each(Talk::run);
 }

@@ -8,7 +8,7 @@ use native.Mathlib.Omega.{arith}
 use Rattle.volume.specs.declared.disk.Disk.{Disk}
 use Rattle.answers.specs.Tests.{pick}
 use Rattle.volume.specs.Blocks.{dataRoom}
-use Rattle.volume.specs.Disks.{Sized, firstKey, inRange, dataBytes, fileLimit}
+use Rattle.volume.specs.Disks.{Sized, mostBlocks, firstKey, inRange, dataBytes, fileLimit}
 use Rattle.volume.specs.Files.{dataBlocks, heldOf}
 
 -- the one place where the data rule's number stands
@@ -32,7 +32,7 @@ module _ (d : Disk) where
   blocks-most z h = let k = rw (data-is d) at h in rw (data-is d) (omega arith)
 
   -- the bytes before data block n
-  pub before-most : (n : ℕ) → n ≤ 4066 → (n - 1) * dataBytes d ≤ 2081280
+  pub before-most : (n : ℕ) → n ≤ mostBlocks → (n - 1) * dataBytes d ≤ 2081280
   before-most n h = rw (data-is d) (omega arith)
 
   -- ---- a key in range lies between the boot blocks and the end

@@ -1,6 +1,6 @@
 -- A disk has a number of blocks and a kind, the last byte of its boot tag. All its other numbers follow from these two (the build paper,
 -- "What is built"): nothing above this file knows them as numbers.
-use Prim.Native.Nat.{ℕ, _-_, _*_, _/_, _≤_}
+use Prim.Native.Nat.{ℕ, _+_, _-_, _*_, _/_, _≤_}
 use mathlib.Core.Bool.{Bool, false}
 use lib.Dec.{ltb}
 use Rattle.words.specs.Word.{four}
@@ -12,10 +12,18 @@ use Rattle.answers.specs.Tests.{pick}
 abbrev pub floppy : Disk
 floppy = record { blocks = 1760; kind = 0 }
 
--- the sizes that the definitions are meant for: one bitmap block has bits for 4,064 blocks behind the two boot blocks
+-- the two boot blocks have no key
+abbrev pub firstKey : ℕ
+firstKey = 2
+
+-- one bitmap block has 127 words of bits, for the blocks behind the boot blocks
+abbrev pub mostBlocks : ℕ
+mostBlocks = firstKey + 32 * 127
+
+-- the sizes that the definitions are meant for
 pub record Sized (d : Disk) : Type 0 where
   pub least : 8 ≤ d .blocks
-  pub most : d .blocks ≤ 4066
+  pub most : d .blocks ≤ mostBlocks
 
 abbrev pub imageBytes : Disk → ℕ
 imageBytes d = d .blocks * blockBytes
@@ -30,10 +38,6 @@ tagOf d = four 68 79 83 (d .kind)
 
 abbrev pub rootOf : Disk → ℕ
 rootOf d = d .blocks / 2
-
--- the two boot blocks have no key
-abbrev pub firstKey : ℕ
-firstKey = 2
 
 unfoldable pub inRange : Disk → ℕ → Bool
 inRange d k = pick (ltb k firstKey) false (ltb k (d .blocks))

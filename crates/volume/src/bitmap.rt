@@ -3,7 +3,7 @@ use crate::block::word_of;
 use crate::disk::Disk;
 ghost use mathlib.Core.Path.{_≡_};
 ghost use Prim.Native.Nat.{_<_, _≤_};
-ghost use Rattle.volume.specs.Disks.{firstKey};
+ghost use Rattle.volume.specs.Disks.{firstKey, mostBlocks};
 ghost use Rattle.volume.specs.Blocks.{Holds};
 ghost use Rattle.volume.specs.Bitmap.{bitWord, bitPlace, isFree};
 
@@ -28,7 +28,7 @@ impl Bit {
 
 // Whether the bitmap block `page` says that a block is free.
 pub fn is_free(image: &[u8], page: u32, key: u32) -> bool
-    requires { ⌜ (firstKey ≤ key) × (key < 4066) × Holds (now image) page ⌝ }
+    requires { ⌜ (firstKey ≤ key) × (key < mostBlocks) × Holds (now image) page ⌝ }
     ensures { λ r. ⌜ r ≡ isFree (now (image .entry)) page key ⌝ }
 {
     let bit = Bit::of(key);

@@ -5,7 +5,7 @@ ghost use Prim.Native.Nat.{_+_, _-_, _*_, _/_, _<_, _≤_};
 ghost use lib.ListN.{length};
 ghost use lib.Dec.{eqb};
 ghost use Rattle.words.specs.Word.{wordAt};
-ghost use Rattle.volume.specs.Disks.{Sized, floppy, imageBytes, claimBytes, tagOf, rootOf, inRange, bitSpan, chainLimit, dataBytes, fileLimit};
+ghost use Rattle.volume.specs.Disks.{Sized, mostBlocks, floppy, imageBytes, claimBytes, tagOf, rootOf, inRange, bitSpan, chainLimit, dataBytes, fileLimit};
 ghost use Rattle.volume.specs.Files.{dataBlocks, heldOf};
 
 // The number of its blocks, and the last byte of its boot tag.
@@ -106,7 +106,7 @@ impl Disk {
 
     // How many bytes data block n of a file of `size` bytes holds.
     pub fn held(self, size: u32, n: u32) -> u32
-        requires { ⌜ (1 ≤ n) × (n ≤ 4066) ⌝ }
+        requires { ⌜ (1 ≤ n) × (n ≤ mostBlocks) ⌝ }
         ensures { λ r. ⌜ r ≡ heldOf self size n ⌝ }
     {
         let bytes = self.data_bytes();

@@ -6,7 +6,7 @@ use crate::disk::Disk;
 ghost use mathlib.Core.Path.{_≡_};
 ghost use Prim.Native.Nat.{_≤_, _<_};
 ghost use Rattle.answers.specs.Tests.{tests};
-ghost use Rattle.volume.specs.Disks.{Sized, fileLimit};
+ghost use Rattle.volume.specs.Disks.{Sized, mostBlocks, fileLimit};
 ghost use Rattle.volume.specs.Blocks.{slots, Holds, keyWord};
 ghost use Rattle.volume.specs.Files.{keysHere, listBlocks, lastKeys};
 ghost use Rattle.volume.specs.Rules.{countRules, emptyRules, fileFault, listWords, listFault, dataWords, dataLinks, dataFault};
@@ -134,7 +134,7 @@ pub fn list_fault(image: &[u8], key: u32, header: u32, n: u32) -> u32
 
 // Sum, type, header, number and bytes held of data block n.
 fn data_words_fault(disk: Disk, image: &[u8], key: u32, header: u32, size: u32, n: u32) -> u32
-    requires { ⌜ Holds (now image) key × ((1 ≤ n) × (n ≤ 4066)) ⌝ }
+    requires { ⌜ Holds (now image) key × ((1 ≤ n) × (n ≤ mostBlocks)) ⌝ }
     ensures { λ r. ⌜ r ≡ tests (dataWords disk (now (image .entry)) key header size n) ⌝ }
 {
     if sum_of(image, key) != 0 {
@@ -182,7 +182,7 @@ pub fn data_fault(
     n: u32,
     named: u32,
 ) -> u32
-    requires { ⌜ Sized disk × (size ≤ fileLimit disk) × (Holds (now image) key × ((1 ≤ n) × (n ≤ 4066))) ⌝ }
+    requires { ⌜ Sized disk × (size ≤ fileLimit disk) × (Holds (now image) key × ((1 ≤ n) × (n ≤ mostBlocks))) ⌝ }
     ensures { λ r. ⌜ r ≡ dataFault disk (now (image .entry)) key header size n named ⌝ }
 {
     let f = data_words_fault(disk, image, key, header, size, n);
