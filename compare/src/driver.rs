@@ -105,8 +105,15 @@ impl Batch {
 
     /// Ends the input with bytes that are no whole request, and the line that they are to be answered with.
     pub fn break_off(&mut self, bytes: &[u8], answer: &str) {
+        self.feed("broken off", bytes, &[answer]);
+    }
+
+    /// Adds bytes as they are, for a program without requests, and the lines that they are to be answered with.
+    pub fn feed(&mut self, about: &str, bytes: &[u8], answers: &[impl AsRef<str>]) {
         self.write(bytes);
-        self.expect("broken off".to_string(), answer);
+        for answer in answers {
+            self.expect(about.to_string(), answer.as_ref());
+        }
     }
 
     /// Runs the Rattle program on the requests; panics where an answer is not the one due.

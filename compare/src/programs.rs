@@ -24,6 +24,15 @@ pub fn bytes(words: &[u32]) -> Vec<u8> {
     words.iter().flat_map(|word| word.to_be_bytes()).collect()
 }
 
+/// A file of so many words: one hunk of one word, the rest debug words.
+pub fn long_file(words: usize) -> Vec<u8> {
+    let mut file = vec![HEADER, 0, 1, 0, 0, 1, CODE, 1, 77, RELOCATIONS, 1, 0, 0, 0, DEBUG];
+    file.push((words - file.len() - 2) as u32);
+    file.resize(words - 1, 0xC5C5_C5C5);
+    file.push(END);
+    bytes(&file)
+}
+
 /// A program, as its file will tell it.
 #[derive(Clone, Debug)]
 pub struct Program {

@@ -18,7 +18,7 @@ use compare::bad_programs::{bad_bases, scratch, short_room, BASE_CAUSES, CAUSES}
 use compare::driver::{checksum, Batch};
 use compare::loader::{load, relocate, Lent, Loaded, RECORD};
 use compare::program::{Refusal, BSS, CODE, DATA, END, HEADER, RELOCATIONS};
-use compare::programs::{bytes, file, good_bases, good_program, worked_file, Room};
+use compare::programs::{bytes, file, good_bases, good_program, long_file, worked_file, Room};
 use compare::rng::Rng;
 
 const FILE: u32 = 6;
@@ -294,15 +294,6 @@ fn before_any_file_its_length_is_zero() {
     talk.file(&[]);
     talk.expect(LOAD, &load_body(SOME, &WORKED_BASES), "refused 30 0 ");
     talk.run();
-}
-
-/// A file of so many words: one hunk of one word, the rest debug words.
-fn long_file(words: usize) -> Vec<u8> {
-    let mut file = vec![HEADER, 0, 1, 0, 0, 1, CODE, 1, 77, RELOCATIONS, 1, 0, 0, 0, 0x3F1];
-    file.push((words - file.len() - 2) as u32);
-    file.resize(words - 1, 0xC5C5_C5C5);
-    file.push(END);
-    bytes(&file)
 }
 
 #[test]
