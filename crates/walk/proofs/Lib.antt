@@ -1,0 +1,1 @@
+-- That the walk over a volume decides its law.
