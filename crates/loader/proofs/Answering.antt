@@ -1,10 +1,10 @@
 -- What an accepted file has, and what the calls answer and leave. Assumes nothing.
 use Prim.Native.Nat.{ℕ, zero, suc, _+_, _*_, _%_, _≤_}
 use mathlib.Core.Path.{_≡_, refl, sym, ap, _∙_}
-use mathlib.Core.List.{List, [], _∷_, _++_, append-nil}
+use mathlib.Core.List.{List, [], _∷_, _++_}
 use mathlib.Core.Bool.{Bool, true, false}
 use native.Mathlib.Omega.{arith}
-use lib.ListN.{length, getD, replicate, take, drop, drop-of-length-le}
+use lib.ListN.{length, getD, replicate, take, drop}
 use lib.Dec.{ltb, eqb}
 use borrow.Author.Tests.{ltb-false, eqb-true}
 use Rattle.answers.specs.Tests.{pick}
@@ -212,11 +212,6 @@ getD-zeros (suc n) (suc k) = getD-zeros n k
 
 pub all-zero : (w : List ℕ) (n : ℕ) → w ≡ replicate n 0 → (k : ℕ) → getD w k 0 ≡ 0
 all-zero w n e k = ap (λ (l : List ℕ). getD l k 0) e ∙ getD-zeros n k
-
-pub wiped : (a r : List ℕ) (n : ℕ) → n ≡ length a → r ≡ replicate n 0 ++ drop n a → r ≡ replicate (length a) 0
-wiped a r n e h =
-    let d : length a ≤ length a = omega arith in
-    h ∙ rw e (ap (λ (l : List ℕ). replicate (length a) 0 ++ l) (drop-of-length-le a d) ∙ append-nil _)
 
 -- ---- the table is filled
 

@@ -2,15 +2,15 @@
 use crate::bases::bases_fault;
 use crate::marks::mark_all;
 use crate::memory::add_all;
-use crate::memory::clear;
 use crate::memory::store_all;
-use crate::memory::wipe;
 use crate::table::write_all;
 use answers::Refusal;
 use answers::Tested;
 use program::check::Answer;
 use program::check::check;
 use program::header::total;
+use words::clear;
+use words::wipe;
 ghost use mathlib.Core.Path.{_≡_};
 ghost use mathlib.Core.List.{_++_};
 ghost use Prim.Native.Nat.{ℕ, _<_, _≤_};

@@ -7,34 +7,13 @@ use program::reader::Next;
 use program::reader::begin;
 use program::reader::step;
 ghost use mathlib.Core.Path.{_≡_};
-ghost use mathlib.Core.List.{_++_};
 ghost use Prim.Native.Nat.{_%_, _≤_};
-ghost use lib.ListN.{length, replicate, drop};
+ghost use lib.ListN.{length};
 ghost use Rattle.words.specs.Shift.{shiftAll};
 ghost use Rattle.program.specs.Header.{totalOf};
 ghost use Rattle.program.specs.Acts.{actsOf};
 ghost use Rattle.program.specs.Sane.{Sound};
 ghost use Rattle.loader.specs.Memory.{ActFits, place1, placed, shift1, targetsOf, loadedOf, amountOf};
-
-// Sets the first n bytes to 0.
-pub fn clear(bytes: &mut [u8], n: usize)
-    requires { ⌜ n ≤ length (now bytes) ⌝ }
-    ensures { λ _. ⌜ now (bytes .exit) ≡ replicate n 0 ++ drop n (now (bytes .entry)) ⌝ }
-{
-    let mut i = 0;
-    while i < n {
-        bytes[i] = 0;
-        i += 1;
-    }
-}
-
-// Sets every byte to 0.
-pub fn wipe(bytes: &mut [u8])
-    ensures { λ _. ⌜ now (bytes .exit) ≡ replicate (length (now (bytes .entry))) 0 ⌝ }
-{
-    let n = bytes.len();
-    clear(bytes, n);
-}
 
 fn store_act(memory: &mut [u8], a: Act)
     requires { ⌜ ActFits (length (now memory)) 64 a ⌝ }

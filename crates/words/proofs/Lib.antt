@@ -2,3 +2,4 @@
 pub mod Words
 pub mod Sums
 pub mod Shifts
+pub mod Zeros

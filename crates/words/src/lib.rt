@@ -1,7 +1,8 @@
-// Big-endian 32-bit words of a slice of bytes: read, store, add, and the sum of a block's words.
+// Big-endian 32-bit words of a slice of bytes: read, store, add, and the sum of a block's words; and bytes set to 0.
 ghost use mathlib.Core.Path.{_≡_};
+ghost use mathlib.Core.List.{_++_};
 ghost use Prim.Native.Nat.{_+_, _*_, _≤_};
-ghost use lib.ListN.{length};
+ghost use lib.ListN.{length, replicate, drop};
 ghost use Rattle.words.specs.Word.{four, wordAt, setWord, addAt};
 ghost use Rattle.words.specs.Sum.{blockWords, sumAt};
 
@@ -55,4 +56,24 @@ pub fn block_sum(bytes: &[u8], at: usize) -> u32
         i += 1;
     }
     sum
+}
+
+// Sets the first n bytes to 0.
+pub fn clear(bytes: &mut [u8], n: usize)
+    requires { ⌜ n ≤ length (now bytes) ⌝ }
+    ensures { λ _. ⌜ now (bytes .exit) ≡ replicate n 0 ++ drop n (now (bytes .entry)) ⌝ }
+{
+    let mut i = 0;
+    while i < n {
+        bytes[i] = 0;
+        i += 1;
+    }
+}
+
+// Sets every byte to 0.
+pub fn wipe(bytes: &mut [u8])
+    ensures { λ _. ⌜ now (bytes .exit) ≡ replicate (length (now (bytes .entry))) 0 ⌝ }
+{
+    let n = bytes.len();
+    clear(bytes, n);
 }

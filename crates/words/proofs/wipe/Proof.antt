@@ -1,9 +1,9 @@
--- `loader::memory::wipe` meets its contract. Assumes nothing.
+-- `words::wipe` meets its contract. Assumes nothing.
 use borrow.Author.Needs.{needs}
 use mathlib.Core.Path.{refl}
-use Rattle.loader.proofs.Answering.{wiped}
-use Rattle.loader.proofs.memory.wipe.Statement.{statement}
-use Rattle.loader.proofs.memory.wipe.Tie as tie
+use Rattle.words.proofs.Zeros.{wiped}
+use Rattle.words.proofs.wipe.Statement.{statement}
+use Rattle.words.proofs.wipe.Tie as tie
 
 clear-requires : tie.Need-clear-requires
 clear-requires c κs = search needs
