@@ -3,7 +3,7 @@ use crate::reader::Cursor;
 use crate::reader::Mode;
 use crate::reader::NAME;
 ghost use mathlib.Core.Path.{_≡_};
-ghost use Prim.Native.Nat.{_≤_};
+ghost use Prim.Native.Nat.{_+_, _≤_};
 ghost use Rattle.program.specs.Acts.{actOf};
 
 pub enum Act {
@@ -14,6 +14,14 @@ pub enum Act {
     Store(usize, u32),
     // Place, hunk, and the byte of the file where the offset stands.
     Add(usize, u32, usize),
+}
+
+// Where an offset of the hunk at `place` stands in memory.
+fn target(place: usize, offset: u32) -> usize
+    requires { ⌜ place ≤ 4294967296 ⌝ }
+    ensures { λ r. ⌜ r ≡ place + offset ⌝ }
+{
+    place + offset as usize
 }
 
 // What the word w, at `at`, asks for.
@@ -31,7 +39,7 @@ pub fn act_of(c: Cursor, at: usize, w: u32) -> Act
         }
         Mode::Body => Act::Body(c.hunk, c.place, w),
         Mode::Stored(i) => Act::Store(c.place + 4 * i as usize, w),
-        Mode::Offset(_, k) => Act::Add(c.place + w as usize, k, at),
+        Mode::Offset(_, k) => Act::Add(target(c.place, w), k, at),
         _ => Act::Quiet,
     }
 }

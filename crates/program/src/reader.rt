@@ -246,10 +246,10 @@ fn offset(c: Cursor, n: u32, k: u32, w: u32) -> Next
     if bytes < w as u64 + 4 {
         return Next::Bad(38);
     }
-    if n == 0 {
-        return to(c, Mode::Count);
+    if n != 0 {
+        return to(c, Mode::Offset(n - 1, k));
     }
-    to(c, Mode::Offset(n - 1, k))
+    to(c, Mode::Count)
 }
 
 // The type byte is 0; the name's words and one value follow.

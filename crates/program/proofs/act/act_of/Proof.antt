@@ -30,8 +30,8 @@ add-t11 c = search needs
 enum-known-m-2 : tie.Need-enum-known-m-2
 enum-known-m-2 c = search needs
 
-add-t13 : tie.Need-add-t13
-add-t13 c = search needs
+target-requires : tie.Need-target-requires
+target-requires c κs = search needs
 
 returns-2 : tie.Need-returns-2
 returns-2 c = by-act _ _ _ _ _ (c .before .enum-told .given .1) (if-ne _ _ _ _ _ (c .if1 .left) refl)
@@ -43,7 +43,7 @@ returns-4 : tie.Need-returns-4
 returns-4 c = by-act _ _ _ _ _ (c .before .before .m .given .1) refl
 
 returns-5 : tie.Need-returns-5
-returns-5 c = by-act _ _ _ _ _ (c .before .before .m2 .given .1) refl
+returns-5 c = by-act _ _ _ _ _ (c .before .before .m2 .given .1) (rw (c .target .ensures))
 
 returns-6 : tie.Need-returns-6
 returns-6 c = rest-quiet _ _ _ (c .match .keys5)
@@ -60,7 +60,7 @@ act-of-spec =
     mul-t10
     add-t11
     enum-known-m-2
-    add-t13
+    target-requires
     returns-2
     returns-3
     returns-4

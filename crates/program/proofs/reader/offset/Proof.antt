@@ -19,14 +19,14 @@ add-if2 c = search needs
 returns-2 : tie.Need-returns-2
 returns-2 c = search choices depth 8
 
+sub-t10 : tie.Need-sub-t10
+sub-t10 c = search needs
+
 to-requires : tie.Need-to-requires
 to-requires c κs = search needs
 
 returns-3 : tie.Need-returns-3
 returns-3 c = search choices depth 8
-
-sub-t6 : tie.Need-sub-t6
-sub-t6 c = search needs
 
 to-requires-2 : tie.Need-to-requires-2
 to-requires-2 c κs = search needs
@@ -43,8 +43,8 @@ offset-spec =
     mul-bytes
     add-if2
     returns-2
+    sub-t10
     to-requires
     returns-3
-    sub-t6
     to-requires-2
     returns-4)
