@@ -9,14 +9,23 @@ use program::reader::Next;
 use program::reader::begin;
 use program::reader::step;
 ghost use mathlib.Core.Path.{_≡_};
-ghost use Prim.Native.Nat.{ℕ, _%_, _≤_};
+ghost use Prim.Native.Nat.{ℕ, _+_, _%_, _≤_};
 ghost use lib.ListN.{length, getD};
+ghost use Rattle.words.specs.Word.{setWord};
 ghost use Rattle.program.specs.Sane.{Sound};
 ghost use Rattle.loader.specs.Memory.{ActFits, loadedOf};
 ghost use Rattle.loader.specs.Near.{clashOf, Marks};
 
 // Four bytes of 1.
 const MARK: u32 = 0x01010101;
+
+// Marks the four bytes at p.
+fn mark(work: &mut [u8], p: usize)
+    requires { ⌜ p + 4 ≤ length (now work) ⌝ }
+    ensures { λ _. ⌜ now (work .exit) ≡ setWord (now (work .entry)) p 0x01010101 ⌝ }
+{
+    words::put_word(work, p, MARK);
+}
 
 // Marks the four bytes of a target; true where one was marked before.
 fn mark_act(work: &mut [u8], a: Act) -> bool
@@ -29,7 +38,7 @@ fn mark_act(work: &mut [u8], a: Act) -> bool
     if words::word(work, p) != 0 {
         return true;
     }
-    words::put_word(work, p, MARK);
+    mark(work, p);
     false
 }
 

@@ -7,8 +7,9 @@ use program::reader::Next;
 use program::reader::begin;
 use program::reader::step;
 ghost use mathlib.Core.Path.{_≡_};
-ghost use Prim.Native.Nat.{_%_, _≤_};
+ghost use Prim.Native.Nat.{_+_, _%_, _<_, _≤_};
 ghost use lib.ListN.{length};
+ghost use Rattle.words.specs.Word.{addAt};
 ghost use Rattle.words.specs.Shift.{shiftAll};
 ghost use Rattle.program.specs.Header.{totalOf};
 ghost use Rattle.program.specs.Acts.{actsOf};
@@ -43,13 +44,21 @@ pub fn store_all(file: &[u8], memory: &mut [u8])
     }
 }
 
+// Adds the amount of hunk k to the word at p.
+fn add_amount(memory: &mut [u8], amounts: &[u32], p: usize, k: u32)
+    requires { ⌜ (p + 4 ≤ length (now memory)) × (k < length (now amounts)) ⌝ }
+    ensures { λ _. ⌜ now (memory .exit) ≡ addAt (now (memory .entry)) p (amountOf (now (amounts .entry)) k) ⌝ }
+{
+    let i = k as usize;
+    words::add_at(memory, p, amounts[i]);
+}
+
 fn add_act(memory: &mut [u8], amounts: &[u32], a: Act)
     requires { ⌜ ActFits (length (now memory)) (length (now amounts)) a ⌝ }
     ensures { λ _. ⌜ now (memory .exit) ≡ shift1 (now (memory .entry)) (amountOf (now (amounts .entry))) a ⌝ }
 {
     if let Act::Add(p, k, _) = a {
-        let i = k as usize;
-        words::add_at(memory, p, amounts[i]);
+        add_amount(memory, amounts, p, k);
     }
 }
 

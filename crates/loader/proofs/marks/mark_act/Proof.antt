@@ -20,14 +20,14 @@ same-length c = search needs
 returns-2 : tie.Need-returns-2
 returns-2 c = mark-met _ _ _ _ _ _ (c .before .before .before .before .a .given .1) (c .before .word .ensures) (c .if1 .taken)
 
-put-word-requires : tie.Need-put-word-requires
-put-word-requires c κs = add-room _ _ _ (c .before .before .before .before .before .before .before .before .pre) _ _ _ (c .before .before .before .before .before .a .given .1) .0
+mark-requires : tie.Need-mark-requires
+mark-requires c κs = add-room _ _ _ (c .before .before .before .before .before .before .before .before .pre) _ _ _ (c .before .before .before .before .before .a .given .1) .0
 
 same-length-2 : tie.Need-same-length-2
 same-length-2 c = search needs
 
 returns-3 : tie.Need-returns-3
-returns-3 c = mark-new _ _ _ _ _ _ _ (c .before .before .before .before .before .before .before .before .a .given .1) (c .before .before .before .before .before .word .ensures) (c .before .before .before .before .if1 .left) (c .before .before .put-word .ensures)
+returns-3 c = mark-new _ _ _ _ _ _ _ (c .before .before .before .before .before .before .before .before .a .given .1) (c .before .before .before .before .before .word .ensures) (c .before .before .before .before .if1 .left) (c .before .before .mark .ensures)
 
 pub mark-act-spec : {M : Type 1} → statement M
 mark-act-spec =
@@ -38,6 +38,6 @@ mark-act-spec =
     word-requires
     same-length
     returns-2
-    put-word-requires
+    mark-requires
     same-length-2
     returns-3)
