@@ -103,78 +103,6 @@ fn of_records(records: u32) -> usize {
     4 * records as usize
 }
 
-// A load with these bases, in areas of the lengths that the first three numbers say.
-fn load_within(
-    numbers: &[u32; NUMBERS],
-    bases: &[u32],
-    state: State,
-    file: &[u8],
-    memory: &mut [u8],
-    table: &mut [u32],
-    work: &mut [u8],
-) -> State {
-    let m = wide(numbers[0]);
-    let t = of_records(numbers[1]);
-    let w = wide(numbers[2]);
-    if m > memory.len() {
-        return state.bad();
-    }
-    if t > table.len() {
-        return state.bad();
-    }
-    if w > work.len() {
-        return state.bad();
-    }
-    load_into(
-        file,
-        bases,
-        &mut memory[..m],
-        &mut table[..t],
-        &mut work[..w],
-    );
-    state.with_load(numbers[0], numbers[1])
-}
-
-// A move between these bases, in areas of the lengths that the first three numbers say: parts of those that the last load was lent.
-fn move_within(
-    numbers: &[u32; NUMBERS],
-    old: &[u32],
-    new: &[u32],
-    state: State,
-    file: &[u8],
-    memory: &mut [u8],
-    table: &mut [u32],
-    work: &mut [u8],
-) -> State {
-    if numbers[0] > state.memory {
-        return state.bad();
-    }
-    if numbers[1] > state.records {
-        return state.bad();
-    }
-    let m = wide(numbers[0]);
-    let t = of_records(numbers[1]);
-    let w = wide(numbers[2]);
-    if m > memory.len() {
-        return state.bad();
-    }
-    if t > table.len() {
-        return state.bad();
-    }
-    if w > work.len() {
-        return state.bad();
-    }
-    move_in(
-        file,
-        old,
-        new,
-        &mut memory[..m],
-        &mut table[..t],
-        &mut work[..w],
-    );
-    state
-}
-
 // A load by so many numbers: memory length, records, work length, bases.
 fn load_by(
     numbers: &[u32; NUMBERS],
@@ -192,10 +120,12 @@ fn load_by(
         return state.bad();
     }
     let all = &numbers[..];
-    load_within(numbers, &all[3..count], state, file, memory, table, work)
+    load_into(file, &all[3..count], memory, table, work);
+    state.with_load(numbers[0], numbers[1])
 }
 
-// A move by so many numbers: memory length, records, work length, count of old bases, old bases, new bases.
+// A move by so many numbers: memory length, records, work length, count of old bases, old bases, new bases. Memory and table are parts
+// of those that the last load was lent.
 fn move_by(
     numbers: &[u32; NUMBERS],
     count: usize,
@@ -205,6 +135,12 @@ fn move_by(
     table: &mut [u32],
     work: &mut [u8],
 ) -> State {
+    if numbers[0] > state.memory {
+        return state.bad();
+    }
+    if numbers[1] > state.records {
+        return state.bad();
+    }
     let old = wide(numbers[3]);
     if old > BASES {
         return state.bad();
@@ -217,15 +153,59 @@ fn move_by(
         return state.bad();
     }
     let all = &numbers[..];
-    move_within(
+    move_in(file, &all[4..new], &all[new..count], memory, table, work);
+    state
+}
+
+// A load or a move by so many numbers.
+fn call_by(
+    moves: bool,
+    numbers: &[u32; NUMBERS],
+    count: usize,
+    state: State,
+    file: &[u8],
+    memory: &mut [u8],
+    table: &mut [u32],
+    work: &mut [u8],
+) -> State {
+    if moves {
+        return move_by(numbers, count, state, file, memory, table, work);
+    }
+    load_by(numbers, count, state, file, memory, table, work)
+}
+
+// The same in areas of the lengths that the first three numbers say.
+fn call_within(
+    moves: bool,
+    numbers: &[u32; NUMBERS],
+    count: usize,
+    state: State,
+    file: &[u8],
+    memory: &mut [u8],
+    table: &mut [u32],
+    work: &mut [u8],
+) -> State {
+    let m = wide(numbers[0]);
+    let t = of_records(numbers[1]);
+    let w = wide(numbers[2]);
+    if m > memory.len() {
+        return state.bad();
+    }
+    if t > table.len() {
+        return state.bad();
+    }
+    if w > work.len() {
+        return state.bad();
+    }
+    call_by(
+        moves,
         numbers,
-        &all[4..new],
-        &all[new..count],
+        count,
         state,
         file,
-        memory,
-        table,
-        work,
+        &mut memory[..m],
+        &mut table[..t],
+        &mut work[..w],
     )
 }
 
@@ -262,8 +242,14 @@ pub fn call(
     }
     numbers_of(&body, &mut numbers);
     let held = io::count(state.file as isize, room);
-    if moves {
-        return move_by(&numbers, n / 4, state, &room[..held], memory, table, work);
-    }
-    load_by(&numbers, n / 4, state, &room[..held], memory, table, work)
+    call_within(
+        moves,
+        &numbers,
+        n / 4,
+        state,
+        &room[..held],
+        memory,
+        table,
+        work,
+    )
 }
