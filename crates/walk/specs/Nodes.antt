@@ -12,6 +12,7 @@ use Rattle.volume.specs.Disks.{rootOf, inRange}
 use Rattle.volume.specs.Blocks.{slots, wordOf, slotWord, keyWord, directory}
 use Rattle.volume.specs.Names.{nameOf, same}
 use Rattle.volume.specs.Files.{keysHere, sizeOf, blocksOf}
+use Rattle.volume.specs.References.{Kind, Ref, to}
 use Rattle.volume.specs.Law.{chainKey}
 use Rattle.volume.specs.Rules.{rootFault, mapFault, bitmapFault, entryFault, fileFault, listFault, dataFault}
 use Rattle.walk.specs.declared.Counts.{Counts}
@@ -33,6 +34,14 @@ keyOf d (bitmap k) = k
 keyOf d (entry k t i p) = k
 keyOf d (list k h m b) = k
 keyOf d (datum k h n b) = k
+
+-- the block that a node asks for, and the kind: what is left when its context is forgotten
+abbrev pub bare : Disk → Node → Ref
+bare d root = to Kind.root (rootOf d)
+bare d (bitmap k) = to Kind.bitmap k
+bare d (entry k t i p) = to Kind.entry k
+bare d (list k h m b) = to Kind.list k
+bare d (datum k h n b) = to Kind.datum k
 
 -- ---- what a node leads to, in order
 
