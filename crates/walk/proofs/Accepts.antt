@@ -16,9 +16,9 @@ use Rattle.volume.specs.declared.disk.Disk.{Disk}
 use Rattle.volume.specs.Disks.{rootOf}
 use Rattle.volume.specs.Blocks.{slots, wordOf, directory}
 use Rattle.volume.specs.Files.{keysHere, blocksOf, keysDown}
-use Rattle.volume.specs.References.{Kind, Ref, to, slotRefs, listed as listedRefs, refersTo, references}
+use Rattle.volume.specs.References.{Kind, to, slotRefs, listed as listedRefs, refersTo, references}
 use Rattle.volume.proofs.Passes.{list-passed, file-passed}
-use Rattle.walk.specs.Nodes.{Node, root, bitmap, entry, list, datum, keyOf, bare, chained, before, keyNodes, listing, listedBy, listed, contents, leadsTo, keyFault, faultOf, nothing, graph, walkOf}
+use Rattle.walk.specs.Nodes.{Node, root, bitmap, entry, list, datum, keyOf, bare, chained, before, keyNodes, listing, listedBy, contents, leadsTo, keyFault, faultOf, nothing, graph, walkOf}
 use Rattle.walk.proofs.Nodes.{linked-bare, slots-bare, keys-bare}
 use Rattle.walk.proofs.Passes.{key-passed, hung-passed}
 

@@ -5,7 +5,6 @@ use native.Mathlib.Omega.{arith}
 use mathlib.Core.Bool.{Bool, true, false}
 use mathlib.Core.List.{List, [], _∷_, _++_}
 use Rattle.answers.specs.Tests.{pick, must, never, first}
-use Rattle.reach.specs.References.{References}
 use Rattle.reach.specs.Walk.{Graph, Outcome, audit}
 use Rattle.volume.specs.declared.disk.Disk.{Disk}
 use Rattle.volume.specs.Disks.{rootOf, inRange}

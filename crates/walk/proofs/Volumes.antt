@@ -1,0 +1,131 @@
+-- The theorem `fine-volume`: if every reached node passes its tests, every block is owned once, and length, tag and bitmap are right, the
+-- volume is as its law says. Assumes nothing.
+use Prim.Native.Nat.{ℕ, zero, suc, _+_, _-_, _≤_, _<_}
+use mathlib.Core.Path.{_≡_, refl, sym, ap, _∙_, subst}
+use mathlib.Core.Logic.{_↔_}
+use mathlib.Core.Bool.{Bool, true, false}
+use mathlib.Core.List.{List}
+use native.Mathlib.Omega.{arith}
+use lib.ListN.{length}
+use Rattle.words.specs.Word.{wordAt}
+use Rattle.answers.proofs.Tests.{first-zero}
+use Rattle.reach.specs.References.{_∈_, Reached, top, Owned}
+use Rattle.reach.specs.Law.{Fine}
+use Rattle.reach.proofs.Lists.{in-left, in-right}
+use Rattle.reach.proofs.Bare.{from-bare}
+use Rattle.volume.specs.declared.disk.Disk.{Disk}
+use Rattle.volume.specs.Disks.{firstKey, imageBytes, tagOf, rootOf}
+use Rattle.volume.specs.Blocks.{wordOf, sumOf, directory}
+use Rattle.volume.specs.Files.{listBlocks, blocksOf}
+use Rattle.volume.specs.Bitmap.{isFree}
+use Rattle.volume.specs.References.{Kind, Ref, to, references}
+use Rattle.volume.specs.Law.{Root, Lists, Directory, File, Volume}
+use Rattle.volume.specs.Rules.{rootFault, mapFault}
+use Rattle.volume.proofs.Passes.{Placed, root-passed, entry-passed, file-passed, list-passed, data-passed}
+use Rattle.walk.specs.Nodes.{Node, root, bitmap, entry, list, datum, keyOf, bare, before, keyNodes, listing, listed, contents, leadsTo, faultOf, graph}
+use Rattle.walk.proofs.Nodes.{linked-in}
+use Rattle.walk.proofs.Passes.{Hung, key-passed, hung-passed, sum-passed}
+use Rattle.walk.proofs.Accepts.{key-bare, refs-bare}
+use Rattle.walk.proofs.Spreads.{Spread, here, file-spreads}
+use Rattle.walk.proofs.Listed.{Sound, run-listed}
+use Rattle.walk.proofs.Directories.{leads, contents-reached, root-opened, directory-law}
+
+module _ (d : Disk) (s : List ℕ) (fine : Fine (graph d s)) where
+  abbrev R : Node → Type 0
+  R n = Reached (graph d s .references) n
+
+  -- ---- a file
+
+  sound : (n : Node) → R n → Sound d s n
+  unfolding faultOf
+  sound root r = tt
+  sound (bitmap k) r = tt
+  sound (entry k t i p) r = tt
+  sound (list k h m c) r = tt
+  sound (datum k h n c) r = let p = data-passed d s k h n (wordOf s c 4) (fine (datum k h n c) r .1) in (p .1, p .2 .0, p .2 .1)
+
+  spread-reached : (h q b m c : ℕ) → q ≡ listBlocks (blocksOf d s h - m) → ((x : Node) → x ∈ listed d s h b m c → R x) → Lists s b (blocksOf d s h - m) → Spread d s h q b m c
+  unfolding faultOf leadsTo
+  spread-reached h zero b m c e r l = (l, run-listed d s h b m c .1 (λ x a. sound x (r x (in-left x (keyNodes s h b m c 0 (here d s h m)) (listing (wordOf s b 126) h (m + here d s h m) (before s b c (here d s h m))) a))))
+  spread-reached h (suc q) b m c e r l =
+      let n = here d s h m in
+      let x = list (wordOf s b 126) h (m + n) (before s b c n) in
+      let l₁ = keyNodes s h b m c 0 n in
+      let l₂ = listing (wordOf s b 126) h (m + n) (before s b c n) in
+      let a = r x (in-right x l₁ l₂ (linked-in (wordOf s b 126) (λ k. list k h (m + n) (before s b c n)) (λ z. omega (arith, e, l .more .0 z)))) in
+      let f = list-passed s (wordOf s b 126) h (blocksOf d s h - (m + n)) (fine x a .1) in
+      (l, run-listed d s h b m c .1 (λ y b. sound y (r y (in-left y l₁ l₂ b))), f .1, spread-reached h q (wordOf s b 126) (m + n) (before s b c n) (omega (arith, e)) (λ y b. leads d s x y a b) (f .2))
+
+  -- ---- from the bare references back to nodes
+
+  reached : (r : Ref) → Reached (references d s) r → (n : Node) × R n × (r ≡ bare d n)
+  reached r h = from-bare (graph d s) (references d s) (bare d) refl (key-bare d s) (refs-bare d s) fine h
+
+  key-of : (r : Ref) (n : Node) → r ≡ bare d n → keyOf d n ≡ r .key
+  key-of r n e = sym (key-bare d s n) ∙ ap (λ x. x .key) (sym e)
+
+  abbrev IsEntry : Kind → Type 0
+  IsEntry Kind.root = ⊥
+  IsEntry Kind.bitmap = ⊥
+  IsEntry Kind.entry = Unit {0}
+  IsEntry Kind.list = ⊥
+  IsEntry Kind.datum = ⊥
+
+  abbrev EntryNode : ℕ → Type 0
+  EntryNode k = (t : ℕ) × (i : ℕ) × (p : ℕ) × R (entry k t i p)
+
+  entry-node : (k : ℕ) (n : Node) → R n → to Kind.entry k ≡ bare d n → EntryNode k
+  entry-node k root r e = absurd (subst IsEntry (ap (λ x. x .kind) e) tt)
+  entry-node k (bitmap x) r e = absurd (subst IsEntry (ap (λ x. x .kind) e) tt)
+  entry-node k (entry x t i p) r e = (t, i, p, subst (λ y. R (entry y t i p)) (ap (λ x. x .key) (sym e)) r)
+  entry-node k (list x h m c) r e = absurd (subst IsEntry (ap (λ x. x .kind) e) tt)
+  entry-node k (datum x h n c) r e = absurd (subst IsEntry (ap (λ x. x .kind) e) tt)
+
+  module _ (k : ℕ) (h : Reached (references d s) (to Kind.entry k)) where
+    node : EntryNode k
+    node = let r = reached (to Kind.entry k) h in entry-node k (r .0) (r .1) (r .2)
+
+    hung : Hung d s k (node .0) (node .1) (node .2)
+    unfolding faultOf
+    hung = hung-passed d s k (node .0) (node .1) (node .2) (fine (entry k (node .0) (node .1) (node .2)) (node .3) .1)
+
+    placed : Placed d s k (node .0) (node .1)
+    placed = entry-passed d s k (node .0) (node .1) (hung .0)
+
+    content : (b : Bool) → directory s k ≡ b → (n : Node) → n ∈ contents d s k b → R n
+    content b = contents-reached d s k (node .0) (node .1) (node .2) b (node .3)
+
+    directory-reached : directory s k ≡ true → (wordOf s k 126 ≡ 0) × Directory d s k
+    directory-reached e = (placed .link e, directory-law d s k (content true e) fine)
+
+    file-reached : directory s k ≡ false → File d s k
+    file-reached e =
+        let f = file-passed d s k (hung .2 e) in
+        let z : blocksOf d s k ≡ blocksOf d s k - 0 = omega arith in
+        file-spreads d s k .1 (f .0, f .2, spread-reached k (listBlocks (blocksOf d s k)) k 0 k (ap listBlocks z) (content false e) (subst (Lists s k) z (f .1)))
+
+  -- ---- the theorem
+
+  -- a bit is 0 exactly if its block is reached
+  abbrev Bits : Type 0
+  Bits = (k : ℕ) → firstKey ≤ k → k < d .blocks → (isFree s (wordOf s (rootOf d) 79) k ≡ false) ↔ ((r : Ref) × Reached (references d s) r × (r .key ≡ k))
+
+  root-reached : Root s (rootOf d)
+  unfolding faultOf
+  root-reached = let f = first-zero (rootFault d s) (mapFault d s) (fine root (top refl) .1) in root-passed d s (f .0) (f .1) .1
+
+  pub fine-volume : Owned (references d s) → length s ≡ imageBytes d → wordAt s 0 ≡ tagOf d → Bits → Volume d s
+  fine-volume o l t b =
+      record {
+        long = l;
+        tag = t;
+        keys = λ r h. let n = reached r h in subst (λ k. (firstKey ≤ k) × (k < d .blocks)) (key-of r (n .0) (n .2)) (key-passed d (keyOf d (n .0)) (fine (n .0) (n .1) .0));
+        sums = λ r h. let n = reached r h in subst (λ k. sumOf s k ≡ 0) (key-of r (n .0) (n .2)) (sum-passed d s (n .0) (fine (n .0) (n .1) .1));
+        top = root-reached;
+        entries = λ k h. placed k h .entry;
+        holds = directory-law d s (rootOf d) (root-opened d s) fine;
+        directories = directory-reached;
+        files = file-reached;
+        owned = o;
+        bits = b;
+      }
