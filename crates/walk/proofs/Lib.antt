@@ -1,5 +1,7 @@
 -- That the walk over a volume decides its law.
 
+-- facts on the places of a list
+pub mod Lists
 -- what stands among the nodes that a node leads to
 pub mod Nodes
 -- a node passes its tests exactly if its block is as the law says
@@ -16,3 +18,9 @@ pub mod Listed
 pub mod Directories
 -- `fine-volume`: if every node passes, the volume is as its law says
 pub mod Volumes
+-- no key stands twice on a chain of a volume whose blocks are owned once
+pub mod Places
+-- what a node's context says, kept from node to node
+pub mod Coherent
+-- `volume-fine`: if the volume is as its law says, every node passes
+pub mod Lawful

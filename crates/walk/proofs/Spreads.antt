@@ -95,6 +95,11 @@ module _ (d : Disk) (s : List ℕ) (h : ℕ) where
   Spread zero b m c = Lists s b (blocksOf d s h - m) × Run m c (keysDown s b 0 (here m))
   Spread (suc q) b m c = Lists s b (blocksOf d s h - m) × Run m c (keysDown s b 0 (here m)) × ListBlock s h (wordOf s b 126) × Spread q (wordOf s b 126) (m + here m) (before s b c (here m))
 
+  -- of b itself
+  pub spread-first : (q b m c : ℕ) → Spread q b m c → Lists s b (blocksOf d s h - m) × Run m c (keysDown s b 0 (here m))
+  spread-first zero b m c p = p
+  spread-first (suc q) b m c p = (p .0, p .1)
+
   -- the law's rules of the same blocks, r keys still to come
   abbrev Listing : ℕ → ℕ → ℕ → Type 0
   Listing q b r = (i x n : ℕ) → n ≡ r - slots * i → At i x (b ∷ listsFrom s b q) → Lists s x n

@@ -26,8 +26,8 @@ use Rattle.walk.specs.Nodes.{Node, root, bitmap, entry, list, datum, key
 use Rattle.walk.proofs.Nodes.{linked-in}
 use Rattle.walk.proofs.Passes.{Hung, key-passed, hung-passed, sum-passed}
 use Rattle.walk.proofs.Accepts.{key-bare, refs-bare}
-use Rattle.walk.proofs.Spreads.{Spread, here, file-spreads}
-use Rattle.walk.proofs.Listed.{Sound, run-listed}
+use Rattle.walk.proofs.Spreads.{Follows, Spread, here, file-spreads}
+use Rattle.walk.proofs.Listed.{run-listed}
 use Rattle.walk.proofs.Directories.{leads, contents-reached, root-opened, directory-law}
 
 module _ (d : Disk) (s : List ℕ) (fine : Fine (graph d s)) where
@@ -36,7 +36,15 @@ module _ (d : Disk) (s : List ℕ) (fine : Fine (graph d s)) where
 
   -- ---- a file
 
-  sound : (n : Node) → R n → Sound d s n
+  -- of a data block's node, that it is as the law says
+  abbrev Sound : Node → Type 0
+  Sound root = Unit {0}
+  Sound (bitmap k) = Unit {0}
+  Sound (entry k t i p) = Unit {0}
+  Sound (list k h m c) = Unit {0}
+  Sound (datum k h n c) = Follows d s h n c k
+
+  sound : (n : Node) → R n → Sound n
   unfolding faultOf
   sound root r = tt
   sound (bitmap k) r = tt
@@ -46,7 +54,7 @@ module _ (d : Disk) (s : List ℕ) (fine : Fine (graph d s)) where
 
   spread-reached : (h q b m c : ℕ) → q ≡ listBlocks (blocksOf d s h - m) → ((x : Node) → x ∈ listed d s h b m c → R x) → Lists s b (blocksOf d s h - m) → Spread d s h q b m c
   unfolding faultOf leadsTo
-  spread-reached h zero b m c e r l = (l, run-listed d s h b m c .1 (λ x a. sound x (r x (in-left x (keyNodes s h b m c 0 (here d s h m)) (listing (wordOf s b 126) h (m + here d s h m) (before s b c (here d s h m))) a))))
+  spread-reached h zero b m c e r l = (l, run-listed d s h b m c Sound (λ k n e. ((λ f. f), (λ f. f))) .1 (λ x a. sound x (r x (in-left x (keyNodes s h b m c 0 (here d s h m)) (listing (wordOf s b 126) h (m + here d s h m) (before s b c (here d s h m))) a))))
   spread-reached h (suc q) b m c e r l =
       let n = here d s h m in
       let x = list (wordOf s b 126) h (m + n) (before s b c n) in
@@ -54,7 +62,7 @@ module _ (d : Disk) (s : List ℕ) (fine : Fine (graph d s)) where
       let l₂ = listing (wordOf s b 126) h (m + n) (before s b c n) in
       let a = r x (in-right x l₁ l₂ (linked-in (wordOf s b 126) (λ k. list k h (m + n) (before s b c n)) (λ z. omega (arith, e, l .more .0 z)))) in
       let f = list-passed s (wordOf s b 126) h (blocksOf d s h - (m + n)) (fine x a .1) in
-      (l, run-listed d s h b m c .1 (λ y b. sound y (r y (in-left y l₁ l₂ b))), f .1, spread-reached h q (wordOf s b 126) (m + n) (before s b c n) (omega (arith, e)) (λ y b. leads d s x y a b) (f .2))
+      (l, run-listed d s h b m c Sound (λ k n e. ((λ f. f), (λ f. f))) .1 (λ y b. sound y (r y (in-left y l₁ l₂ b))), f .1, spread-reached h q (wordOf s b 126) (m + n) (before s b c n) (omega (arith, e)) (λ y b. leads d s x y a b) (f .2))
 
   -- ---- from the bare references back to nodes
 
