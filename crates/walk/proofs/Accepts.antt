@@ -51,7 +51,8 @@ module _ (d : Disk) (s : List ℕ) where
   refs-bare (list k h m c) b e = listed-bare h k m c (keysHere (blocksOf d s h - m)) (list-passed s k h _ e .2 .count)
   refs-bare (datum k h n c) b e = refl
 
-  room : (n : Node) → keyFault d (keyOf d n) ≡ 0 → keyOf d n < d .blocks
+  -- whatever is in range has a claim byte
+  pub room : (n : Node) → keyFault d (keyOf d n) ≡ 0 → keyOf d n < d .blocks
   room n e = key-passed d (keyOf d n) e .1
 
   pub accepted-lawful : Accepted (walkOf d s) ↔ (Fine (graph d s) × Owned (references d s))

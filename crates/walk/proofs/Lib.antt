@@ -24,3 +24,13 @@ pub mod Places
 pub mod Coherent
 -- `volume-fine`: if the volume is as its law says, every node passes
 pub mod Lawful
+-- `volume-decided`: a volume is lawful exactly if the walk accepts it, and its length, tag and bitmap are right
+pub mod Decides
+-- counting references of a kind
+pub mod Tallies
+-- only the root leads to a bitmap block
+pub mod Bitmaps
+-- `walked-report`: what an accepted walk hands back
+pub mod Reports
+-- `refused-why`: what a refusal means
+pub mod Refuses

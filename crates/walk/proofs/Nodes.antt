@@ -12,7 +12,7 @@ use Rattle.volume.specs.declared.disk.Disk.{Disk}
 use Rattle.volume.specs.Blocks.{slotWord, keyWord}
 use Rattle.volume.specs.Files.{keysDown}
 use Rattle.volume.specs.References.{Kind, to, link, slotRefs}
-use Rattle.walk.specs.Nodes.{Node, entry, datum, bare, linked, chained, slotNodes, keyNodes}
+use Rattle.walk.specs.Nodes.{Node, entry, datum, bare, linked, chained, slotNodes, before, keyNodes}
 
 -- ---- a link
 
@@ -52,6 +52,14 @@ module _ (s : List ℕ) (t : ℕ) where
       go : Dec (i < j) → (suc i ≤ j → j < suc i + n → slotWord s t j ≢ 0 → x ∈ slotNodes s t (suc i) n) → x ∈ (chained (slotWord s t i) t i 0 ++ slotNodes s t (suc i) n)
       go (yes q) later = in-right x (chained (slotWord s t i) t i 0) (slotNodes s t (suc i) n) (later q (omega arith) w)
       go (no q) later = let e : j ≡ i = omega arith in in-left x (chained (slotWord s t i) t i 0) (slotNodes s t (suc i) n) (subst (λ y. x ∈ chained (slotWord s t y) t y 0) e (linked-in (slotWord s t j) (λ k. entry k t j 0) w))
+
+-- ---- the keys of a file
+
+pub in-keys : (s : List ℕ) (h b m c i n : ℕ) (x : Node) → x ∈ keyNodes s h b m c i n → (k : ℕ) × (j : ℕ) × (e : ℕ) × (x ≡ datum k h j e)
+unfolding keyNodes
+in-keys s h b m c i zero x a = absurd a
+in-keys s h b m c i (suc n) x (inl e) = (keyWord s b i, suc (m + i), before s b c i, e)
+in-keys s h b m c i (suc n) x (inr a) = in-keys s h b m c (suc i) n x a
 
 -- ---- with no context
 

@@ -23,12 +23,17 @@ use Rattle.volume.specs.Law.{Root, Lists, Directory, File, Volume}
 use Rattle.volume.specs.Rules.{rootFault, mapFault}
 use Rattle.volume.proofs.Passes.{Placed, root-passed, entry-passed, file-passed, list-passed, data-passed}
 use Rattle.walk.specs.Nodes.{Node, root, bitmap, entry, list, datum, keyOf, bare, before, keyNodes, listing, listed, contents, leadsTo, faultOf, graph}
+use Rattle.walk.specs.Reports.{Used}
 use Rattle.walk.proofs.Nodes.{linked-in}
 use Rattle.walk.proofs.Passes.{Hung, key-passed, hung-passed, sum-passed}
 use Rattle.walk.proofs.Accepts.{key-bare, refs-bare}
 use Rattle.walk.proofs.Spreads.{Follows, Spread, here, file-spreads}
 use Rattle.walk.proofs.Listed.{run-listed}
 use Rattle.walk.proofs.Directories.{leads, contents-reached, root-opened, directory-law}
+
+-- a bit is 0 exactly if its block is reached
+abbrev pub Bits : Disk → List ℕ → Type 0
+Bits d s = (k : ℕ) → firstKey ≤ k → k < d .blocks → (isFree s (wordOf s (rootOf d) 79) k ≡ false) ↔ Used d s k
 
 module _ (d : Disk) (s : List ℕ) (fine : Fine (graph d s)) where
   abbrev R : Node → Type 0
@@ -114,15 +119,11 @@ module _ (d : Disk) (s : List ℕ) (fine : Fine (graph d s)) where
 
   -- ---- the theorem
 
-  -- a bit is 0 exactly if its block is reached
-  abbrev Bits : Type 0
-  Bits = (k : ℕ) → firstKey ≤ k → k < d .blocks → (isFree s (wordOf s (rootOf d) 79) k ≡ false) ↔ ((r : Ref) × Reached (references d s) r × (r .key ≡ k))
-
   root-reached : Root s (rootOf d)
   unfolding faultOf
   root-reached = let f = first-zero (rootFault d s) (mapFault d s) (fine root (top refl) .1) in root-passed d s (f .0) (f .1) .1
 
-  pub fine-volume : Owned (references d s) → length s ≡ imageBytes d → wordAt s 0 ≡ tagOf d → Bits → Volume d s
+  pub fine-volume : Owned (references d s) → length s ≡ imageBytes d → wordAt s 0 ≡ tagOf d → Bits d s → Volume d s
   fine-volume o l t b =
       record {
         long = l;
