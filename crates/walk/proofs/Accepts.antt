@@ -7,16 +7,16 @@ use mathlib.Core.Bool.{Bool, true, false}
 use mathlib.Core.List.{List, _∷_, _++_, map, map-append}
 use native.Mathlib.Omega.{arith}
 use Rattle.answers.specs.Tests.{pick}
-use Rattle.reach.specs.References.{Owned}
+use Rattle.reach.specs.References.{Reached, Owned}
 use Rattle.reach.specs.Walk.{Accepted}
 use Rattle.reach.specs.Law.{Fine}
 use Rattle.reach.proofs.Accepts.{accepts}
-use Rattle.reach.proofs.Bare.{law-bare}
+use Rattle.reach.proofs.Bare.{to-bare, from-bare, law-bare}
 use Rattle.volume.specs.declared.disk.Disk.{Disk}
 use Rattle.volume.specs.Disks.{rootOf}
 use Rattle.volume.specs.Blocks.{slots, wordOf, directory}
 use Rattle.volume.specs.Files.{keysHere, blocksOf, keysDown}
-use Rattle.volume.specs.References.{Kind, to, slotRefs, listed as listedRefs, refersTo, references}
+use Rattle.volume.specs.References.{Kind, Ref, to, slotRefs, listed as listedRefs, refersTo, references}
 use Rattle.volume.proofs.Passes.{list-passed, file-passed}
 use Rattle.walk.specs.Nodes.{Node, root, bitmap, entry, list, datum, keyOf, bare, chained, before, keyNodes, listing, listedBy, contents, leadsTo, keyFault, faultOf, nothing, graph, walkOf}
 use Rattle.walk.proofs.Nodes.{linked-bare, slots-bare, keys-bare}
@@ -61,3 +61,15 @@ module _ (d : Disk) (s : List ℕ) where
       let a = accepts (graph d s) (d .blocks) room nothing in
       let b = law-bare (graph d s) (references d s) (bare d) refl key-bare refs-bare in
       ((λ h. b .0 (a .0 h)), (λ h. a .1 (b .1 h)))
+
+  -- ---- where every node passes, what is reached is one, with its context or without
+
+  module _ (fine : Fine (graph d s)) where
+    pub block-reached : {n : Node} → Reached (graph d s .references) n → Reached (references d s) (bare d n)
+    block-reached r = to-bare (graph d s) (references d s) (bare d) refl key-bare refs-bare fine r
+
+    pub node-reached : {r : Ref} → Reached (references d s) r → (n : Node) × Reached (graph d s .references) n × (r ≡ bare d n)
+    node-reached r = from-bare (graph d s) (references d s) (bare d) refl key-bare refs-bare fine r
+
+    pub node-key : {r : Ref} (h : Reached (references d s) r) → keyOf d (node-reached h .0) ≡ r .key
+    node-key h = sym (key-bare (node-reached h .0)) ∙ ap (λ x. x .key) (sym (node-reached h .2))

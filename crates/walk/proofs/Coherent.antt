@@ -14,16 +14,16 @@ use Rattle.volume.specs.Files.{listBlocks, blocksOf}
 use Rattle.volume.specs.References.{Kind, to, references}
 use Rattle.volume.specs.Law.{chainKey, ListBlock, File}
 use Rattle.walk.specs.Nodes.{Node, root, bitmap, entry, list, datum, bare, chained, slotNodes, before, keyNodes, listing, listed, contents, leadsTo}
-use Rattle.walk.proofs.Nodes.{in-linked, in-slots}
+use Rattle.walk.proofs.Nodes.{in-linked, in-slots, in-keys}
 use Rattle.walk.proofs.Chains.{chain-next}
 use Rattle.walk.proofs.Spreads.{Follows, Spread, here, spread-first, file-spreads}
-use Rattle.walk.proofs.Listed.{run-listed}
+use Rattle.walk.proofs.Listed.{Sound, run-listed}
 use Rattle.walk.proofs.Places.{Holder}
 
 module _ (d : Disk) (s : List ℕ) where
   abbrev pub Coherent : Node → Type 0
   Coherent root = Unit {0}
-  Coherent (bitmap k) = Unit {0}
+  Coherent (bitmap k) = k ≡ wordOf s (rootOf d) 79
   Coherent (entry k t i p) = Holder d s t × (i < slots) × (chainKey s (slotWord s t i) p ≡ k) × (k ≢ 0)
   Coherent (list k h m c) = ListBlock s h k × Spread d s h (listBlocks (blocksOf d s h - m)) k m c
   Coherent (datum k h n c) = Follows d s h n c k
@@ -47,7 +47,7 @@ module _ (d : Disk) (s : List ℕ) where
     listed-coherent x a = go (in-either x (keyNodes s h b m c 0 n) (listing (wordOf s b 126) h (m + n) (before s b c n)) a)
       where
         go : (x ∈ keyNodes s h b m c 0 n) ⊎ (x ∈ listing (wordOf s b 126) h (m + n) (before s b c n)) → Coherent x
-        go (inl a) = run-listed d s h b m c Coherent (λ k n e. ((λ f. f), (λ f. f))) .0 (spread-first d s h q b m c p .1) x a
+        go (inl a) = let w = in-keys s h b m c 0 n x a in subst Coherent (sym (w .3)) (subst (Sound d s) (w .3) (run-listed d s h b m c .0 (spread-first d s h q b m c p .1) x a))
         go (inr a) =
             let r = in-linked (wordOf s b 126) (λ k. list k h (m + n) (before s b c n)) x a in
             subst Coherent (sym (r .1)) (behind-coherent q refl p (r .0))
@@ -73,7 +73,7 @@ module _ (d : Disk) (s : List ℕ) where
 
   pub leads-coherent : (m : Node) → Reached (references d s) (bare d m) → ((k : ℕ) → Reached (references d s) (to Kind.entry k) → directory s k ≡ false → File d s k) → Coherent m → (x : Node) → x ∈ leadsTo d s m → Coherent x
   unfolding leadsTo
-  leads-coherent root r file c x (inl e) = subst Coherent (sym e) tt
+  leads-coherent root r file c x (inl e) = subst Coherent (sym e) refl
   leads-coherent root r file c x (inr a) = slots-coherent (rootOf d) (inl refl) x a
   leads-coherent (bitmap k) r file c x a = absurd a
   leads-coherent (entry k t i p) r file c x a = entry-coherent k r (file k r) t i p c x a

@@ -28,8 +28,6 @@ pub mod Lawful
 pub mod Decides
 -- counting references of a kind
 pub mod Tallies
--- only the root leads to a bitmap block
-pub mod Bitmaps
 -- `walked-report`: what an accepted walk hands back
 pub mod Reports
 -- `refused-why`: what a refusal means

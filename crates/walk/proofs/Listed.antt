@@ -9,13 +9,20 @@ use Rattle.reach.specs.References.{_∈_}
 use Rattle.volume.specs.declared.disk.Disk.{Disk}
 use Rattle.volume.specs.Blocks.{keyWord}
 use Rattle.volume.specs.Files.{keysDown}
-use Rattle.walk.specs.Nodes.{Node, datum, before, keyNodes}
+use Rattle.walk.specs.Nodes.{Node, root, bitmap, entry, list, datum, before, keyNodes}
 use Rattle.walk.proofs.Spreads.{Follows, Run, here}
 
 module _ (d : Disk) (s : List ℕ) where
-  -- P says so of a data block's node
-  module _ (h b m c : ℕ) (P : Node → Type 0) (says : (k n e : ℕ) → P (datum k h n e) ↔ Follows d s h n e k) where
-    run-keys : (i n : ℕ) → Run d s h (m + i) (before s b c i) (keysDown s b i n) ↔ ((x : Node) → x ∈ keyNodes s h b m c i n → P x)
+  -- of a data block's node, that it is as the law says
+  abbrev pub Sound : Node → Type 0
+  Sound root = Unit {0}
+  Sound (bitmap k) = Unit {0}
+  Sound (entry k t i p) = Unit {0}
+  Sound (list k h m c) = Unit {0}
+  Sound (datum k h n c) = Follows d s h n c k
+
+  module _ (h b m c : ℕ) where
+    run-keys : (i n : ℕ) → Run d s h (m + i) (before s b c i) (keysDown s b i n) ↔ ((x : Node) → x ∈ keyNodes s h b m c i n → Sound x)
     unfolding keyNodes keysDown
     run-keys i zero = ((λ r x a. absurd a), (λ f. tt))
     run-keys i (suc n) = go (rw (add-suc m i) at (run-keys (suc i) n))
@@ -23,12 +30,12 @@ module _ (d : Disk) (s : List ℕ) where
         first : Node
         first = datum (keyWord s b i) h (suc (m + i)) (before s b c i)
 
-        go : Run d s h (suc (m + i)) (keyWord s b i) (keysDown s b (suc i) n) ↔ ((x : Node) → x ∈ keyNodes s h b m c (suc i) n → P x) → Run d s h (m + i) (before s b c i) (keyWord s b i ∷ keysDown s b (suc i) n) ↔ ((x : Node) → x ∈ (first ∷ keyNodes s h b m c (suc i) n) → P x)
-        go w = (each, λ f. (says (keyWord s b i) (suc (m + i)) (before s b c i) .0 (f first (inl refl)), w .1 (λ x a. f x (inr a))))
+        go : Run d s h (suc (m + i)) (keyWord s b i) (keysDown s b (suc i) n) ↔ ((x : Node) → x ∈ keyNodes s h b m c (suc i) n → Sound x) → Run d s h (m + i) (before s b c i) (keyWord s b i ∷ keysDown s b (suc i) n) ↔ ((x : Node) → x ∈ (first ∷ keyNodes s h b m c (suc i) n) → Sound x)
+        go w = (each, λ f. (f first (inl refl), w .1 (λ x a. f x (inr a))))
           where
-            each : Run d s h (m + i) (before s b c i) (keyWord s b i ∷ keysDown s b (suc i) n) → (x : Node) → x ∈ (first ∷ keyNodes s h b m c (suc i) n) → P x
-            each r x (inl e) = subst P (sym e) (says (keyWord s b i) (suc (m + i)) (before s b c i) .1 (r .0))
+            each : Run d s h (m + i) (before s b c i) (keyWord s b i ∷ keysDown s b (suc i) n) → (x : Node) → x ∈ (first ∷ keyNodes s h b m c (suc i) n) → Sound x
+            each r x (inl e) = subst Sound (sym e) (r .0)
             each r x (inr a) = w .0 (r .1) x a
 
-    pub run-listed : Run d s h m c (keysDown s b 0 (here d s h m)) ↔ ((x : Node) → x ∈ keyNodes s h b m c 0 (here d s h m) → P x)
+    pub run-listed : Run d s h m c (keysDown s b 0 (here d s h m)) ↔ ((x : Node) → x ∈ keyNodes s h b m c 0 (here d s h m) → Sound x)
     run-listed = rw add-zero at (run-keys 0 (here d s h m))

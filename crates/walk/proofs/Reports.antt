@@ -1,6 +1,6 @@
 -- The theorem `walked-report`: what an accepted walk hands back, said of blocks and kinds alone. Assumes nothing.
 use Prim.Native.Nat.{ℕ, _+_, _<_}
-use mathlib.Core.Path.{_≡_, refl, sym, ap, ap₂, _∙_, subst}
+use mathlib.Core.Path.{_≡_, refl, sym, ap₂, _∙_, subst}
 use mathlib.Core.Logic.{_≢_, _⊎_, inl, inr}
 use mathlib.Core.Bool.{Bool, true}
 use mathlib.Core.List.{List, [], _∷_, map}
@@ -9,19 +9,19 @@ use lib.ListN.{length, getD, length-map}
 use Rattle.reach.specs.References.{_∈_, Uniq, Reached, top, ref}
 use Rattle.reach.specs.Walk.{done, Accepted}
 use Rattle.reach.specs.Law.{Fine, Report}
-use Rattle.reach.proofs.Lists.{in-map, map-in}
-use Rattle.reach.proofs.Bare.{to-bare, from-bare}
+use Rattle.reach.proofs.Lists.{in-map, map-in, at-in}
 use Rattle.reach.proofs.Reports.{report}
 use Rattle.volume.specs.declared.disk.Disk.{Disk}
 use Rattle.volume.specs.Disks.{rootOf}
 use Rattle.volume.specs.Blocks.{wordOf}
 use Rattle.volume.specs.References.{Kind, Ref, to, refersTo, references}
 use Rattle.walk.specs.declared.Counts.{Counts}
-use Rattle.walk.specs.Nodes.{Node, root, bitmap, entry, list, datum, keyOf, bare, nothing, graph, walkOf}
+use Rattle.walk.specs.Nodes.{Node, root, bitmap, entry, list, datum, keyOf, bare, leadsTo, nothing, graph, walkOf}
 use Rattle.walk.specs.Reports.{count, Used, Walked}
-use Rattle.walk.proofs.Accepts.{key-bare, refs-bare, accepted-lawful}
+use Rattle.walk.proofs.Accepts.{key-bare, accepted-lawful, block-reached, node-reached, node-key}
 use Rattle.walk.proofs.Tallies.{Tally, isRoot, isBitmap, noted-counts, count-one}
-use Rattle.walk.proofs.Bitmaps.{bitmap-only}
+use Rattle.walk.proofs.Volumes.{file-reached}
+use Rattle.walk.proofs.Coherent.{Coherent, leads-coherent}
 
 module _ (d : Disk) (s : List ℕ) where
   keys-bare : (l : List Node) → map (keyOf d) l ≡ map (λ r. r .key) (map (bare d) l)
@@ -36,17 +36,17 @@ module _ (d : Disk) (s : List ℕ) where
 
   -- ---- one root, and one bitmap block
 
-  root-keyed : (x : Node) → R x → isRoot (bare d x) ≡ true → bare d x .key ≡ rootOf d
-  root-keyed root r q = refl
-  root-keyed (bitmap k) r q = cc
-  root-keyed (entry k t i p) r q = cc
-  root-keyed (list k h m c) r q = cc
-  root-keyed (datum k h n c) r q = cc
+  root-keyed : (x : Node) → isRoot (bare d x) ≡ true → bare d x .key ≡ rootOf d
+  root-keyed root q = refl
+  root-keyed (bitmap k) q = cc
+  root-keyed (entry k t i p) q = cc
+  root-keyed (list k h m c) q = cc
+  root-keyed (datum k h n c) q = cc
 
-  bitmap-keyed : (x : Node) → R x → isBitmap (bare d x) ≡ true → bare d x .key ≡ wordOf s (rootOf d) 79
-  bitmap-keyed root r q = cc
-  bitmap-keyed (bitmap k) r q = bitmap-only d s k r
-  bitmap-keyed (entry k t i p) r q = cc
+  bitmap-keyed : (x : Node) → Coherent d s x → isBitmap (bare d x) ≡ true → bare d x .key ≡ wordOf s (rootOf d) 79
+  bitmap-keyed root h q = cc
+  bitmap-keyed (bitmap k) h q = h
+  bitmap-keyed (entry k t i p) h q = cc
   bitmap-keyed (list k h m c) r q = cc
   bitmap-keyed (datum k h n c) r q = cc
 
@@ -58,17 +58,15 @@ module _ (d : Disk) (s : List ℕ) where
     fine : Fine (graph d s)
     fine = accepted-lawful d s .0 (subst Accepted (sym e) tt) .0
 
-    down : {n : Node} → R n → B (bare d n)
-    down r = to-bare (graph d s) (references d s) (bare d) refl (key-bare d s) (refs-bare d s) fine r
-
-    up : {r : Ref} → B r → (n : Node) × R n × (r ≡ bare d n)
-    up r = from-bare (graph d s) (references d s) (bare d) refl (key-bare d s) (refs-bare d s) fine r
+    coherent : {n : Node} → R n → Coherent d s n
+    coherent (top e) = subst (Coherent d s) (sym e) tt
+    coherent (ref {m = m} {n = n} i r h) = leads-coherent d s m (block-reached d s fine r) (file-reached d s fine) (coherent r) n (at-in n i (leadsTo d s m) h)
 
     abbrev refs : List Ref
     refs = map (bare d) (rep .nodes)
 
     all′ : (r : Ref) → B r → r ∈ refs
-    all′ r h = let u = up h in subst (λ x. x ∈ refs) (sym (u .2)) (in-map (bare d) (u .0) (rep .nodes) (rep .all (u .0) (u .1)))
+    all′ r h = let u = node-reached d s fine h in subst (λ x. x ∈ refs) (sym (u .2)) (in-map (bare d) (u .0) (rep .nodes) (rep .all (u .0) (u .1)))
 
     -- a reference is a reached node's
     back : (r : Ref) → r ∈ refs → (n : Node) × R n × (r ≡ bare d n)
@@ -83,8 +81,8 @@ module _ (d : Disk) (s : List ℕ) where
     byte′ k l = go (rep .byte k l)
       where
         go : ((getD c k 1 ≡ 0) × ((n : Node) → R n → keyOf d n ≢ k)) ⊎ ((getD c k 1 ≡ 1) × ((n : Node) × R n × (keyOf d n ≡ k))) → ((getD c k 1 ≡ 1) × Used d s k) ⊎ ((getD c k 1 ≡ 0) × (¬ Used d s k))
-        go (inl z) = inr (z .0, λ u. let w = up (u .1) in z .1 (w .0) (w .1) (sym (key-bare d s (w .0)) ∙ ap (λ r. r .key) (sym (w .2)) ∙ u .2))
-        go (inr o) = inl (o .0, (bare d (o .1 .0), down (o .1 .1), key-bare d s (o .1 .0) ∙ o .1 .2))
+        go (inl z) = inr (z .0, λ u. let w = node-reached d s fine (u .1) in z .1 (w .0) (w .1) (node-key d s fine (u .1) ∙ u .2))
+        go (inr o) = inl (o .0, (bare d (o .1 .0), block-reached d s fine (o .1 .1), key-bare d s (o .1 .0) ∙ o .1 .2))
 
     -- ---- counts
 
@@ -98,8 +96,8 @@ module _ (d : Disk) (s : List ℕ) where
     total′ : n .directories + n .files + n .lists + n .blocks + 2 ≡ length refs
     unfolding refersTo
     total′ =
-        let a = once isRoot (to Kind.root (rootOf d)) (top refl) refl root-keyed in
-        let b = once isBitmap (to Kind.bitmap (wordOf s (rootOf d) 79)) (ref 0 (top refl) refl) refl bitmap-keyed in
+        let a = once isRoot (to Kind.root (rootOf d)) (top refl) refl (λ y h. root-keyed y) in
+        let b = once isBitmap (to Kind.bitmap (wordOf s (rootOf d) 79)) (ref 0 (top refl) refl) refl (λ y h. bitmap-keyed y (coherent h)) in
         let t = tally .total in
         omega arith
 
@@ -110,7 +108,7 @@ module _ (d : Disk) (s : List ℕ) where
           byte = byte′;
           reached = refs;
           all = all′;
-          only = λ r a. let w = back r a in subst B (sym (w .2)) (down (w .1));
+          only = λ r a. let w = back r a in subst B (sym (w .2)) (block-reached d s fine (w .1));
           keys = keys′;
           directories = tally .directories;
           files = tally .files;

@@ -1,8 +1,8 @@
 -- The theorem `fine-volume`: if every reached node passes its tests, every block is owned once, and length, tag and bitmap are right, the
 -- volume is as its law says. Assumes nothing.
 use Prim.Native.Nat.{ℕ, zero, suc, _+_, _-_, _≤_, _<_}
-use mathlib.Core.Path.{_≡_, refl, sym, ap, _∙_, subst}
-use mathlib.Core.Logic.{_↔_}
+use mathlib.Core.Path.{_≡_, refl, sym, ap, subst}
+use mathlib.Core.Logic.{_≢_, _↔_}
 use mathlib.Core.Bool.{Bool, true, false}
 use mathlib.Core.List.{List}
 use native.Mathlib.Omega.{arith}
@@ -12,13 +12,12 @@ use Rattle.answers.proofs.Tests.{first-zero}
 use Rattle.reach.specs.References.{_∈_, Reached, top, Owned}
 use Rattle.reach.specs.Law.{Fine}
 use Rattle.reach.proofs.Lists.{in-left, in-right}
-use Rattle.reach.proofs.Bare.{from-bare}
 use Rattle.volume.specs.declared.disk.Disk.{Disk}
 use Rattle.volume.specs.Disks.{firstKey, imageBytes, tagOf, rootOf}
 use Rattle.volume.specs.Blocks.{wordOf, sumOf, directory}
-use Rattle.volume.specs.Files.{listBlocks, blocksOf}
+use Rattle.volume.specs.Files.{keysDown, listBlocks, blocksOf}
 use Rattle.volume.specs.Bitmap.{isFree}
-use Rattle.volume.specs.References.{Kind, Ref, to, references}
+use Rattle.volume.specs.References.{Kind, to, references}
 use Rattle.volume.specs.Law.{Root, Lists, Directory, File, Volume}
 use Rattle.volume.specs.Rules.{rootFault, mapFault}
 use Rattle.volume.proofs.Passes.{Placed, root-passed, entry-passed, file-passed, list-passed, data-passed}
@@ -26,9 +25,9 @@ use Rattle.walk.specs.Nodes.{Node, root, bitmap, entry, list, datum, key
 use Rattle.walk.specs.Reports.{Used}
 use Rattle.walk.proofs.Nodes.{linked-in}
 use Rattle.walk.proofs.Passes.{Hung, key-passed, hung-passed, sum-passed}
-use Rattle.walk.proofs.Accepts.{key-bare, refs-bare}
-use Rattle.walk.proofs.Spreads.{Follows, Spread, here, file-spreads}
-use Rattle.walk.proofs.Listed.{run-listed}
+use Rattle.walk.proofs.Accepts.{node-reached, node-key}
+use Rattle.walk.proofs.Spreads.{Run, Spread, here, file-spreads}
+use Rattle.walk.proofs.Listed.{Sound, run-listed}
 use Rattle.walk.proofs.Directories.{leads, contents-reached, root-opened, directory-law}
 
 -- a bit is 0 exactly if its block is reached
@@ -41,15 +40,7 @@ module _ (d : Disk) (s : List ℕ) (fine : Fine (graph d s)) where
 
   -- ---- a file
 
-  -- of a data block's node, that it is as the law says
-  abbrev Sound : Node → Type 0
-  Sound root = Unit {0}
-  Sound (bitmap k) = Unit {0}
-  Sound (entry k t i p) = Unit {0}
-  Sound (list k h m c) = Unit {0}
-  Sound (datum k h n c) = Follows d s h n c k
-
-  sound : (n : Node) → R n → Sound n
+  sound : (n : Node) → R n → Sound d s n
   unfolding faultOf
   sound root r = tt
   sound (bitmap k) r = tt
@@ -57,25 +48,29 @@ module _ (d : Disk) (s : List ℕ) (fine : Fine (graph d s)) where
   sound (list k h m c) r = tt
   sound (datum k h n c) r = let p = data-passed d s k h n (wordOf s c 4) (fine (datum k h n c) r .1) in (p .1, p .2 .0, p .2 .1)
 
+  module _ (h b m c : ℕ) (r : (x : Node) → x ∈ listed d s h b m c → R x) where
+    abbrev n : ℕ
+    n = here d s h m
+
+    run-reached : Run d s h m c (keysDown s b 0 n)
+    run-reached = run-listed d s h b m c .1 (λ x a. sound x (r x (in-left x (keyNodes s h b m c 0 n) (listing (wordOf s b 126) h (m + n) (before s b c n)) a)))
+
+    behind-reached : wordOf s b 126 ≢ 0 → R (list (wordOf s b 126) h (m + n) (before s b c n))
+    behind-reached w =
+        let x = list (wordOf s b 126) h (m + n) (before s b c n) in
+        r x (in-right x (keyNodes s h b m c 0 n) (listing (wordOf s b 126) h (m + n) (before s b c n)) (linked-in (wordOf s b 126) (λ k. list k h (m + n) (before s b c n)) w))
+
   spread-reached : (h q b m c : ℕ) → q ≡ listBlocks (blocksOf d s h - m) → ((x : Node) → x ∈ listed d s h b m c → R x) → Lists s b (blocksOf d s h - m) → Spread d s h q b m c
   unfolding faultOf leadsTo
-  spread-reached h zero b m c e r l = (l, run-listed d s h b m c Sound (λ k n e. ((λ f. f), (λ f. f))) .1 (λ x a. sound x (r x (in-left x (keyNodes s h b m c 0 (here d s h m)) (listing (wordOf s b 126) h (m + here d s h m) (before s b c (here d s h m))) a))))
+  spread-reached h zero b m c e r l = (l, run-reached h b m c r)
   spread-reached h (suc q) b m c e r l =
       let n = here d s h m in
       let x = list (wordOf s b 126) h (m + n) (before s b c n) in
-      let l₁ = keyNodes s h b m c 0 n in
-      let l₂ = listing (wordOf s b 126) h (m + n) (before s b c n) in
-      let a = r x (in-right x l₁ l₂ (linked-in (wordOf s b 126) (λ k. list k h (m + n) (before s b c n)) (λ z. omega (arith, e, l .more .0 z)))) in
+      let a = behind-reached h b m c r (λ z. omega (arith, e, l .more .0 z)) in
       let f = list-passed s (wordOf s b 126) h (blocksOf d s h - (m + n)) (fine x a .1) in
-      (l, run-listed d s h b m c Sound (λ k n e. ((λ f. f), (λ f. f))) .1 (λ y b. sound y (r y (in-left y l₁ l₂ b))), f .1, spread-reached h q (wordOf s b 126) (m + n) (before s b c n) (omega (arith, e)) (λ y b. leads d s x y a b) (f .2))
+      (l, run-reached h b m c r, f .1, spread-reached h q (wordOf s b 126) (m + n) (before s b c n) (omega (arith, e)) (λ y h. leads d s x y a h) (f .2))
 
-  -- ---- from the bare references back to nodes
-
-  reached : (r : Ref) → Reached (references d s) r → (n : Node) × R n × (r ≡ bare d n)
-  reached r h = from-bare (graph d s) (references d s) (bare d) refl (key-bare d s) (refs-bare d s) fine h
-
-  key-of : (r : Ref) (n : Node) → r ≡ bare d n → keyOf d n ≡ r .key
-  key-of r n e = sym (key-bare d s n) ∙ ap (λ x. x .key) (sym e)
+  -- ---- an entry
 
   abbrev IsEntry : Kind → Type 0
   IsEntry Kind.root = ⊥
@@ -96,7 +91,7 @@ module _ (d : Disk) (s : List ℕ) (fine : Fine (graph d s)) where
 
   module _ (k : ℕ) (h : Reached (references d s) (to Kind.entry k)) where
     node : EntryNode k
-    node = let r = reached (to Kind.entry k) h in entry-node k (r .0) (r .1) (r .2)
+    node = let r = node-reached d s fine h in entry-node k (r .0) (r .1) (r .2)
 
     hung : Hung d s k (node .0) (node .1) (node .2)
     unfolding faultOf
@@ -111,7 +106,7 @@ module _ (d : Disk) (s : List ℕ) (fine : Fine (graph d s)) where
     directory-reached : directory s k ≡ true → (wordOf s k 126 ≡ 0) × Directory d s k
     directory-reached e = (placed .link e, directory-law d s k (content true e) fine)
 
-    file-reached : directory s k ≡ false → File d s k
+    pub file-reached : directory s k ≡ false → File d s k
     file-reached e =
         let f = file-passed d s k (hung .2 e) in
         let z : blocksOf d s k ≡ blocksOf d s k - 0 = omega arith in
@@ -128,8 +123,8 @@ module _ (d : Disk) (s : List ℕ) (fine : Fine (graph d s)) where
       record {
         long = l;
         tag = t;
-        keys = λ r h. let n = reached r h in subst (λ k. (firstKey ≤ k) × (k < d .blocks)) (key-of r (n .0) (n .2)) (key-passed d (keyOf d (n .0)) (fine (n .0) (n .1) .0));
-        sums = λ r h. let n = reached r h in subst (λ k. sumOf s k ≡ 0) (key-of r (n .0) (n .2)) (sum-passed d s (n .0) (fine (n .0) (n .1) .1));
+        keys = λ r h. let n = node-reached d s fine h in subst (λ k. (firstKey ≤ k) × (k < d .blocks)) (node-key d s fine h) (key-passed d (keyOf d (n .0)) (fine (n .0) (n .1) .0));
+        sums = λ r h. let n = node-reached d s fine h in subst (λ k. sumOf s k ≡ 0) (node-key d s fine h) (sum-passed d s (n .0) (fine (n .0) (n .1) .1));
         top = root-reached;
         entries = λ k h. placed k h .entry;
         holds = directory-law d s (rootOf d) (root-opened d s) fine;
