@@ -7,8 +7,16 @@ use crate::name::name_good;
 use crate::name::slot_of;
 ghost use mathlib.Core.Path.{_≡_};
 ghost use Rattle.answers.specs.Tests.{tests};
-ghost use Rattle.volume.specs.Blocks.{Holds};
+ghost use Rattle.volume.specs.Blocks.{Holds, directory};
 ghost use Rattle.volume.specs.Rules.{entryTypes, entryWords, entryName, entryFault};
+
+// Whether an entry is a directory.
+pub fn is_directory(image: &[u8], key: u32) -> bool
+    requires { ⌜ Holds (now image) key ⌝ }
+    ensures { λ r. ⌜ r ≡ directory (now (image .entry)) key ⌝ }
+{
+    word_of(image, key, Block::KIND) == Block::DIRECTORY
+}
 
 // Sum and types.
 fn types_fault(image: &[u8], key: u32) -> u32
