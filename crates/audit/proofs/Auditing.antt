@@ -1,0 +1,168 @@
+-- The audit: from the root to the answer, and the claim area after it. Assumes nothing.
+use Prim.Native.Nat.{ℕ, zero, suc, _+_, _-_, _≤_, _<_}
+use mathlib.Core.Path.{_≡_, refl, sym, ap, ap₂, _∙_, subst}
+use mathlib.Core.List.{List, [], _∷_, _++_, append-nil}
+use mathlib.Core.Bool.{Bool, true, false}
+use native.Mathlib.Omega.{arith}
+use lib.Dec.{eqb}
+use lib.ListN.{length, take, drop, replicate, length-replicate}
+use lib.Seq.{length-front}
+use borrow.Author.Tests.{lt-ltb, le-ltb, eq-eqb, ne-eqb}
+use Rattle.answers.specs.declared.Refusal.{Refusal}
+use Rattle.answers.specs.Refusals.{refusal}
+use Rattle.answers.specs.Tests.{pick}
+use Rattle.answers.proofs.Tests.{must-passed}
+use Rattle.words.specs.Word.{wordAt}
+use Rattle.reach.specs.References.{top, ref}
+use Rattle.reach.specs.Walk.{Outcome, done, refused, audit, free, Accepted as Through}
+use Rattle.reach.proofs.Claims.{free-all}
+use Rattle.reach.proofs.Runs.{run-end}
+use Rattle.volume.specs.declared.disk.Disk.{Disk}
+use Rattle.volume.specs.Disks.{floppy, Sized, mostBlocks, imageBytes, claimBytes, tagOf, rootOf}
+use Rattle.volume.specs.Blocks.{slots, Holds, wordOf}
+use Rattle.volume.proofs.Sizes.{range-is}
+use Rattle.walk.specs.declared.Counts.{Counts}
+use Rattle.walk.specs.Nodes.{Node, root, bitmap, leadsTo, noted, slotNodes, nothing, graph, walkOf}
+use Rattle.walk.proofs.Accepts.{accepted-lawful}
+use Rattle.audit.specs.declared.claims.Walked.{Walked}
+use Rattle.audit.specs.declared.claims.Walked.the-variants.{Done, Stopped}
+use Rattle.audit.specs.declared.bitmap.Mapped.{Mapped}
+use Rattle.audit.specs.declared.bitmap.Mapped.the-variants.{Right, Wrong}
+use Rattle.audit.specs.declared.audit.Report.{Report}
+use Rattle.audit.specs.declared.audit.Audited.{Audited}
+use Rattle.audit.specs.declared.audit.Audited.the-variants.{Accepted, Refused}
+use Rattle.audit.specs.Walks.{Met, Walks, Ready, total, goesOn}
+use Rattle.audit.specs.Bits.{bitsOf}
+use Rattle.audit.specs.Audits.{refuse, reportOf, walked, mapped, claimsOf, leaves, auditOf, Within, Tagged, Audits}
+use Rattle.audit.proofs.Walking.{walks-none, walks-stopped, walks-then, walks-part, met-inside, met-stops, met-goes, ready-met}
+
+-- ---- the root and the bitmap block
+
+module _ (d : Disk) (s cl cl₁ : List ℕ) (f : ℕ) (m : Met d s root cl f cl₁) where
+  pub root-stops : (k : ℕ) (r : Walked) (cl″ : List ℕ) → (f ≡ 0 → ⊥) → k ≡ rootOf d → r ≡ Stopped (refusal f k) → Walks d s (root ∷ []) [] nothing cl r cl″
+  root-stops k r cl″ t e q = met-stops d s root cl cl₁ f m [] nothing cl″ r t (rw e at q)
+
+  pub root-range : f ≡ 0 → (k : ℕ) → k ≡ rootOf d → k < d .blocks
+  root-range z k e = rw e (met-inside d s root cl cl₁ f m z)
+
+  pub root-inside : f ≡ 0 → (k : ℕ) → k ≡ rootOf d → length s ≡ imageBytes d → Holds s k
+  root-inside z k e l = omega (arith, root-range z k e)
+
+  module _ (z : f ≡ 0) (k page : ℕ) (e : k ≡ rootOf d) (p : page ≡ wordOf s k 79) (g : ℕ) (cl₂ : List ℕ) (n : Met d s (bitmap page) cl₁ g cl₂) where
+    abbrev inside : List Node
+    inside = slotNodes s (rootOf d) 0 slots
+
+    rooted : (r : Walked) (cl₃ : List ℕ) → Walks d s (bitmap page ∷ inside) [] nothing cl₁ r cl₃ → Walks d s (root ∷ []) [] nothing cl r cl₃
+    unfolding noted leadsTo
+    rooted r cl₃ w = met-goes d s root cl cl₁ f m [] nothing cl₃ r z (rw (p, e) at w)
+
+    pub bitmap-stops : (r : Walked) (cl″ : List ℕ) → (g ≡ 0 → ⊥) → r ≡ Stopped (refusal g page) → Walks d s (root ∷ []) [] nothing cl r cl″
+    bitmap-stops r cl″ t q = rooted r cl″ (walks-stopped d s _ _ [] nothing cl₁ cl″ r _ (walks-part d s (bitmap page ∷ []) [] inside nothing cl₁ cl″ r (met-stops d s (bitmap page) cl₁ cl₂ g n [] nothing cl″ r t q)) q)
+
+    pub root-ready : Sized d → length s ≡ imageBytes d → cl ≡ replicate (claimBytes d) 0 → length cl₁ ≡ length cl → length cl₂ ≡ length cl₁ → g ≡ 0 → Ready d s cl₂ nothing
+    unfolding noted
+    root-ready h i c l l′ y =
+        ready-met d s (bitmap page) nothing cl₁ cl₂ g (ready-met d s root nothing cl cl₁ f (record { sized = h; image = i; claim = rw c (length-replicate _ 0); room = rw c (omega (arith, free-all (d .blocks))) }) m z l nothing refl) n y l′ nothing refl
+
+    pub root-goes : (t : ℕ) (r : Walked) (cl₃ : List ℕ) → g ≡ 0 → t ≡ rootOf d → Walks d s (slotNodes s t 0 slots) [] nothing cl₂ r cl₃ → Walks d s (root ∷ []) [] nothing cl r cl₃
+    unfolding noted leadsTo
+    root-goes t r cl₃ y u w =
+        rooted r cl₃
+        (walks-then d s _ inside inside [] [] nothing nothing cl₁ cl₂ cl₃ (Done nothing) r
+        (walks-part d s (bitmap page ∷ []) [] inside nothing cl₁ cl₂ (Done nothing) (met-goes d s (bitmap page) cl₁ cl₂ g n [] nothing cl₂ (Done nothing) y (walks-none d s [] nothing cl₂)))
+        refl (sym (append-nil _)) (rw u at w))
+
+-- ---- the walk's outcome
+
+module _ (d : Disk) (s cl cl′ : List ℕ) (w : Walked) (z : cl ≡ replicate (claimBytes d) 0) (h : Walks d s (root ∷ []) [] nothing cl w cl′) where
+  walk-is : walkOf d s ≡ goesOn d s w cl′ []
+  unfolding walkOf audit
+  walk-is = rw z at (h .same [])
+
+  pub walk-stopped : (x : Refusal) → w ≡ Stopped x → walkOf d s ≡ refused (x .number) (x .place)
+  unfolding goesOn
+  walk-stopped x e = walk-is ∙ rw e refl
+
+  pub walk-done : (c : Counts) → w ≡ Done c → walkOf d s ≡ done cl′ c
+  unfolding goesOn
+  walk-done c e = walk-is ∙ rw e (run-end (graph d s) cl′ c)
+
+  pub within-stopped : (x : Refusal) (cl″ : List ℕ) → w ≡ Stopped x → Within d s (Refused x) cl″
+  within-stopped x cl″ e = record { answer = rw (walk-stopped x e) refl; claims = λ p q. absurd (let y : _≡_ {A = ℕ} 0 1 = cc in omega arith) }
+
+  module _ (c : Counts) (e : w ≡ Done c) where
+    pub walk-few : Sized d → total c ≤ mostBlocks
+    walk-few y = omega (arith, h .count c e, ap free z ∙ free-all (d .blocks), y .most)
+
+    -- the bitmap's key is in range
+    pub page-inside : (k page : ℕ) → k ≡ rootOf d → page ≡ wordOf s k 79 → page < d .blocks
+    unfolding leadsTo
+    page-inside k page g p =
+        let f = accepted-lawful d s .0 (subst Through (sym (walk-done c e)) tt) .0 in
+        rw (p, g) (range-is d _ (must-passed _ 4 (f (bitmap (wordOf s (rootOf d) 79)) (ref 0 (top refl) refl) .0)) .1)
+
+    module _ (k page : ℕ) (g : k ≡ rootOf d) (p : page ≡ wordOf s k 79) (b : Mapped) (q : b ≡ bitsOf d s page cl′) where
+      bits-so : bitsOf d s (wordOf s (rootOf d) 79) cl′ ≡ b
+      bits-so = sym (q ∙ rw (p, g) refl)
+
+      pub within-right : (n : ℕ) (x : Report) → b ≡ Right n → x ≡ reportOf c n → Within d s (Accepted x) cl′
+      within-right n x y u = record { answer = rw (walk-done c e, bits-so, y, u) refl; claims = λ _ _. rw (walk-done c e) refl }
+
+      pub within-wrong : (j : ℕ) (cl″ : List ℕ) → b ≡ Wrong j → Within d s (refuse 17 j) cl″
+      within-wrong j cl″ y = record { answer = rw (walk-done c e, bits-so, y) refl; claims = λ x u. absurd (let v : _≡_ {A = ℕ} 0 1 = cc in omega arith) }
+
+-- ---- a claim area that is longer than the blocks
+
+take-zeros : (k n : ℕ) → k ≤ n → take {A = ℕ} k (replicate n 0) ≡ replicate k 0
+take-zeros zero n h = refl
+take-zeros (suc k) zero h = absurd (omega arith)
+take-zeros (suc k) (suc n) h = ap (λ (l : List ℕ). 0 ∷ l) (take-zeros k n (omega arith))
+
+drop-zeros : (k n : ℕ) → drop {A = ℕ} k (replicate n 0) ≡ replicate (n - k) 0
+drop-zeros zero n = let e : n ≡ n - 0 = omega arith in ap (λ (j : ℕ). replicate j 0) e
+drop-zeros (suc k) zero = let e : 0 ≡ 0 - suc k = omega arith in ap (λ (j : ℕ). replicate j 0) e
+drop-zeros (suc k) (suc n) = let e : n - k ≡ suc n - suc k = omega arith in drop-zeros k n ∙ ap (λ (j : ℕ). replicate j 0) e
+
+module _ (d : Disk) (X : List ℕ) (n : ℕ) (e : n ≡ claimBytes d) (z : X ≡ replicate (length X) 0) where
+  pub part-zero : claimBytes d ≤ length X → take n X ≡ replicate (claimBytes d) 0
+  part-zero h = rw (e, z) (take-zeros (claimBytes d) (length X) h)
+
+  pub part-long : claimBytes d ≤ length X → claimBytes d ≡ length (take n X)
+  part-long h = sym (ap length (part-zero h) ∙ length-replicate (claimBytes d) 0)
+
+  module _ (s : List ℕ) (r : Audited) (cl′ : List ℕ) (w : Within d s r cl′) where
+    pub tagged-accepted : (p : Report) → r ≡ Accepted p → Tagged d s (length X) r (cl′ ++ drop n X)
+    tagged-accepted p q = record { answer = w .answer; claim = rw q (ap₂ (λ (a b : List ℕ). a ++ b) (w .claims p q) rest) }
+      where
+        rest : drop n X ≡ replicate (length X - claimBytes d) 0
+        rest = ap (drop n) z ∙ drop-zeros n (length X) ∙ ap (λ (j : ℕ). replicate (length X - j) 0) e
+
+    pub tagged-refused : (x : Refusal) (Y : List ℕ) → r ≡ Refused x → length cl′ ≡ length (take n X) → Y ≡ replicate (length (cl′ ++ drop n X)) 0 → Tagged d s (length X) r Y
+    tagged-refused x Y q l y = record { answer = w .answer; claim = rw q (y ∙ ap (λ (j : ℕ). replicate j 0) (length-front X cl′ n l)) }
+
+-- ---- the tests before the walk
+
+module _ (d : Disk) (s X : List ℕ) (n b : ℕ) (r : Audited) (z : X ≡ replicate n 0) (e : b ≡ imageBytes d) where
+  pub audit-length : (length s ≡ b → ⊥) → r ≡ refuse 1 0 → Audits d s n r X
+  unfolding auditOf pick
+  audit-length h q = record { answer = q ∙ rw (ne-eqb (length s) (imageBytes d) (λ f. h (f ∙ sym e))) refl; claim = rw q z }
+
+  module _ (l : length s ≡ b) (a m : ℕ) (f : a ≡ claimBytes d) (g : m ≡ n) where
+    pub audit-short : m < a → r ≡ refuse 2 0 → Audits d s n r X
+    unfolding auditOf pick
+    audit-short h q = record { answer = q ∙ rw (eq-eqb (length s) (imageBytes d) (l ∙ e), lt-ltb n (claimBytes d) (omega arith)) refl; claim = rw q z }
+
+    module _ (h : a ≤ m) (t : Bool) (u : t ≡ eqb (wordAt s 0) (tagOf d)) where
+      pub audit-untagged : t ≡ false → r ≡ refuse 3 0 → Audits d s n r X
+      unfolding auditOf pick
+      audit-untagged v q = record { answer = q ∙ rw (eq-eqb (length s) (imageBytes d) (l ∙ e), le-ltb n (claimBytes d) (omega arith), sym u ∙ v) refl; claim = rw q z }
+
+      pub audit-goes : (Y : List ℕ) → t ≡ true → Tagged d s m r Y → Audits d s n r Y
+      unfolding auditOf pick
+      audit-goes Y v w = record { answer = w .answer ∙ rw (eq-eqb (length s) (imageBytes d) (l ∙ e), le-ltb n (claimBytes d) (omega arith), sym u ∙ v) refl; claim = rw g at (w .claim) }
+
+pub all-zero : (X : List ℕ) (n : ℕ) → X ≡ replicate n 0 → length X ≡ n → X ≡ replicate (length X) 0
+all-zero X n z l = rw l z
+
+pub floppy-sized : Sized floppy
+floppy-sized = record { least = omega arith; most = omega arith }

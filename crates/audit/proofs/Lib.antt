@@ -1,0 +1,13 @@
+-- Laws that the code of the audit is proved by, and what an audit says of an image.
+-- claims, and blocks that are met
+pub mod Meeting
+-- stretches of the walk
+pub mod Walking
+-- the walk through a file
+pub mod Listings
+-- the walk through a directory
+pub mod Hanging
+-- the bitmap against the claims
+pub mod Mapping
+-- the audit's answer, and what it leaves
+pub mod Auditing

@@ -1,0 +1,103 @@
+-- Claims, and blocks that are met: what each return of the code says of the walk. Assumes nothing.
+use Prim.Native.Nat.{ℕ, zero, suc, _-_, _≤_, _<_}
+use mathlib.Core.Path.{_≡_, refl, sym, ap, _∙_}
+use mathlib.Core.Logic.{_≢_}
+use mathlib.Core.Bool.{Bool, true, false}
+use mathlib.Core.List.{List}
+use native.Mathlib.Omega.{arith}
+use lib.ListN.{length, getD, set}
+use Rattle.answers.specs.Tests.{first, must}
+use Rattle.answers.proofs.Tests.{first-zero, must-passed}
+use Rattle.reach.specs.Walk.{claimed, verdict}
+use Rattle.reach.proofs.Claims.{byte-any}
+use Rattle.reach.proofs.Runs.{claimed-taken}
+use Rattle.volume.specs.declared.disk.Disk.{Disk}
+use Rattle.volume.specs.Disks.{firstKey, inRange, imageBytes, claimBytes, rootOf}
+use Rattle.volume.specs.Blocks.{Holds, wordOf}
+use Rattle.volume.specs.Files.{sizeOf, dataBlocks}
+use Rattle.volume.specs.Rules.{rootFault, mapFault, bitmapFault, listFault, dataFault}
+use Rattle.volume.proofs.Sizes.{range-is}
+use Rattle.walk.specs.Nodes.{Node, root, bitmap, entry, list, datum, keyOf, keyFault, faultOf, graph}
+use Rattle.audit.specs.Walks.{Claims, Met}
+
+-- ---- two tests, one after the other
+
+module _ (f a b : ℕ) (e : f ≡ a) where
+  pub first-stops : (f ≡ 0 → ⊥) → f ≡ first a b
+  unfolding first
+  first-stops h = go a e
+    where
+      go : (a : ℕ) → f ≡ a → f ≡ first a b
+      go zero e = absurd (h e)
+      go (suc a) e = e
+
+  pub first-goes : (r : ℕ) → f ≡ 0 → r ≡ b → r ≡ first a b
+  unfolding first
+  first-goes r z q = rw (sym e ∙ z) q
+
+-- ---- a claim
+
+module _ (d : Disk) (cl : List ℕ) (k : ℕ) where
+  pub claim-room : (b : Bool) → b ≡ inRange d k → b ≡ true → length cl ≡ claimBytes d → k < length cl
+  claim-room b e h l = omega (arith, range-is d k (sym e ∙ h))
+
+  pub claim-out : (b : Bool) → b ≡ inRange d k → b ≡ false → (cl′ : List ℕ) → Claims d cl k 5 cl′
+  unfolding first must
+  claim-out b e h cl′ = record { told = rw (sym e ∙ h); claims = λ z. absurd (omega (arith, z)) }
+
+  pub claim-taken : (b : Bool) → b ≡ inRange d k → b ≡ true → k < length cl → (getD cl k 0 ≡ 0 → ⊥) → (cl′ : List ℕ) → Claims d cl k 6 cl′
+  unfolding first must
+  claim-taken b e h l t cl′ = record { told = rw (sym e ∙ h, byte-any cl k 1 0 l, claimed-taken 6 (getD cl k 0) t); claims = λ z. absurd (omega (arith, z)) }
+
+  pub claim-new : (b : Bool) → b ≡ inRange d k → b ≡ true → k < length cl → getD cl k 0 ≡ 0 → Claims d cl k 0 (set cl k 1)
+  unfolding first must
+  claim-new b e h l z = record { told = rw (sym e ∙ h, byte-any cl k 1 0 l, z); claims = λ _. refl }
+
+-- a key that is claimed lies in the image
+pub claims-holds : (d : Disk) (s cl cl′ : List ℕ) (k r : ℕ) → Claims d cl k r cl′ → r ≡ 0 → length s ≡ imageBytes d → Holds s k
+claims-holds d s cl cl′ k r h z l = let i = range-is d k (must-passed _ 4 (first-zero (keyFault d k) _ (sym (h .told) ∙ z) .0)) in omega (arith, i .1)
+
+-- ---- a block that is met
+
+module _ (d : Disk) (s : List ℕ) (n : Node) (cl cl′ : List ℕ) where
+  pub met-claim : (r : ℕ) → Claims d cl (keyOf d n) r cl′ → (r ≡ 0 → ⊥) → Met d s n cl r cl′
+  unfolding verdict first
+  met-claim r h t = record { told = h .told ∙ go (keyFault d (keyOf d n)) (claimed 6 (getD cl (keyOf d n) 1)) (λ z. t (h .told ∙ z)); claims = λ z. absurd (t z) }
+    where
+      go : (a b : ℕ) → (first a b ≡ 0 → ⊥) → first a b ≡ first a (first b (faultOf d s n))
+      go zero zero h = absurd (h refl)
+      go zero (suc b) h = refl
+      go (suc a) b h = refl
+
+  pub met-tests : (r f : ℕ) → Claims d cl (keyOf d n) r cl′ → r ≡ 0 → f ≡ faultOf d s n → Met d s n cl f cl′
+  unfolding verdict first
+  met-tests r f h z e =
+      let p = first-zero (keyFault d (keyOf d n)) _ (sym (h .told) ∙ z) in
+      record { told = e ∙ go _ _ (p .0) (p .1); claims = λ _. h .claims z }
+    where
+      go : (a b : ℕ) → a ≡ 0 → b ≡ 0 → faultOf d s n ≡ first a (first b (faultOf d s n))
+      go a b p q = rw (p, q)
+
+module _ (d : Disk) (s cl cl′ : List ℕ) (r f : ℕ) where
+  pub met-bitmap : (k : ℕ) → Claims d cl k r cl′ → r ≡ 0 → f ≡ bitmapFault s k → Met d s (bitmap k) cl f cl′
+  unfolding faultOf
+  met-bitmap k h z e = met-tests d s (bitmap k) cl cl′ r f h z e
+
+  pub met-root : (k : ℕ) → k ≡ rootOf d → Claims d cl k r cl′ → r ≡ 0 → f ≡ first (rootFault d s) (mapFault d s) → Met d s root cl f cl′
+  unfolding faultOf
+  met-root k e h z e′ = met-tests d s root cl cl′ r f (rw e at h) z e′
+
+  pub met-root-claim : (k : ℕ) → k ≡ rootOf d → Claims d cl k r cl′ → (r ≡ 0 → ⊥) → Met d s root cl r cl′
+  met-root-claim k e h t = met-claim d s root cl cl′ r (rw e at h) t
+
+  pub met-datum : (k h n c z w : ℕ) → Claims d cl k r cl′ → r ≡ 0 → z ≡ sizeOf s h → w ≡ wordOf s c 4 → f ≡ dataFault d s k h z n w → Met d s (datum k h n c) cl f cl′
+  unfolding faultOf
+  met-datum k h n c z w p q e e′ g = met-tests d s (datum k h n c) cl cl′ r f p q (rw (← e, ← e′) g)
+
+  pub met-list : (k h m c z n : ℕ) → Claims d cl k r cl′ → r ≡ 0 → z ≡ sizeOf s h → n ≡ dataBlocks d z → f ≡ listFault s k h (n - m) → Met d s (list k h m c) cl f cl′
+  unfolding faultOf
+  met-list k h m c z n p q e e′ g = met-tests d s (list k h m c) cl cl′ r f p q (rw (← e, ← e′) g)
+
+-- the root lies in the image where its claim passes
+pub root-holds : (d : Disk) (s cl cl′ : List ℕ) (k r : ℕ) → k ≡ rootOf d → Claims d cl k r cl′ → r ≡ 0 → length s ≡ imageBytes d → Holds s (rootOf d)
+root-holds d s cl cl′ k r e h z l = rw e at (claims-holds d s cl cl′ k r h z l)

@@ -1,0 +1,20 @@
+-- `audit::audit::audit` meets its contract. Assumes nothing.
+use Rattle.audit.proofs.Auditing.{floppy-sized}
+use borrow.Author.Needs.{needs}
+use Rattle.audit.proofs.audit.audit.Statement.{statement}
+use Rattle.audit.proofs.audit.audit.Tie as tie
+
+floppy-requires : tie.Need-floppy-requires
+floppy-requires c κs = search needs
+
+audit-on-requires : tie.Need-audit-on-requires
+audit-on-requires c κs = rw (c .before .floppy .ensures) floppy-sized
+
+same-length : tie.Need-same-length
+same-length c = search needs
+
+returns : tie.Need-returns
+returns c = rw (c .before .before .before .before .floppy .ensures) at (c .before .before .audit-on .ensures)
+
+pub audit-spec : {M : Type 1} → statement M
+audit-spec = tie.close (tie.spec floppy-requires audit-on-requires same-length returns)

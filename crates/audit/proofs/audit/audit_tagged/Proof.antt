@@ -1,0 +1,55 @@
+-- `audit::audit::audit_tagged` meets its contract. Assumes nothing.
+use mathlib.Core.Path.{_∙_}
+use Rattle.audit.proofs.Auditing.{part-zero, part-long, tagged-accepted, tagged-refused}
+use borrow.Author.Needs.{needs}
+use Rattle.audit.proofs.audit.audit_tagged.Statement.{statement}
+use Rattle.audit.proofs.audit.audit_tagged.Tie as tie
+
+claim-bytes-requires : tie.Need-claim-bytes-requires
+claim-bytes-requires c κs = search needs
+
+slice-relend-prefix-audit-within : tie.Need-slice-relend-prefix-audit-within
+slice-relend-prefix-audit-within c = search needs
+
+slice-aggregate-audit-within : tie.Need-slice-aggregate-audit-within
+slice-aggregate-audit-within c = c .before .claim-bytes .ensures ∙ part-long (c .before .before .before .before .args .disk) _ _ (c .before .claim-bytes .ensures) (c .before .before .before .before .pre .2) (c .before .before .before .before .pre .3)
+
+audit-within-requires : tie.Need-audit-within-requires
+audit-within-requires c κs = (c .before .before .before .before .pre .0, c .before .before .before .before .pre .1, part-zero (c .before .before .before .before .args .disk) _ _ (c .before .claim-bytes .ensures) (c .before .before .before .before .pre .2) (c .before .before .before .before .pre .3))
+
+enum-told : tie.Need-enum-told
+enum-told c = search needs
+
+enum-told-2 : tie.Need-enum-told-2
+enum-told-2 c = search needs
+
+same-length : tie.Need-same-length
+same-length c = search needs
+
+returns : tie.Need-returns
+returns c = tagged-accepted _ _ _ (c .before .before .before .before .before .before .claim-bytes .ensures) (c .before .before .before .before .before .before .before .before .before .pre .2) _ _ _ (c .before .before .before .before .audit-within .ensures) _ (c .enum-told2 .given .1)
+
+wipe-requires : tie.Need-wipe-requires
+wipe-requires c κs = search needs
+
+same-length-2 : tie.Need-same-length-2
+same-length-2 c = search needs
+
+returns-2 : tie.Need-returns-2
+returns-2 c = tagged-refused _ _ _ (c .before .before .before .before .before .before .before .before .before .before .claim-bytes .ensures) (c .before .before .before .before .before .before .before .before .before .before .before .before .before .pre .2) _ _ _ (c .before .before .before .before .before .before .before .before .audit-within .ensures) _ _ (c .before .before .before .before .enum-told .given .1) (c .before .before .before .before .before .before .before .before .audit-within .kept .1 .1 .0) (c .before .before .wipe .ensures)
+
+pub audit-tagged-spec : {M : Type 1} → statement M
+audit-tagged-spec =
+    tie.close
+    (tie.spec
+    claim-bytes-requires
+    slice-relend-prefix-audit-within
+    slice-aggregate-audit-within
+    audit-within-requires
+    enum-told
+    enum-told-2
+    same-length
+    returns
+    wipe-requires
+    same-length-2
+    returns-2)

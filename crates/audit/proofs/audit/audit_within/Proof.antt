@@ -1,0 +1,77 @@
+-- `audit::audit::audit_within` meets its contract. Assumes nothing.
+use Rattle.audit.proofs.Auditing.{within-stopped, walk-few, page-inside, within-right, within-wrong}
+-- `audit::audit::audit_within` meets its contract. Assumes nothing.
+use mathlib.Core.Path.{_∙_}
+use lib.ListN.{length-replicate}
+use borrow.Author.Needs.{needs}
+use Rattle.audit.proofs.audit.audit_within.Statement.{statement}
+use Rattle.audit.proofs.audit.audit_within.Tie as tie
+
+walk-volume-requires : tie.Need-walk-volume-requires
+walk-volume-requires c κs = search needs
+
+enum-known-w : tie.Need-enum-known-w
+enum-known-w c = search needs
+
+enum-known-w-2 : tie.Need-enum-known-w-2
+enum-known-w-2 c = search needs
+
+root-requires : tie.Need-root-requires
+root-requires c κs = search needs
+
+word-of-requires : tie.Need-word-of-requires
+word-of-requires c κs = search needs
+
+check-bits-requires : tie.Need-check-bits-requires
+check-bits-requires c κs = (c .before .before .before .before .before .before .before .before .before .before .before .before .pre .0, c .before .before .before .before .before .before .before .before .before .before .before .before .pre .1, c .before .before .before .before .before .before .before .before .walk-volume .kept .1 .1 .0 ∙ rw (c .before .before .before .before .before .before .before .before .before .before .before .before .pre .2) (length-replicate _ 0), page-inside _ _ _ _ _ (c .before .before .before .before .before .before .before .before .before .before .before .before .pre .2) (c .before .before .before .before .before .before .before .before .walk-volume .ensures) _ (c .before .before .before .before .w2 .given .1) _ _ (c .before .before .root .ensures) (c .before .word-of .ensures))
+
+enum-known-m : tie.Need-enum-known-m
+enum-known-m c = search needs
+
+reported-requires : tie.Need-reported-requires
+reported-requires c κs = walk-few _ _ _ _ _ (c .before .before .before .before .before .before .before .before .before .before .before .before .before .before .before .before .pre .2) (c .before .before .before .before .before .before .before .before .before .before .before .before .walk-volume .ensures) _ (c .before .before .before .before .before .before .before .before .w2 .given .1) (c .before .before .before .before .before .before .before .before .before .before .before .before .before .before .before .before .pre .0)
+
+enum-known-m-2 : tie.Need-enum-known-m-2
+enum-known-m-2 c = search needs
+
+cast-t19 : tie.Need-cast-t19
+cast-t19 c = search needs
+
+same-length : tie.Need-same-length
+same-length c = search needs
+
+returns : tie.Need-returns
+returns c = within-stopped _ _ _ _ _ (c .before .before .before .before .before .before .before .before .before .pre .2) (c .before .before .before .before .before .walk-volume .ensures) _ _ (c .before .w .given .1)
+
+same-length-2 : tie.Need-same-length-2
+same-length-2 c = search needs
+
+returns-2 : tie.Need-returns-2
+returns-2 c = within-right _ _ _ _ _ (c .before .before .before .before .before .before .before .before .before .before .before .before .before .before .before .before .before .pre .2) (c .before .before .before .before .before .before .before .before .before .before .before .before .before .walk-volume .ensures) _ (c .before .before .before .before .before .before .before .before .before .w2 .given .1) _ _ (c .before .before .before .before .before .before .before .root .ensures) (c .before .before .before .before .before .before .word-of .ensures) _ (c .before .before .before .before .check-bits .ensures) _ _ (c .before .before .m .given .1) (c .reported .ensures)
+
+same-length-3 : tie.Need-same-length-3
+same-length-3 c = search needs
+
+returns-3 : tie.Need-returns-3
+returns-3 c = within-wrong _ _ _ _ _ (c .before .before .before .before .before .before .before .before .before .before .before .before .before .before .before .before .pre .2) (c .before .before .before .before .before .before .before .before .before .before .before .before .walk-volume .ensures) _ (c .before .before .before .before .before .before .before .before .w2 .given .1) _ _ (c .before .before .before .before .before .before .root .ensures) (c .before .before .before .before .before .word-of .ensures) _ (c .before .before .before .check-bits .ensures) _ _ (c .before .m2 .given .1)
+
+pub audit-within-spec : {M : Type 1} → statement M
+audit-within-spec =
+    tie.close
+    (tie.spec
+    walk-volume-requires
+    enum-known-w
+    enum-known-w-2
+    root-requires
+    word-of-requires
+    check-bits-requires
+    enum-known-m
+    reported-requires
+    enum-known-m-2
+    cast-t19
+    same-length
+    returns
+    same-length-2
+    returns-2
+    same-length-3
+    returns-3)

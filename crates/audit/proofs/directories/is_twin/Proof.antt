@@ -1,0 +1,51 @@
+-- `audit::directories::is_twin` meets its contract. Assumes nothing.
+use Prim.Native.Nat.{_-_}
+use borrow.Author.Needs.{needs}
+use Rattle.audit.proofs.Hanging.{TwinInv, twin-start, twin-known, twin-yes, twin-again, twin-no, known-holds}
+use Rattle.audit.proofs.directories.is_twin.Statement.{statement}
+use Rattle.audit.proofs.directories.is_twin.Tie as tie
+
+abbrev Inv-loop : tie.InvT-loop
+Inv-loop disk image key head place e₀ i₀ e i = TwinInv disk image key head place e i
+
+abbrev μ-loop : tie.MeasureT-loop
+μ-loop disk image key head place e₀ i₀ e i = place - i
+
+loop-holds : tie.Need-loop-holds Inv-loop μ-loop
+loop-holds c = search twin-start
+
+same-names-requires : tie.Need-same-names-requires Inv-loop μ-loop
+same-names-requires c κs = let k = twin-known _ _ _ _ _ _ _ (c .before .loop .inv) (c .loop-test .taken) (c .before .before .before .pre .2) in ((known-holds _ _ _ (c .before .before .before .pre .0) k, known-holds _ _ _ (c .before .before .before .pre .0) (c .before .before .before .pre .1)), (k .short, c .before .before .before .pre .1 .short))
+
+returns : tie.Need-returns Inv-loop μ-loop
+returns c = twin-yes _ _ _ _ _ _ _ (c .before .before .before .loop .inv) (c .before .before .loop-test .taken) (c .before .before .before .before .before .pre .2) _ (c .before .same-names .ensures) (c .if1 .taken)
+
+word-of-requires : tie.Need-word-of-requires Inv-loop μ-loop
+word-of-requires c κs = (search needs, known-holds _ _ _ (c .before .before .before .before .before .pre .0) (twin-known _ _ _ _ _ _ _ (c .before .before .before .loop .inv) (c .before .before .loop-test .taken) (c .before .before .before .before .before .pre .2)))
+
+add-i : tie.Need-add-i Inv-loop μ-loop
+add-i c = search needs
+
+loop-less : tie.Need-loop-less Inv-loop μ-loop
+loop-less c = search needs
+
+loop-again : tie.Need-loop-again Inv-loop μ-loop
+loop-again c = twin-again _ _ _ _ _ _ _ (c .before .before .before .before .loop .inv) (c .before .before .before .loop-test .taken) (c .before .before .before .before .before .before .pre .2) _ _ (c .before .before .same-names .ensures) (c .before .if1 .left) (c .word-of .ensures)
+
+returns-2 : tie.Need-returns-2 Inv-loop μ-loop
+returns-2 c = search twin-no depth 7
+
+pub is-twin-spec : {M : Type 1} → statement M
+is-twin-spec =
+    tie.close
+    (tie.spec
+    Inv-loop
+    μ-loop
+    loop-holds
+    same-names-requires
+    returns
+    word-of-requires
+    add-i
+    loop-less
+    loop-again
+    returns-2)

@@ -1,0 +1,7 @@
+-- What the contracts of `audit` cite. To read what an audit answers and leaves: Bits, Audits.
+-- what a part of the walk has done
+pub mod Walks
+-- the bitmap against the claims
+pub mod Bits
+-- the audit's answer, and the claim area after it
+pub mod Audits

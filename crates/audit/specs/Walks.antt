@@ -1,0 +1,105 @@
+-- What a part of the walk has done: a claim, a block that was met, a stretch of work. Each is said of the walk over the graph of crate `walk`.
+use Prim.Native.Nat.{ℕ, _+_, _-_, _≤_, _<_}
+use mathlib.Core.Path.{_≡_}
+use mathlib.Core.Logic.{_≢_}
+use mathlib.Core.List.{List, [], _∷_, _++_}
+use lib.ListN.{length, getD, set}
+use Rattle.answers.specs.Tests.{first}
+use Rattle.reach.specs.Walk.{Outcome, refused, claimed, free, verdict, run}
+use Rattle.volume.specs.declared.disk.Disk.{Disk}
+use Rattle.volume.specs.Disks.{Sized, firstKey, imageBytes, claimBytes, fileLimit}
+use Rattle.volume.specs.Blocks.{slots, wordOf, slotWord, keyWord}
+use Rattle.volume.specs.Names.{nameLength, longest}
+use Rattle.volume.specs.Files.{sizeOf, blocksOf, keysHere}
+use Rattle.walk.specs.declared.Counts.{Counts}
+use Rattle.volume.specs.Law.{chainKey}
+use Rattle.walk.specs.Nodes.{Node, entry, list, keyOf, keyFault, keyNodes, listing, chained, graph}
+use Rattle.audit.specs.declared.files.Lister.{Lister}
+use Rattle.audit.specs.declared.claims.Walked.{Walked}
+use Rattle.audit.specs.declared.claims.Walked.the-variants.{Done, Stopped}
+
+-- a key is claimed, or refused
+pub record Claims (d : Disk) (cl : List ℕ) (k r : ℕ) (cl′ : List ℕ) : Type 0 where
+  pub told : r ≡ first (keyFault d k) (claimed 6 (getD cl k 1))
+  pub claims : r ≡ 0 → cl′ ≡ set cl k 1
+
+-- a block is met: r is what its tests say, and a block that passes is claimed
+pub record Met (d : Disk) (s : List ℕ) (n : Node) (cl : List ℕ) (r : ℕ) (cl′ : List ℕ) : Type 0 where
+  pub told : r ≡ verdict (graph d s) cl n
+  pub claims : r ≡ 0 → cl′ ≡ set cl (keyOf d n) 1
+
+abbrev pub total : Counts → ℕ
+total c = c .directories + c .files + c .lists + c .blocks
+
+-- the walk goes on with these, or has stopped
+unfoldable pub goesOn : Disk → List ℕ → Walked → List ℕ → List Node → Outcome Counts
+goesOn d s (Done c) cl ns = run (graph d s) cl c ns
+goesOn d s (Stopped r) cl ns = refused (r .number) (r .place)
+
+-- of the work `todo` the walk has left `rest`, whatever comes behind it
+pub record Walks (d : Disk) (s : List ℕ) (todo rest : List Node) (n : Counts) (cl : List ℕ) (r : Walked) (cl′ : List ℕ) : Type 0 where
+  pub same : (ns : List Node) → run (graph d s) cl n (todo ++ ns) ≡ goesOn d s r cl′ (rest ++ ns)
+  pub count : (c : Counts) → r ≡ Done c → total c + free cl′ ≤ total n + free cl
+  pub less : (c : Counts) → r ≡ Done c → free cl′ ≤ free cl
+
+-- what the walk stands on: a disk of a known size, its image, a claim byte for each block, and counts that cannot overflow
+pub record Ready (d : Disk) (s cl : List ℕ) (n : Counts) : Type 0 where
+  pub sized : Sized d
+  pub image : length s ≡ imageBytes d
+  pub claim : length cl ≡ claimBytes d
+  pub room : total n + free cl ≤ d .blocks
+
+-- ---- files
+
+-- a block whose keys come next: its file passes, and what it needs lies in the volume
+pub record Listing (d : Disk) (s : List ℕ) (b : Lister) : Type 0 where
+  pub size : sizeOf s (b .header) ≤ fileLimit d
+  pub header : b .header < d .blocks
+  pub key : b .key < d .blocks
+  pub last : b .last < d .blocks
+  pub done : b .done ≤ blocksOf d s (b .header)
+
+-- how many keys it has
+abbrev pub keysIn : Disk → List ℕ → Lister → ℕ
+keysIn d s b = keysHere (blocksOf d s (b .header) - b .done)
+
+-- its data blocks are walked
+pub record KeysWalked (d : Disk) (s : List ℕ) (b : Lister) (n : Counts) (cl : List ℕ) (r : Walked) (cl′ : List ℕ) : Type 0 where
+  pub walks : Walks d s (keyNodes s (b .header) (b .key) (b .done) (b .last) 0 (keysIn d s b)) [] n cl r cl′
+  pub keys : (c : Counts) → r ≡ Done c → (i : ℕ) → i < keysIn d s b → keyWord s (b .key) i < d .blocks
+
+-- where block k of file h, with m data blocks before its own, leads to a list block, that comes behind 72 more
+abbrev pub nextList : List ℕ → ℕ → ℕ → ℕ → List Node
+nextList s h k m = listing (wordOf s k 126) h (m + slots) (keyWord s k 71)
+
+-- what is known of a block of file h whose keys are walked
+pub record Listed (d : Disk) (s : List ℕ) (h k m : ℕ) : Type 0 where
+  pub key : k < d .blocks
+  pub more : wordOf s k 126 ≢ 0 → m + slots < blocksOf d s h
+  pub last : wordOf s k 126 ≢ 0 → keyWord s k 71 < d .blocks
+
+-- a list block is walked, up to the link to the next
+pub record ListWalked (d : Disk) (s : List ℕ) (b : Lister) (n : Counts) (cl : List ℕ) (r : Walked) (cl′ : List ℕ) : Type 0 where
+  pub walks : Walks d s (list (b .key) (b .header) (b .done) (b .last) ∷ []) (nextList s (b .header) (b .key) (b .done)) n cl r cl′
+  pub known : (c : Counts) → r ≡ Done c → Listed d s (b .header) (b .key) (b .done)
+  pub less : (c : Counts) → r ≡ Done c → free cl′ < free cl
+
+-- ---- directories
+
+-- a key that has been met as an entry
+pub record Known (d : Disk) (s : List ℕ) (k : ℕ) : Type 0 where
+  pub low : firstKey ≤ k
+  pub high : k < d .blocks
+  pub short : nameLength s k ≤ longest
+
+-- where an entry hangs: the slot is one of a directory, and the p entries before it on its chain have been met
+pub record Chain (d : Disk) (s : List ℕ) (t i p : ℕ) : Type 0 where
+  pub inside : t < d .blocks
+  pub slot : i < slots
+  pub earlier : (q : ℕ) → q < p → Known d s (chainKey s (slotWord s t i) q)
+
+-- an entry is walked, with what is in it, up to the link to the next on its chain
+pub record EntryWalked (d : Disk) (s : List ℕ) (k t i p : ℕ) (n : Counts) (cl : List ℕ) (r : Walked) (cl′ : List ℕ) : Type 0 where
+  pub walks : Walks d s (entry k t i p ∷ []) (chained (wordOf s k 124) t i (p + 1)) n cl r cl′
+  pub known : (c : Counts) → r ≡ Done c → Known d s k
+  pub less : (c : Counts) → r ≡ Done c → free cl′ < free cl

@@ -1,0 +1,147 @@
+// The audit of a disk's image.
+use crate::bitmap::Mapped;
+use crate::bitmap::check_bits;
+use crate::claims::Walked;
+use crate::claims::meet_bitmap;
+use crate::claims::meet_root;
+use crate::claims::stopped;
+use crate::directories::walk_directory;
+use answers::Refusal;
+use volume::block::Block;
+use volume::block::word_of;
+use volume::disk::Disk;
+use walk::Counts;
+use words::wipe;
+ghost use mathlib.Core.Path.{_≡_};
+ghost use mathlib.Core.List.{[], _∷_};
+ghost use Prim.Native.Nat.{_+_, _≤_};
+ghost use lib.ListN.{length, replicate};
+ghost use Rattle.words.specs.Word.{wordAt};
+ghost use Rattle.volume.specs.Disks.{Sized, mostBlocks, floppy, imageBytes, claimBytes, tagOf};
+ghost use Rattle.walk.specs.Nodes.{root, nothing};
+ghost use Rattle.audit.specs.Walks.{total, Walks};
+ghost use Rattle.audit.specs.Audits.{refuse, reportOf, Within, Tagged, Audits};
+
+// Directories below the root, files, list blocks, data blocks; the blocks in use, the root and the bitmap block among them; and the free.
+pub struct Report {
+    pub directories: u32,
+    pub files: u32,
+    pub lists: u32,
+    pub blocks: u32,
+    pub used: u32,
+    pub free: u32,
+}
+
+pub enum Audited {
+    Accepted(Report),
+    Refused(Refusal),
+}
+
+fn refused(number: u32) -> Audited
+    ensures { λ r. ⌜ r ≡ refuse number 0 ⌝ }
+{
+    Audited::Refused(Refusal {
+        number: number,
+        place: 0,
+    })
+}
+
+fn reported(c: Counts, free: u32) -> Report
+    requires { ⌜ total c ≤ mostBlocks ⌝ }
+    ensures { λ r. ⌜ r ≡ reportOf c free ⌝ }
+{
+    Report {
+        directories: c.directories,
+        files: c.files,
+        lists: c.lists,
+        blocks: c.blocks,
+        used: c.directories + c.files + c.lists + c.blocks + 2,
+        free: free,
+    }
+}
+
+// The walk from the root, with nothing claimed yet.
+fn walk_volume(disk: Disk, image: &[u8], claim: &mut [u8]) -> Walked
+    requires { ⌜ (Sized disk) × (length (now image) ≡ imageBytes disk) × (now claim ≡ replicate (claimBytes disk) 0) ⌝ }
+    ensures { λ r. ⌜ Walks disk (now (image .entry)) (root ∷ []) [] nothing (now (claim .entry)) r (now (claim .exit)) ⌝ }
+{
+    let f = meet_root(disk, image, claim);
+    if f != 0 {
+        return stopped(f, disk.root());
+    }
+    let page = word_of(image, disk.root(), Block::MAP_KEY);
+    let g = meet_bitmap(disk, image, claim, page);
+    if g != 0 {
+        return stopped(g, page);
+    }
+    let none = Counts {
+        directories: 0,
+        files: 0,
+        lists: 0,
+        blocks: 0,
+    };
+    walk_directory(disk, image, claim, disk.root(), none)
+}
+
+// The walk and the bitmap; the claim area has a byte for each block, all 0.
+fn audit_within(disk: Disk, image: &[u8], claim: &mut [u8]) -> Audited
+    requires { ⌜ (Sized disk) × (length (now image) ≡ imageBytes disk) × (now claim ≡ replicate (claimBytes disk) 0) ⌝ }
+    ensures { λ r. ⌜ Within disk (now (image .entry)) r (now (claim .exit)) ⌝ }
+{
+    let w = walk_volume(disk, image, claim);
+    match w {
+        Walked::Stopped(r) => Audited::Refused(r),
+        Walked::Done(c) => {
+            let page = word_of(image, disk.root(), Block::MAP_KEY);
+            let m = check_bits(disk, image, page, claim);
+            match m {
+                Mapped::Right(free) => Audited::Accepted(reported(c, free)),
+                Mapped::Wrong(key) => {
+                    Audited::Refused(Refusal {
+                        number: 17,
+                        place: key as usize,
+                    })
+                }
+            }
+        }
+    }
+}
+
+// The same in a longer area, which is all 0 and comes back so where it refuses.
+fn audit_tagged(disk: Disk, image: &[u8], claim: &mut [u8]) -> Audited
+    requires { ⌜ (Sized disk) × (length (now image) ≡ imageBytes disk) × (now claim ≡ replicate (length (now claim)) 0) × (claimBytes disk ≤ length (now claim)) ⌝ }
+    ensures { λ r. ⌜ Tagged disk (now (image .entry)) (length (now (claim .entry))) r (now (claim .exit)) ⌝ }
+{
+    let n = disk.claim_bytes();
+    let r = audit_within(disk, image, &mut claim[..n]);
+    let Audited::Refused(_) = r else {
+        return r;
+    };
+    wipe(claim);
+    r
+}
+
+// Audits the image of a disk. The whole claim area is written: 1 for each block that is reached, and 0 elsewhere; all 0 where it refuses.
+pub fn audit_on(disk: Disk, image: &[u8], claim: &mut [u8]) -> Audited
+    requires { ⌜ Sized disk ⌝ }
+    ensures { λ r. ⌜ Audits disk (now (image .entry)) (length (now (claim .entry))) r (now (claim .exit)) ⌝ }
+{
+    wipe(claim);
+    if image.len() != disk.image_bytes() {
+        return refused(1);
+    }
+    if claim.len() < disk.claim_bytes() {
+        return refused(2);
+    }
+    if disk.has_tag(image) {
+        return audit_tagged(disk, image, claim);
+    }
+    refused(3)
+}
+
+// Audits the image of an 880 KB floppy of the old file system.
+pub fn audit(image: &[u8], claim: &mut [u8]) -> Audited
+    ensures { λ r. ⌜ Audits floppy (now (image .entry)) (length (now (claim .entry))) r (now (claim .exit)) ⌝ }
+{
+    audit_on(Disk::floppy(), image, claim)
+}

@@ -1,0 +1,156 @@
+// The walk through a directory: its slots upward, each chain from its head, and what an entry holds before the next on its chain.
+use crate::claims::Walked;
+use crate::claims::claim_key;
+use crate::claims::stopped;
+use crate::files::walk_file;
+use volume::block::Block;
+use volume::block::word_of;
+use volume::disk::Disk;
+use volume::entry::entry_fault;
+use volume::entry::is_directory;
+use volume::file::file_fault;
+use volume::name::same_names;
+use walk::Counts;
+ghost use mathlib.Core.Path.{_≡_};
+ghost use mathlib.Core.Bool.{true, false};
+ghost use mathlib.Core.List.{[]};
+ghost use Prim.Native.Nat.{ℕ, _≤_, _<_};
+ghost use lib.ListN.{length};
+ghost use Rattle.volume.specs.Disks.{Sized, firstKey, imageBytes};
+ghost use Rattle.volume.specs.Blocks.{slots, slotWord};
+ghost use Rattle.volume.specs.Law.{chainKey};
+ghost use Rattle.walk.specs.Nodes.{entry, slotNodes, twin, hangsFault, withEntry};
+ghost use Rattle.audit.specs.Walks.{Met, Ready, Walks, Known, Chain, EntryWalked};
+
+const SLOTS: u32 = Block::SLOTS as u32;
+
+// Whether one of the first `place` entries of the chain from `head` has the name of an entry.
+fn is_twin(disk: Disk, image: &[u8], key: u32, head: u32, place: u32) -> bool
+    requires { ⌜ (length (now image) ≡ imageBytes disk) × (Known disk (now image) key) × ((q : ℕ) → q < place → Known disk (now image) (chainKey (now image) head q)) ⌝ }
+    ensures { λ r. ⌜ r ≡ twin disk (now (image .entry)) key head place ⌝ }
+{
+    let mut e = head;
+    let mut i: u32 = 0;
+    while i < place {
+        if same_names(disk, image, e, key) {
+            return true;
+        }
+        e = word_of(image, e, Block::NEXT);
+        i += 1;
+    }
+    false
+}
+
+// The tests of an entry at a place of a chain.
+fn hangs_fault(disk: Disk, image: &[u8], key: u32, directory: u32, slot: u32, place: u32) -> u32
+    requires { ⌜ (Sized disk) × (length (now image) ≡ imageBytes disk) × (firstKey ≤ key) × (key < disk .blocks) × (Chain disk (now image) directory slot place) ⌝ }
+    ensures { λ r. ⌜ r ≡ hangsFault disk (now (image .entry)) key directory slot place ⌝ }
+{
+    let f = entry_fault(disk, image, key, directory, slot);
+    if f != 0 {
+        return f;
+    }
+    let head = word_of(image, directory, Block::FIRST_SLOT + slot as usize);
+    if is_twin(disk, image, key, head, place) {
+        return 13;
+    }
+    if is_directory(image, key) {
+        return 0;
+    }
+    file_fault(disk, image, key)
+}
+
+// An entry: its claim and its tests.
+fn meet_entry(
+    disk: Disk,
+    image: &[u8],
+    claim: &mut [u8],
+    key: u32,
+    directory: u32,
+    slot: u32,
+    place: u32,
+    c: Counts,
+) -> u32
+    requires { ⌜ (Ready disk (now image) (now claim) c) × (Chain disk (now image) directory slot place) ⌝ }
+    ensures { λ r. ⌜ Met disk (now (image .entry)) (entry key directory slot place) (now (claim .entry)) r (now (claim .exit)) ⌝ }
+{
+    let f = claim_key(disk, claim, key);
+    if f != 0 {
+        return f;
+    }
+    hangs_fault(disk, image, key, directory, slot, place)
+}
+
+// One directory more.
+fn with_directory(c: Counts) -> Counts
+    requires { ⌜ c .directories < 4294967295 ⌝ }
+    ensures { λ r. ⌜ r ≡ withEntry true c ⌝ }
+{
+    Counts {
+        directories: c.directories + 1,
+        files: c.files,
+        lists: c.lists,
+        blocks: c.blocks,
+    }
+}
+
+// One file more.
+fn with_file(c: Counts) -> Counts
+    requires { ⌜ c .files < 4294967295 ⌝ }
+    ensures { λ r. ⌜ r ≡ withEntry false c ⌝ }
+{
+    Counts {
+        directories: c.directories,
+        files: c.files + 1,
+        lists: c.lists,
+        blocks: c.blocks,
+    }
+}
+
+// An entry at a place of the chain of a slot: its tests, then what is in it.
+fn walk_entry(
+    disk: Disk,
+    image: &[u8],
+    claim: &mut [u8],
+    key: u32,
+    directory: u32,
+    slot: u32,
+    place: u32,
+    n: Counts,
+) -> Walked
+    requires { ⌜ (Ready disk (now image) (now claim) n) × (Chain disk (now image) directory slot place) ⌝ }
+    ensures { λ r. ⌜ EntryWalked disk (now (image .entry)) key directory slot place n (now (claim .entry)) r (now (claim .exit)) ⌝ }
+{
+    let f = meet_entry(disk, image, claim, key, directory, slot, place, n);
+    if f != 0 {
+        return stopped(f, key);
+    }
+    if is_directory(image, key) {
+        return walk_directory(disk, image, claim, key, with_directory(n));
+    }
+    walk_file(disk, image, claim, key, with_file(n))
+}
+
+// What is in a directory: slots upward, each chain from its head.
+pub fn walk_directory(disk: Disk, image: &[u8], claim: &mut [u8], key: u32, n: Counts) -> Walked
+    requires { ⌜ (Ready disk (now image) (now claim) n) × (key < disk .blocks) ⌝ }
+    ensures { λ r. ⌜ Walks disk (now (image .entry)) (slotNodes (now (image .entry)) key 0 slots) [] n (now (claim .entry)) r (now (claim .exit)) ⌝ }
+{
+    let mut m = n;
+    let mut slot: u32 = 0;
+    'slots: while slot < SLOTS {
+        let mut entry = word_of(image, key, Block::FIRST_SLOT + slot as usize);
+        let mut place: u32 = 0;
+        'chain: while entry != 0 {
+            let w = walk_entry(disk, image, claim, entry, key, slot, place, m);
+            let Walked::Done(c) = w else {
+                return w;
+            };
+            m = c;
+            entry = word_of(image, entry, Block::NEXT);
+            place += 1;
+        }
+        slot += 1;
+    }
+    Walked::Done(m)
+}
