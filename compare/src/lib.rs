@@ -1,7 +1,6 @@
 //! A second opinion on the disks that the Rattle library reads.
 //!
 //! Everything here was written from the build paper alone, without a look at the library's code, so that a
-//! misreading has to be made twice before the two agree on it. Where the paper gives a rule as a step by step
 //! recipe, this side prefers another way to the same number.
 //!
 //! What is judged, from the smallest piece upward:
@@ -12,6 +11,8 @@
 //! - [`sizes`]: how many blocks a file of some size needs and what each of them holds;
 //! - [`bitmap`]: where the free bit of a block stands;
 //! - [`blocks`]: the tests of one block, each answered by a refusal's number;
+//! - [`audit`]: the audit of a volume, which meets every block in the paper's order;
+//! - [`declared`]: the same question asked of the volume as a whole, without an order;
 //! - [`program`]: the check of a program file;
 //! - [`loader`]: loading a program and moving it.
 //!
@@ -20,11 +21,16 @@
 //! - [`rng`]: numbers drawn from a fixed seed, so that a failure can be had again;
 //! - [`programs`]: good programs to load, drawn at random;
 //! - [`bad_programs`]: what can be wrong with them, each with the refusal due for it;
+//! - [`volumes`]: good volumes to audit, drawn at random, with what each of their blocks is;
+//! - [`bad_volumes`]: what can be wrong with them, each with the refusal due for it;
 //! - [`driver`]: runs a Rattle program on a batch of requests and compares every line it answers.
 
+pub mod audit;
 pub mod bad_programs;
+pub mod bad_volumes;
 pub mod bitmap;
 pub mod blocks;
+pub mod declared;
 pub mod disk;
 pub mod driver;
 pub mod loader;
@@ -33,4 +39,5 @@ pub mod program;
 pub mod programs;
 pub mod rng;
 pub mod sizes;
+pub mod volumes;
 pub mod words;

@@ -1,10 +1,13 @@
 //! The cases that the build paper works out itself (section "Worked cases"), and the numbers that it gives for
 //! the one disk of the base.
 
+use compare::audit::{audit, Report};
 use compare::bitmap::place;
 use compare::disk::Disk;
 use compare::names::slot;
+use compare::rng::Rng;
 use compare::sizes::{data_blocks, header_keys, held, last_list_keys, list_blocks};
+use compare::volumes::{any_style, empty, Volume};
 
 const DISK: Disk = Disk::FLOPPY;
 
@@ -44,6 +47,15 @@ fn sizes() {
     }
     assert_eq!([held(&DISK, 489, 1), held(&DISK, 489, 2)], [488, 1]);
     assert_eq!(held(&DISK, 35_137, 73), 1);
+}
+
+#[test]
+fn an_empty_volume() {
+    let mut rng = Rng::new(1);
+    let style = any_style(&mut rng);
+    let volume = Volume::new(&mut rng, &DISK, &empty(), style);
+    let report = audit(&DISK, &volume.image, &mut [0xAA; 1760]);
+    assert_eq!(report, Ok(Report { used: 2, free: 1756, ..Report::default() }));
 }
 
 #[test]

@@ -3,7 +3,9 @@
 mod checksum;
 mod frame;
 mod image;
+mod line;
 mod programs;
+mod volumes;
 
 use frame::Frame;
 use frame::State;
@@ -27,6 +29,8 @@ const IMAGE: u32 = 1;
 
 const PATCH: u32 = 2;
 
+const AUDIT: u32 = 3;
+
 const FILE: u32 = 6;
 
 const LOAD: u32 = 7;
@@ -49,6 +53,9 @@ fn answer(
     }
     if number == PATCH {
         return image::patch(length, state, image);
+    }
+    if number == AUDIT {
+        return volumes::audit_held(length, state, image);
     }
     if number == FILE {
         return programs::file(length, state, file);

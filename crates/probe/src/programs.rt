@@ -5,6 +5,8 @@ use crate::checksum::of_bytes;
 use crate::checksum::of_numbers;
 use crate::frame::State;
 use crate::frame::fill;
+use crate::line::say_area;
+use crate::line::say_pair;
 use libc::STDOUT_FILENO;
 use program::check::Answer;
 
@@ -42,20 +44,6 @@ pub fn file(length: u32, state: State, room: &mut [u8]) -> State {
         return state.refused(length);
     }
     take(state, length, &mut room[..n])
-}
-
-// A word of the answer, and two numbers.
-fn say_pair(verb: &[u8], number: u32, place: usize) {
-    io::write_all(STDOUT_FILENO, verb);
-    io::print_decimal(STDOUT_FILENO, number as u64);
-    io::write_all(STDOUT_FILENO, b" ");
-    io::print_decimal(STDOUT_FILENO, place as u64);
-}
-
-// An area's name, and its checksum.
-fn say_area(name: &[u8], sum: u32) {
-    io::write_all(STDOUT_FILENO, name);
-    io::print_decimal(STDOUT_FILENO, sum as u64);
 }
 
 // The line for a call that was made with these areas.
