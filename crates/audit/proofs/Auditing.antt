@@ -5,8 +5,8 @@ use mathlib.Core.List.{List, [], _∷_, _++_, append-nil}
 use mathlib.Core.Bool.{Bool, true, false}
 use native.Mathlib.Omega.{arith}
 use lib.Dec.{eqb}
-use lib.ListN.{length, take, drop, replicate, length-replicate}
-use lib.Seq.{length-front}
+use lib.ListN.{length, take, drop, replicate, length-append, length-replicate, replicate-append-replicate}
+use lib.Seq.{drop-at}
 use borrow.Author.Tests.{lt-ltb, le-ltb, eq-eqb, ne-eqb}
 use Rattle.answers.specs.declared.Refusal.{Refusal}
 use Rattle.answers.specs.Refusals.{refusal}
@@ -108,8 +108,8 @@ module _ (d : Disk) (s cl cl′ : List ℕ) (w : Walked) (z : cl ≡ replicate (
       pub within-right : (n : ℕ) (x : Report) → b ≡ Right n → x ≡ reportOf c n → Within d s (Accepted x) cl′
       within-right n x y u = record { answer = rw (walk-done c e, bits-so, y, u) refl; claims = λ _ _. rw (walk-done c e) refl }
 
-      pub within-wrong : (j : ℕ) (cl″ : List ℕ) → b ≡ Wrong j → Within d s (refuse 17 j) cl″
-      within-wrong j cl″ y = record { answer = rw (walk-done c e, bits-so, y) refl; claims = λ x u. absurd (let v : _≡_ {A = ℕ} 0 1 = cc in omega arith) }
+      pub within-wrong : (j : ℕ) (r : Audited) (cl″ : List ℕ) → b ≡ Wrong j → r ≡ refuse 17 j → Within d s r cl″
+      within-wrong j r cl″ y q = record { answer = q ∙ rw (walk-done c e, bits-so, y) refl; claims = λ x u. absurd (let v : _≡_ {A = ℕ} 0 1 = cc in omega arith) }
 
 -- ---- a claim area that is longer than the blocks
 
@@ -130,6 +130,9 @@ module _ (d : Disk) (X : List ℕ) (n : ℕ) (e : n ≡ claimBytes d) (z : X ≡
   pub part-long : claimBytes d ≤ length X → claimBytes d ≡ length (take n X)
   part-long h = sym (ap length (part-zero h) ∙ length-replicate (claimBytes d) 0)
 
+  pub area-long : (cl′ : List ℕ) → claimBytes d ≤ length X → length cl′ ≡ length (take n X) → n ≤ length (cl′ ++ drop n X)
+  area-long cl′ h l = rw length-append (omega (arith, l, part-long h))
+
   module _ (s : List ℕ) (r : Audited) (cl′ : List ℕ) (w : Within d s r cl′) where
     pub tagged-accepted : (p : Report) → r ≡ Accepted p → Tagged d s (length X) r (cl′ ++ drop n X)
     tagged-accepted p q = record { answer = w .answer; claim = rw q (ap₂ (λ (a b : List ℕ). a ++ b) (w .claims p q) rest) }
@@ -137,8 +140,14 @@ module _ (d : Disk) (X : List ℕ) (n : ℕ) (e : n ≡ claimBytes d) (z : X ≡
         rest : drop n X ≡ replicate (length X - claimBytes d) 0
         rest = ap (drop n) z ∙ drop-zeros n (length X) ∙ ap (λ (j : ℕ). replicate (length X - j) 0) e
 
-    pub tagged-refused : (x : Refusal) (Y : List ℕ) → r ≡ Refused x → length cl′ ≡ length (take n X) → Y ≡ replicate (length (cl′ ++ drop n X)) 0 → Tagged d s (length X) r Y
-    tagged-refused x Y q l y = record { answer = w .answer; claim = rw q (y ∙ ap (λ (j : ℕ). replicate j 0) (length-front X cl′ n l)) }
+    pub tagged-refused : (x : Refusal) (Y : List ℕ) → r ≡ Refused x → claimBytes d ≤ length X → length cl′ ≡ length (take n X) → Y ≡ replicate n 0 ++ drop n (cl′ ++ drop n X) → Tagged d s (length X) r Y
+    tagged-refused x Y q h l y = record { answer = w .answer; claim = rw q (y ∙ zeros) }
+      where
+        zeros : replicate n 0 ++ drop n (cl′ ++ drop n X) ≡ replicate (length X) 0
+        zeros =
+            let f : length cl′ ≡ n = l ∙ sym (part-long h) ∙ sym e in
+            let g : n + (length X - n) ≡ length X = omega arith in
+            ap (λ (a : List ℕ). replicate n 0 ++ a) (drop-at cl′ (drop n X) n f ∙ ap (drop n) z ∙ drop-zeros n (length X)) ∙ replicate-append-replicate n (length X - n) 0 ∙ ap (λ (j : ℕ). replicate j 0) g
 
 -- ---- the tests before the walk
 

@@ -11,6 +11,7 @@ use volume::block::Block;
 use volume::block::word_of;
 use volume::disk::Disk;
 use walk::Counts;
+use words::clear;
 use words::wipe;
 ghost use mathlib.Core.Path.{_≡_};
 ghost use mathlib.Core.List.{[], _∷_};
@@ -37,12 +38,12 @@ pub enum Audited {
     Refused(Refusal),
 }
 
-fn refused(number: u32) -> Audited
-    ensures { λ r. ⌜ r ≡ refuse number 0 ⌝ }
+fn refused(number: u32, key: u32) -> Audited
+    ensures { λ r. ⌜ r ≡ refuse number key ⌝ }
 {
     Audited::Refused(Refusal {
         number: number,
-        place: 0,
+        place: key as usize,
     })
 }
 
@@ -96,28 +97,23 @@ fn audit_within(disk: Disk, image: &[u8], claim: &mut [u8]) -> Audited
             let m = check_bits(disk, image, page, claim);
             match m {
                 Mapped::Right(free) => Audited::Accepted(reported(c, free)),
-                Mapped::Wrong(key) => {
-                    Audited::Refused(Refusal {
-                        number: 17,
-                        place: key as usize,
-                    })
-                }
+                Mapped::Wrong(key) => refused(17, key),
             }
         }
     }
 }
 
 // The same in a longer area, which is all 0 and comes back so where it refuses.
-fn audit_tagged(disk: Disk, image: &[u8], claim: &mut [u8]) -> Audited
-    requires { ⌜ (Sized disk) × (length (now image) ≡ imageBytes disk) × (now claim ≡ replicate (length (now claim)) 0) × (claimBytes disk ≤ length (now claim)) ⌝ }
-    ensures { λ r. ⌜ Tagged disk (now (image .entry)) (length (now (claim .entry))) r (now (claim .exit)) ⌝ }
+fn audit_tagged(disk: Disk, image: &[u8], area: &mut [u8]) -> Audited
+    requires { ⌜ (Sized disk) × (length (now image) ≡ imageBytes disk) × (now area ≡ replicate (length (now area)) 0) × (claimBytes disk ≤ length (now area)) ⌝ }
+    ensures { λ r. ⌜ Tagged disk (now (image .entry)) (length (now (area .entry))) r (now (area .exit)) ⌝ }
 {
     let n = disk.claim_bytes();
-    let r = audit_within(disk, image, &mut claim[..n]);
+    let r = audit_within(disk, image, &mut area[..n]);
     let Audited::Refused(_) = r else {
         return r;
     };
-    wipe(claim);
+    clear(area, n);
     r
 }
 
@@ -128,15 +124,15 @@ pub fn audit_on(disk: Disk, image: &[u8], claim: &mut [u8]) -> Audited
 {
     wipe(claim);
     if image.len() != disk.image_bytes() {
-        return refused(1);
+        return refused(1, 0);
     }
     if claim.len() < disk.claim_bytes() {
-        return refused(2);
+        return refused(2, 0);
     }
     if disk.has_tag(image) {
         return audit_tagged(disk, image, claim);
     }
-    refused(3)
+    refused(3, 0)
 }
 
 // Audits the image of an 880 KB floppy of the old file system.

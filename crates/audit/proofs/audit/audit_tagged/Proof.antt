@@ -1,6 +1,8 @@
 -- `audit::audit::audit_tagged` meets its contract. Assumes nothing.
+use native.Mathlib.Omega.{arith}
+-- `audit::audit::audit_tagged` meets its contract. Assumes nothing.
 use mathlib.Core.Path.{_∙_}
-use Rattle.audit.proofs.Auditing.{part-zero, part-long, tagged-accepted, tagged-refused}
+use Rattle.audit.proofs.Auditing.{part-zero, part-long, area-long, tagged-accepted, tagged-refused}
 use borrow.Author.Needs.{needs}
 use Rattle.audit.proofs.audit.audit_tagged.Statement.{statement}
 use Rattle.audit.proofs.audit.audit_tagged.Tie as tie
@@ -29,14 +31,14 @@ same-length c = search needs
 returns : tie.Need-returns
 returns c = tagged-accepted _ _ _ (c .before .before .before .before .before .before .claim-bytes .ensures) (c .before .before .before .before .before .before .before .before .before .pre .2) _ _ _ (c .before .before .before .before .audit-within .ensures) _ (c .enum-told2 .given .1)
 
-wipe-requires : tie.Need-wipe-requires
-wipe-requires c κs = search needs
+clear-requires : tie.Need-clear-requires
+clear-requires c κs = omega (arith, area-long (c .before .before .before .before .before .before .before .before .before .before .args .disk) _ _ (c .before .before .before .before .before .before .before .claim-bytes .ensures) (c .before .before .before .before .before .before .before .before .before .before .pre .2) (c .before .before .before .before .before .audit-within .last .1 .1 .0) (c .before .before .before .before .before .before .before .before .before .before .pre .3) (c .before .before .before .before .before .audit-within .kept .1 .1 .0))
 
 same-length-2 : tie.Need-same-length-2
 same-length-2 c = search needs
 
 returns-2 : tie.Need-returns-2
-returns-2 c = tagged-refused _ _ _ (c .before .before .before .before .before .before .before .before .before .before .claim-bytes .ensures) (c .before .before .before .before .before .before .before .before .before .before .before .before .before .pre .2) _ _ _ (c .before .before .before .before .before .before .before .before .audit-within .ensures) _ _ (c .before .before .before .before .enum-told .given .1) (c .before .before .before .before .before .before .before .before .audit-within .kept .1 .1 .0) (c .before .before .wipe .ensures)
+returns-2 c = tagged-refused _ _ _ (c .before .before .before .before .before .before .before .before .before .before .claim-bytes .ensures) (c .before .before .before .before .before .before .before .before .before .before .before .before .before .pre .2) _ _ _ (c .before .before .before .before .before .before .before .before .audit-within .ensures) _ _ (c .before .before .before .before .enum-told .given .1) (c .before .before .before .before .before .before .before .before .before .before .before .before .before .pre .3) (c .before .before .before .before .before .before .before .before .audit-within .kept .1 .1 .0) (c .before .before .clear .ensures)
 
 pub audit-tagged-spec : {M : Type 1} → statement M
 audit-tagged-spec =
@@ -50,6 +52,6 @@ audit-tagged-spec =
     enum-told-2
     same-length
     returns
-    wipe-requires
+    clear-requires
     same-length-2
     returns-2)

@@ -1,8 +1,8 @@
 -- `audit::audit::audit_within` meets its contract. Assumes nothing.
-use Rattle.audit.proofs.Auditing.{within-stopped, walk-few, page-inside, within-right, within-wrong}
--- `audit::audit::audit_within` meets its contract. Assumes nothing.
+use native.Mathlib.Omega.{arith}
 use mathlib.Core.Path.{_∙_}
 use lib.ListN.{length-replicate}
+use Rattle.audit.proofs.Auditing.{within-stopped, walk-few, page-inside, within-right, within-wrong}
 use borrow.Author.Needs.{needs}
 use Rattle.audit.proofs.audit.audit_within.Statement.{statement}
 use Rattle.audit.proofs.audit.audit_within.Tie as tie
@@ -29,13 +29,13 @@ enum-known-m : tie.Need-enum-known-m
 enum-known-m c = search needs
 
 reported-requires : tie.Need-reported-requires
-reported-requires c κs = walk-few _ _ _ _ _ (c .before .before .before .before .before .before .before .before .before .before .before .before .before .before .before .before .pre .2) (c .before .before .before .before .before .before .before .before .before .before .before .before .walk-volume .ensures) _ (c .before .before .before .before .before .before .before .before .w2 .given .1) (c .before .before .before .before .before .before .before .before .before .before .before .before .before .before .before .before .pre .0)
+reported-requires c κs = omega (arith, walk-few _ _ _ _ _ (c .before .before .before .before .before .before .before .before .before .before .before .before .before .before .before .before .pre .2) (c .before .before .before .before .before .before .before .before .before .before .before .before .walk-volume .ensures) _ (c .before .before .before .before .before .before .before .before .w2 .given .1) (c .before .before .before .before .before .before .before .before .before .before .before .before .before .before .before .before .pre .0))
 
 enum-known-m-2 : tie.Need-enum-known-m-2
 enum-known-m-2 c = search needs
 
-cast-t19 : tie.Need-cast-t19
-cast-t19 c = search needs
+refused-requires : tie.Need-refused-requires
+refused-requires c κs = search needs
 
 same-length : tie.Need-same-length
 same-length c = search needs
@@ -53,7 +53,7 @@ same-length-3 : tie.Need-same-length-3
 same-length-3 c = search needs
 
 returns-3 : tie.Need-returns-3
-returns-3 c = within-wrong _ _ _ _ _ (c .before .before .before .before .before .before .before .before .before .before .before .before .before .before .before .before .pre .2) (c .before .before .before .before .before .before .before .before .before .before .before .before .walk-volume .ensures) _ (c .before .before .before .before .before .before .before .before .w2 .given .1) _ _ (c .before .before .before .before .before .before .root .ensures) (c .before .before .before .before .before .word-of .ensures) _ (c .before .before .before .check-bits .ensures) _ _ (c .before .m2 .given .1)
+returns-3 c = within-wrong _ _ _ _ _ (c .before .before .before .before .before .before .before .before .before .before .before .before .before .before .before .before .before .pre .2) (c .before .before .before .before .before .before .before .before .before .before .before .before .before .walk-volume .ensures) _ (c .before .before .before .before .before .before .before .before .before .w2 .given .1) _ _ (c .before .before .before .before .before .before .before .root .ensures) (c .before .before .before .before .before .before .word-of .ensures) _ (c .before .before .before .before .check-bits .ensures) _ _ _ (c .before .before .m2 .given .1) (c .refused .ensures)
 
 pub audit-within-spec : {M : Type 1} → statement M
 audit-within-spec =
@@ -68,7 +68,7 @@ audit-within-spec =
     enum-known-m
     reported-requires
     enum-known-m-2
-    cast-t19
+    refused-requires
     same-length
     returns
     same-length-2
