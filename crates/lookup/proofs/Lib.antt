@@ -1,0 +1,9 @@
+-- Laws of what specs/ defines, and the theorems.
+-- components and the form of a path
+pub mod Splits
+-- the search of one chain
+pub mod Chains
+-- what a search says, place by place
+pub mod Places
+-- a lookup at its first component
+pub mod Lookups

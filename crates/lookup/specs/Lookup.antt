@@ -1,0 +1,80 @@
+-- A lookup: image length, the path's form, boot tag, the root up to its name; then component by component, each in the directory that
+-- the one before it led to (the build paper, "Paths and reads" and "Numbers").
+use Prim.Native.Nat.{ℕ, _+_, _*_, _≤_}
+use mathlib.Core.Path.{_≡_}
+use mathlib.Core.List.{List, [], _∷_}
+use lib.Dec.{eqb}
+use lib.ListN.{length}
+use Rattle.answers.specs.Tests.{pick}
+use Rattle.answers.specs.Refusals.{refusal}
+use Rattle.answers.specs.declared.Tested.{Tested}
+use Rattle.answers.specs.declared.Tested.the-variants.{Passed, Failed}
+use Rattle.words.specs.Word.{wordAt}
+use Rattle.volume.specs.declared.disk.Disk.{Disk}
+use Rattle.volume.specs.Disks.{Sized, imageBytes, tagOf, rootOf, mostBlocks}
+use Rattle.volume.specs.Blocks.{Holds, directory}
+use Rattle.volume.specs.Files.{sizeOf}
+use Rattle.volume.specs.Rules.{rootFault}
+use Rattle.lookup.specs.declared.chain.Step.{Step}
+use Rattle.lookup.specs.declared.chain.Step.the-variants.{At, Ended, Fault}
+use Rattle.lookup.specs.declared.find.Found.{Found}
+use Rattle.lookup.specs.declared.find.Found.the-variants.{Directory, File, Refused}
+use Rattle.lookup.specs.Paths.{longestPath, components, pathFault}
+use Rattle.lookup.specs.Search.{searchOf}
+
+-- an answer's numbers: 0, 0 and the values where an entry is found; the refusal's, and 0 for the values
+pub record Numbers : Type 0 where
+  pub number : ℕ
+  pub place : ℕ
+  pub kind : ℕ
+  pub key : ℕ
+  pub size : ℕ
+  pub compared : ℕ
+
+abbrev pub numbersOf : Found → Numbers
+numbersOf (Directory k n) = record { number = 0; place = 0; kind = 2; key = k; size = 0; compared = n }
+numbersOf (File k z n) = record { number = 0; place = 0; kind = 0xFFFFFFFD; key = k; size = z; compared = n }
+numbersOf (Refused r) = record { number = r .number; place = r .place; kind = 0; key = 0; size = 0; compared = 0 }
+
+abbrev pub refuse : ℕ → ℕ → Found
+refuse v at = Refused (refusal v at)
+
+-- component i leads to the file k: it is found if no component is left, else it is used as a directory
+abbrev pub fileAt : List ℕ → ℕ → ℕ → List (List ℕ) → ℕ → Found
+fileAt s i n [] k = File k (sizeOf s k) n
+fileAt s i n (c ∷ cs) k = refuse 20 i
+
+-- what component i leads to, n entries compared before it, the components cs behind it; `below` goes on in a directory
+abbrev pub stepped : List ℕ → ℕ → ℕ → List (List ℕ) → (ℕ → ℕ → Found) → Step → Found
+stepped s i n cs below Ended = refuse 19 i
+stepped s i n cs below (Fault r) = Refused r
+stepped s i n cs below (At k m) = pick (directory s k) (below k (n + m)) (fileAt s i (n + m) cs k)
+
+-- the components from number i on, from directory t, n entries compared before
+unfoldable pub lookupFrom : Disk → List ℕ → ℕ → ℕ → ℕ → List (List ℕ) → Found
+lookupFrom d s t i n [] = Directory t n
+lookupFrom d s t i n (c ∷ cs) = stepped s i n cs (λ k m. lookupFrom d s k (i + 1) m cs) (searchOf d s t c)
+
+-- the root's tests, then all components
+unfoldable pub fromRoot : Disk → List ℕ → List ℕ → Found
+fromRoot d s path =
+    pick (eqb (rootFault d s) 0) (lookupFrom d s (rootOf d) 0 0 (components path)) (refuse (rootFault d s) (rootOf d))
+
+-- what follows tests
+abbrev pub and : Tested → Found → Found
+and Passed a = a
+and (Failed r) a = Refused r
+
+unfoldable pub findOf : Disk → List ℕ → List ℕ → Found
+findOf d s path =
+    pick (eqb (length s) (imageBytes d))
+    (and (pathFault path) (pick (eqb (wordAt s 0) (tagOf d)) (fromRoot d s path) (refuse 3 0)))
+    (refuse 1 0)
+
+-- what the code of a lookup asks
+pub record Looks (d : Disk) (s path : List ℕ) (t i n : ℕ) : Type 0 where
+  pub sized : Sized d
+  pub long : length s ≡ imageBytes d
+  pub holds : Holds s t
+  pub short : i + length path ≤ longestPath
+  pub counted : n ≤ i * mostBlocks

@@ -1,0 +1,50 @@
+-- One component in a directory: the chain of its name's slot is searched place by place. Each entry is tested, counted, and compared; the
+-- first with an equal folded name ends the search (the build paper, "Paths and reads").
+use Prim.Native.Nat.{ℕ, zero, suc, _+_, _≤_}
+use mathlib.Core.Path.{_≡_}
+use mathlib.Core.List.{List, [], _∷_}
+use lib.Dec.{ltb, eqb}
+use lib.ListN.{length}
+use Rattle.answers.specs.Tests.{pick, must, tests}
+use Rattle.answers.specs.Refusals.{refusal}
+use Rattle.volume.specs.declared.disk.Disk.{Disk}
+use Rattle.volume.specs.Disks.{Sized, imageBytes, inRange, chainLimit}
+use Rattle.volume.specs.Blocks.{Holds, slotWord}
+use Rattle.volume.specs.Names.{slotOf, same, nameOf}
+use Rattle.volume.specs.Rules.{entryFault}
+use Rattle.volume.specs.Law.{chainKey}
+use Rattle.lookup.specs.declared.chain.Step.{Step}
+use Rattle.lookup.specs.declared.chain.Step.the-variants.{At, Ended, Fault}
+use Rattle.lookup.specs.Paths.{longestPath}
+
+-- the key at place p of the chain on which directory t would have a name; 0 behind its end
+abbrev pub placeKey : Disk → List ℕ → ℕ → List ℕ → ℕ → ℕ
+placeKey d s t name p = chainKey s (slotWord s t (slotOf d name)) p
+
+-- the tests of key k at place p of the chain of slot i: key range, chain limit, and the entry's own
+unfoldable pub keyFault : Disk → List ℕ → ℕ → ℕ → ℕ → ℕ → ℕ
+keyFault d s t i p k = tests (must (inRange d k) 5 ∷ must (ltb p (chainLimit d)) 6 ∷ entryFault d s k t i ∷ [])
+
+-- at place p the key is k, and v is what its tests say; `on` is what the places behind it give
+abbrev pub visit : Disk → List ℕ → List ℕ → ℕ → ℕ → ℕ → Step → Step
+visit d s name p k v on =
+    pick (eqb k 0) Ended (pick (eqb v 0) (pick (same d (nameOf s k) name) (At k (p + 1)) on) (Fault (refusal v k)))
+
+-- n places from place p on
+unfoldable pub searchFrom : Disk → List ℕ → ℕ → List ℕ → ℕ → ℕ → Step
+searchFrom d s t name zero p = Ended
+searchFrom d s t name (suc n) p =
+    visit d s name p (placeKey d s t name p)
+    (keyFault d s t (slotOf d name) p (placeKey d s t name p))
+    (searchFrom d s t name n (p + 1))
+
+-- the first place behind the chain limit refuses or ends the chain, so no more are asked
+unfoldable pub searchOf : Disk → List ℕ → ℕ → List ℕ → Step
+searchOf d s t name = searchFrom d s t name (chainLimit d + 1) 0
+
+-- what the code of a search asks
+pub record Searches (d : Disk) (s : List ℕ) (t : ℕ) (name : List ℕ) : Type 0 where
+  pub sized : Sized d
+  pub long : length s ≡ imageBytes d
+  pub holds : Holds s t
+  pub short : length name ≤ longestPath

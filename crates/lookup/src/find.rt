@@ -1,0 +1,111 @@
+// A path to an entry.
+use crate::chain::Step;
+use crate::chain::search;
+use crate::path::first_slash;
+use crate::path::path_fault;
+use answers::Refusal;
+use answers::Tested;
+use volume::block::Block;
+use volume::block::word_of;
+use volume::disk::Disk;
+use volume::entry::is_directory;
+use volume::root::root_fault;
+ghost use mathlib.Core.Path.{_≡_};
+ghost use Prim.Native.Nat.{_≤_};
+ghost use lib.ListN.{length};
+ghost use Rattle.volume.specs.Disks.{Sized, floppy, imageBytes};
+ghost use Rattle.lookup.specs.Paths.{longestPath, split};
+ghost use Rattle.lookup.specs.Lookup.{refuse, Looks, lookupFrom, fromRoot, findOf};
+
+// What a path leads to.
+pub enum Found {
+    // Its key, and how many entries were compared.
+    Directory(u32, u32),
+    // Its key, its size, and how many entries were compared.
+    File(u32, u32, u32),
+    Refused(Refusal),
+}
+
+fn refused(number: u32, place: usize) -> Found
+    ensures { λ r. ⌜ r ≡ refuse number place ⌝ }
+{
+    Found::Refused(Refusal {
+        number: number,
+        place: place,
+    })
+}
+
+// The components of a path from a directory on, counted on from `component`; so many entries were compared before.
+fn lookup(
+    disk: Disk,
+    image: &[u8],
+    path: &[u8],
+    directory: u32,
+    component: usize,
+    compared: u32,
+) -> Found
+    requires { ⌜ Looks disk (now image) (now path) directory component compared ⌝ }
+    ensures { λ r. ⌜ r ≡ lookupFrom disk (now (image .entry)) directory component compared (split (now (path .entry))) ⌝ }
+{
+    let end = first_slash(path);
+    let step = search(disk, image, directory, &path[..end]);
+    match step {
+        Step::Ended => refused(19, component),
+        Step::Fault(fault) => Found::Refused(fault),
+        Step::At(key, here) => {
+            let all = compared + here;
+            if is_directory(image, key) {
+                if end < path.len() {
+                    let next = end + 1;
+                    return lookup(disk, image, &path[next..], key, component + 1, all);
+                }
+                return Found::Directory(key, all);
+            }
+            if end < path.len() {
+                return refused(20, component);
+            }
+            Found::File(key, word_of(image, key, Block::SIZE), all)
+        }
+    }
+}
+
+// A path of good form, on an image that is long enough and has its tag.
+fn from_root(disk: Disk, image: &[u8], path: &[u8]) -> Found
+    requires { ⌜ (Sized disk × (length (now image) ≡ imageBytes disk)) × (length (now path) ≤ longestPath) ⌝ }
+    ensures { λ r. ⌜ r ≡ fromRoot disk (now (image .entry)) (now (path .entry)) ⌝ }
+{
+    let fault = root_fault(disk, image);
+    let root = disk.root();
+    if fault != 0 {
+        return refused(fault, root as usize);
+    }
+    if path.len() == 0 {
+        return Found::Directory(root, 0);
+    }
+    lookup(disk, image, path, root, 0, 0)
+}
+
+// What a path leads to on a disk.
+pub fn find_on(disk: Disk, image: &[u8], path: &[u8]) -> Found
+    requires { ⌜ Sized disk ⌝ }
+    ensures { λ r. ⌜ r ≡ findOf disk (now (image .entry)) (now (path .entry)) ⌝ }
+{
+    if image.len() != disk.image_bytes() {
+        return refused(1, 0);
+    }
+    let form = path_fault(path);
+    if let Tested::Failed(fault) = form {
+        return Found::Refused(fault);
+    }
+    if disk.has_tag(image) {
+        return from_root(disk, image, path);
+    }
+    refused(3, 0)
+}
+
+// What a path leads to on a floppy.
+pub fn find(image: &[u8], path: &[u8]) -> Found
+    ensures { λ r. ⌜ r ≡ findOf floppy (now (image .entry)) (now (path .entry)) ⌝ }
+{
+    find_on(Disk::floppy(), image, path)
+}
