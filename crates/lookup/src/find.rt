@@ -54,10 +54,11 @@ fn lookup(
         Step::Fault(fault) => Found::Refused(fault),
         Step::At(key, here) => {
             let all = compared + here;
+            let below = component + 1;
             if is_directory(image, key) {
                 if end < path.len() {
                     let next = end + 1;
-                    return lookup(disk, image, &path[next..], key, component + 1, all);
+                    return lookup(disk, image, &path[next..], key, below, all);
                 }
                 return Found::Directory(key, all);
             }

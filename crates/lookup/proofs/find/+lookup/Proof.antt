@@ -55,6 +55,9 @@ enum-known-step-2 t c = search needs
 add-all : (t : ℕ) → lookup-lts.Need-add-all (Told t) (lookup-at t) lookup.Post
 add-all t c = search (needs, counts) depth 7
 
+add-below : (t : ℕ) → lookup-lts.Need-add-below (Told t) (lookup-at t) lookup.Post
+add-below t c = search needs
+
 is-directory-requires : (t : ℕ) → lookup-lts.Need-is-directory-requires (Told t) (lookup-at t) lookup.Post
 is-directory-requires t c κs = search lies depth 7
 
@@ -69,9 +72,6 @@ part-lookup-start t c = search needs
 
 part-lookup-end : (t : ℕ) → lookup-lts.Need-part-lookup-end (Told t) (lookup-at t) lookup.Post
 part-lookup-end t c = search needs
-
-add-lookup : (t : ℕ) → lookup-lts.Need-add-lookup (Told t) (lookup-at t) lookup.Post
-add-lookup t c = search needs
 
 lookup-requires : (t : ℕ) → lookup-lts.Need-lookup-requires (Told t) (lookup-at t) lookup.Post
 lookup-requires t c κs = (search needs, search looks depth 7)
@@ -111,12 +111,12 @@ pub +lookup-spec : {M : Type 1} → statement M
     (enum-known-step t)
     (enum-known-step-2 t)
     (add-all t)
+    (add-below t)
     (is-directory-requires t)
     (add-next t)
     (sub-lookup t)
     (part-lookup-start t)
     (part-lookup-end t)
-    (add-lookup t)
     (lookup-requires t)
     (returns t)
     (returns-2 t)
