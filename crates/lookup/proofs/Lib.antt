@@ -7,3 +7,5 @@ pub mod Chains
 pub mod Places
 -- a lookup at its first component
 pub mod Lookups
+-- what a lookup says, component by component
+pub mod Trails

@@ -1,13 +1,13 @@
 -- What a search says, place by place: the first place that is not an entry with another name decides. Assumes nothing.
 use Prim.Native.Nat.{ℕ, zero, suc, _+_, _-_, _≤_, _<_}
-use mathlib.Core.Path.{_≡_, refl}
-use mathlib.Core.Logic.{_≢_}
+use mathlib.Core.Path.{_≡_, refl, sym, _∙_}
+use mathlib.Core.Logic.{_≢_, _↔_}
 use mathlib.Core.Bool.{Bool, true, false}
 use mathlib.Core.List.{List}
 use native.Mathlib.Omega.{arith}
 use native.Mathlib.Decide.{decLt}
 use lib.Dec.{eqb}
-use borrow.Author.Tests.{eqb-true, eqb-false}
+use borrow.Author.Tests.{eq-eqb, ne-eqb, eqb-true, eqb-false}
 use Rattle.answers.specs.Tests.{pick}
 use Rattle.answers.specs.Refusals.{refusal}
 use Rattle.volume.specs.declared.disk.Disk.{Disk}
@@ -16,7 +16,7 @@ use Rattle.volume.specs.Names.{folded, slotOf, same, nameOf}
 use Rattle.volume.proofs.Names.{same-map, map-same}
 use Rattle.lookup.specs.declared.chain.Step.{Step}
 use Rattle.lookup.specs.declared.chain.Step.the-variants.{At, Ended, Fault}
-use Rattle.lookup.specs.Search.{placeKey, keyFault, searchFrom, searchOf}
+use Rattle.lookup.specs.Search.{placeKey, keyFault, visit, searchFrom, searchOf}
 use Rattle.lookup.proofs.Chains.{key-passed}
 
 -- what the tests of place p say
@@ -93,3 +93,96 @@ module _ (d : Disk) (s : List ℕ) (t : ℕ) (name : List ℕ) where
   pub searched : Searched d s t name 0 (searchOf d s t name)
   unfolding searchOf
   searched = from-place (chainLimit d + 1) 0 (omega arith) (omega arith)
+
+  only-from : (n f : ℕ) (r : Step) → f + n ≡ chainLimit d + 1 → f ≤ chainLimit d → Searched d s t name f r → r ≡ searchFrom d s t name n f
+  unfolding searchFrom pick
+  only-from zero f r e l h = absurd (omega arith)
+  only-from (suc n) f r e l h = go (decLt f (h .place)) (only-from n (f + 1) r)
+    where
+      all : Step
+      all = visit d s name f (key f) (faultAt d s t name f) (searchFrom d s t name n (f + 1))
+
+      -- f is an entry with another name
+      skip : Tests d s t name f → (Equal d s t name f → ⊥) → searchFrom d s t name n (f + 1) ≡ all
+      skip a b = rw (ne-eqb _ 0 (a .some), eq-eqb _ 0 (a .fine), differs (same d (nameOf s (key f)) name) refl)
+        where
+          differs : (c : Bool) → same d (nameOf s (key f)) name ≡ c → same d (nameOf s (key f)) name ≡ false
+          differs true q = absurd (b (same-map d _ _ q))
+          differs false q = q
+
+      -- or it decides
+      here : Decides d s t name f r → r ≡ all
+      here (equal a b q) = q ∙ (rw (ne-eqb _ 0 (a .some), eq-eqb _ 0 (a .fine), map-same d _ _ b))
+      here (over a q) = q ∙ (rw (eq-eqb _ 0 a))
+      here (fails a b q) = q ∙ (rw (ne-eqb _ 0 a, ne-eqb _ 0 b))
+
+      go : Dec (f < h .place) → (f + 1 + n ≡ chainLimit d + 1 → f + 1 ≤ chainLimit d → Searched d s t name (f + 1) r → r ≡ searchFrom d s t name n (f + 1)) → r ≡ all
+      go (yes w) ih =
+          let o = h .others f (omega arith) w in
+          let m = key-passed d s t (slotOf d name) f (key f) (o .0 .fine) .near in
+          ih (omega arith) (omega arith) (record { place = h .place; from = omega arith; others = λ q u v. h .others q (omega arith) v; decides = h .decides }) ∙ skip (o .0) (o .1)
+      go (no w) ih = let l′ = h .from in let x : h .place ≡ f = omega arith in here (rw x at (h .decides))
+
+  -- and of no other outcome is that so
+  pub searched-only : (r : Step) → Searched d s t name 0 r → r ≡ searchOf d s t name
+  unfolding searchOf
+  searched-only r h = only-from (chainLimit d + 1) 0 r (omega arith) (omega arith) h
+
+-- ---- each outcome exactly then
+
+-- place p has the first equal folded name
+pub record First (d : Disk) (s : List ℕ) (t : ℕ) (name : List ℕ) (p : ℕ) : Type 0 where
+  pub tests : Tests d s t name p
+  pub named : Equal d s t name p
+  pub others : Others d s t name 0 p
+
+-- the chain ends at place p, and every entry before that passes and has another name
+pub record Over (d : Disk) (s : List ℕ) (t : ℕ) (name : List ℕ) (p : ℕ) : Type 0 where
+  pub ended : placeKey d s t name p ≡ 0
+  pub others : Others d s t name 0 p
+
+-- the entry at place p is the first that fails its tests, and every entry before it has another name
+pub record Fails (d : Disk) (s : List ℕ) (t : ℕ) (name : List ℕ) (p : ℕ) : Type 0 where
+  pub some : placeKey d s t name p ≢ 0
+  pub fault : faultAt d s t name p ≢ 0
+  pub others : Others d s t name 0 p
+
+module _ (d : Disk) (s : List ℕ) (t : ℕ) (name : List ℕ) where
+  -- one of the three holds
+  pub data Outcome (r : Step) : Type 0 where
+    at : (p : ℕ) → First d s t name p → r ≡ At (placeKey d s t name p) (p + 1) → Outcome r
+    ended : (p : ℕ) → Over d s t name p → r ≡ Ended → Outcome r
+    faulty : (p : ℕ) → Fails d s t name p → r ≡ Fault (refusal (faultAt d s t name p) (placeKey d s t name p)) → Outcome r
+
+  pub outcome : Outcome (searchOf d s t name)
+  outcome = let h = searched d s t name in go (h .place) (h .others) (h .decides)
+    where
+      go : (p : ℕ) → Others d s t name 0 p → Decides d s t name p (searchOf d s t name) → Outcome (searchOf d s t name)
+      go p o (equal a b q) = at p (record { tests = a; named = b; others = o }) q
+      go p o (over a q) = ended p (record { ended = a; others = o }) q
+      go p o (fails a b q) = faulty p (record { some = a; fault = b; others = o }) q
+
+  module _ (p : ℕ) where
+    pub search-first : First d s t name p → searchOf d s t name ≡ At (placeKey d s t name p) (p + 1)
+    search-first h = sym (searched-only d s t name _ (record { place = p; from = omega arith; others = h .others; decides = equal (h .tests) (h .named) refl }))
+
+    pub search-over : Over d s t name p → searchOf d s t name ≡ Ended
+    search-over h = sym (searched-only d s t name _ (record { place = p; from = omega arith; others = h .others; decides = over (h .ended) refl }))
+
+    pub search-fails : Fails d s t name p → searchOf d s t name ≡ Fault (refusal (faultAt d s t name p) (placeKey d s t name p))
+    search-fails h = sym (searched-only d s t name _ (record { place = p; from = omega arith; others = h .others; decides = fails (h .some) (h .fault) refl }))
+
+  -- The first equal folded name ends the search: the entry found is at place p of the chain, it has the component's folded name, none
+  -- before it has, and p + 1 entries were compared.
+  pub first-equal-name : (k m : ℕ) → (searchOf d s t name ≡ At k m) ↔ ((p : ℕ) × First d s t name p × (k ≡ placeKey d s t name p) × (m ≡ p + 1))
+  first-equal-name k m = (go outcome, λ h. search-first (h .0) (h .1) ∙ (rw (h .2, h .3)))
+    where
+      go : Outcome (searchOf d s t name) → searchOf d s t name ≡ At k m → (p : ℕ) × First d s t name p × (k ≡ placeKey d s t name p) × (m ≡ p + 1)
+      go (at p h q) e = (p, h, (cc), (cc))
+      go (ended p h q) e = let z : _≡_ {A = ℕ} 0 1 = cc in absurd (omega arith)
+      go (faulty p h q) e = let z : _≡_ {A = ℕ} 0 1 = cc in absurd (omega arith)
+
+  -- a chain that is searched through has no more entries than the limit
+  pub places-few : (p : ℕ) → Others d s t name 0 p → p ≤ chainLimit d
+  places-few zero o = omega arith
+  places-few (suc p) o = let h = key-passed d s t (slotOf d name) p _ (o p (omega arith) (omega arith) .0 .fine) .near in omega arith
