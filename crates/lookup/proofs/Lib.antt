@@ -9,3 +9,5 @@ pub mod Places
 pub mod Lookups
 -- what a lookup says, component by component
 pub mod Trails
+-- what every answer says
+pub mod Deciding
