@@ -1,7 +1,7 @@
 -- What every answer of a lookup says: which entry is found exactly then, and what each number and place means. Assumes nothing.
-use Prim.Native.Nat.{ℕ, zero, suc, _+_, _≤_, _<_}
+use Prim.Native.Nat.{ℕ, suc, _+_, _≤_, _<_}
 use mathlib.Core.Path.{_≡_, refl, sym, ap, _∙_}
-use mathlib.Core.Logic.{_≢_, _⊎_, inl, inr, _↔_}
+use mathlib.Core.Logic.{_≢_, inl, inr, _↔_}
 use mathlib.Core.Bool.{Bool, true, false}
 use mathlib.Core.List.{List, [], _∷_, _++_}
 use native.Mathlib.Omega.{arith}
@@ -17,16 +17,13 @@ use Rattle.answers.specs.declared.Tested.the-variants.{Passed, Failed}
 use Rattle.words.specs.Word.{wordAt}
 use Rattle.volume.specs.declared.disk.Disk.{Disk}
 use Rattle.volume.specs.Disks.{imageBytes, tagOf, rootOf}
-use Rattle.volume.specs.Blocks.{directory}
-use Rattle.volume.specs.Files.{sizeOf}
 use Rattle.volume.specs.Rules.{rootFault}
 use Rattle.lookup.specs.declared.find.Found.{Found}
-use Rattle.lookup.specs.declared.find.Found.the-variants.{Directory, File, Refused}
+use Rattle.lookup.specs.declared.find.Found.the-variants.{Refused}
 use Rattle.lookup.specs.Paths.{longestPath, components, isComponent, componentsFault, pathFault}
 use Rattle.lookup.specs.Search.{placeKey}
-use Rattle.lookup.specs.Lookup.{Numbers, numbersOf, refuse, lookupFrom, fromRoot, and, findOf}
-use Rattle.lookup.proofs.Places.{faultAt, First, Over, Fails}
-use Rattle.lookup.proofs.Trails.{Trail, Comes, Leads, holds, file, used, missing, fault, leads, leads-only}
+use Rattle.lookup.specs.Lookup.{numbersOf, refuse, lookupFrom, fromRoot, and, findOf}
+use Rattle.lookup.proofs.Trails.{Comes, Leads, leads, leads-only}
 
 -- ---- the form of a path
 
@@ -45,10 +42,10 @@ pub data BadForm (path : List ℕ) (i : ℕ) : Type 0 where
   component : length path ≤ longestPath → BadComponent 0 i (components path) → BadForm path i
 
 -- a refusal's number and place
-number-is : {v w i j : ℕ} → refusal v i ≡ refusal w j → v ≡ w
+pub number-is : {v w i j : ℕ} → refusal v i ≡ refusal w j → v ≡ w
 number-is e = ap (λ (r : Refusal). r .number) e
 
-place-is : {v w i j : ℕ} → refusal v i ≡ refusal w j → i ≡ j
+pub place-is : {v w i j : ℕ} → refusal v i ≡ refusal w j → i ≡ j
 place-is e = ap (λ (r : Refusal). r .place) e
 
 bad-there : (n i v : ℕ) (cs : List (List ℕ)) → componentsFault n cs ≡ Failed (refusal v i) → (v ≡ 18) × BadComponent n i cs

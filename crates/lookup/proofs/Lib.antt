@@ -11,3 +11,5 @@ pub mod Lookups
 pub mod Trails
 -- what every answer says
 pub mod Deciding
+-- each number exactly then
+pub mod Refusing

@@ -1,19 +1,18 @@
 -- What a lookup says of a list of components: how far they lead, and what decides there. Assumes nothing.
-use Prim.Native.Nat.{ℕ, zero, suc, _+_, _≤_, _<_}
+use Prim.Native.Nat.{ℕ, suc, _+_}
 use mathlib.Core.Path.{_≡_, refl, sym, ap, _∙_}
 use mathlib.Core.Bool.{Bool, true, false}
 use mathlib.Core.List.{List, [], _∷_, _++_, append-nil}
 use native.Mathlib.Omega.{arith}
 use lib.ListN.{length}
 use Rattle.answers.specs.Tests.{pick}
-use Rattle.answers.specs.Refusals.{refusal}
 use Rattle.volume.specs.declared.disk.Disk.{Disk}
 use Rattle.volume.specs.Blocks.{directory}
 use Rattle.volume.specs.Files.{sizeOf}
 use Rattle.lookup.specs.declared.find.Found.{Found}
-use Rattle.lookup.specs.declared.find.Found.the-variants.{Directory, File, Refused}
+use Rattle.lookup.specs.declared.find.Found.the-variants.{Directory, File}
 use Rattle.lookup.specs.Search.{placeKey, searchOf}
-use Rattle.lookup.specs.Lookup.{refuse, fileAt, stepped, lookupFrom}
+use Rattle.lookup.specs.Lookup.{refuse, fileAt, lookupFrom}
 use Rattle.lookup.proofs.Places.{faultAt, First, Over, Fails, Outcome, at, ended, faulty, outcome, search-first, search-over, search-fails}
 
 -- The components cs lead from directory t down to directory k, n entries compared: each is the first equal folded name in the

@@ -1,0 +1,293 @@
+-- Which number is given exactly when, and at which place; and which entry is found exactly when. Assumes nothing.
+use Prim.Native.Nat.{ℕ, zero, suc, _+_, _≤_, _<_}
+use mathlib.Core.Path.{_≡_, refl, sym, ap, _∙_}
+use mathlib.Core.Logic.{_≢_, _↔_}
+use mathlib.Core.Bool.{Bool, true, false}
+use mathlib.Core.List.{List, []}
+use native.Mathlib.Omega.{arith}
+use lib.Dec.{T, leb, leb→le, ltb}
+use lib.ListN.{length}
+use borrow.Author.Tests.{lt-ltb, le-ltb, ltb-true, ltb-false}
+use Rattle.answers.specs.Tests.{pick, must, never, first}
+use Rattle.answers.specs.Refusals.{refusal}
+use Rattle.answers.specs.declared.Tested.the-variants.{Passed, Failed}
+use Rattle.words.specs.Word.{wordAt}
+use Rattle.volume.specs.declared.disk.Disk.{Disk}
+use Rattle.volume.specs.Disks.{imageBytes, tagOf, rootOf, inRange, chainLimit}
+use Rattle.volume.specs.Blocks.{directory}
+use Rattle.volume.specs.Names.{slotOf}
+use Rattle.volume.specs.Files.{sizeOf}
+use Rattle.volume.specs.Rules.{rootFault, entryFault}
+use Rattle.lookup.specs.declared.find.Found.the-variants.{Directory, File}
+use Rattle.lookup.specs.Paths.{components, pathFault}
+use Rattle.lookup.specs.Search.{keyFault}
+use Rattle.lookup.specs.Lookup.{refuse, findOf}
+use Rattle.lookup.proofs.Places.{faultAt, Others, First, Over, places-few}
+use Rattle.lookup.proofs.Trails.{Trail, holds, file, used, missing, fault}
+use Rattle.lookup.proofs.Deciding.{BadForm, form-exactly, number-is, place-is, Opened, Reaches, keyIn, Why, image, form, tag, root, leads-to, find-why, why-find}
+
+-- ---- which numbers tests give
+
+-- 0, or a number from a to b
+pub record Gives (a b v : ℕ) : Type 0 where
+  pub low : v ≢ 0 → a ≤ v
+  pub high : v ≤ b
+
+module _ (a b : ℕ) where
+  none : Gives a b 0
+  none = record { low = λ h. absurd (h refl); high = omega arith }
+
+  some : (v : ℕ) → T (leb a v) → T (leb v b) → Gives a b v
+  some v p q = record { low = λ h. leb→le a v p; high = leb→le v b q }
+
+  musts : (t : Bool) (v : ℕ) → T (leb a v) → T (leb v b) → Gives a b (must t v)
+  unfolding must
+  musts true v p q = none
+  musts false v p q = some v p q
+
+  nevers : (t : Bool) (v : ℕ) → T (leb a v) → T (leb v b) → Gives a b (never t v)
+  unfolding never
+  nevers true v p q = some v p q
+  nevers false v p q = none
+
+  picks : (t : Bool) (v w : ℕ) → Gives a b v → Gives a b w → Gives a b (pick t v w)
+  unfolding pick
+  picks true v w p q = p
+  picks false v w p q = q
+
+infixr 5 _&_
+_&_ : {a b v w : ℕ} → Gives a b v → Gives a b w → Gives a b (first v w)
+unfolding first
+_&_ {v = zero} p q = q
+_&_ {v = suc v} p q = p
+
+pub root-gives : (d : Disk) (s : List ℕ) → Gives 4 11 (rootFault d s)
+unfolding rootFault
+root-gives d s = m _ 7 tt tt & m _ 8 tt tt & m _ 8 tt tt & m _ 4 tt tt & m _ 4 tt tt & m _ 4 tt tt & m _ 4 tt tt & m _ 4 tt tt & m _ 4 tt tt & m _ 4 tt tt & m _ 11 tt tt & none 4 11
+  where
+    m : (t : Bool) (v : ℕ) → T (leb 4 v) → T (leb v 11) → Gives 4 11 (must t v)
+    m t v p q = musts 4 11 t v p q
+
+pub entry-gives : (d : Disk) (s : List ℕ) (k t i : ℕ) → Gives 7 12 (entryFault d s k t i)
+unfolding entryFault
+entry-gives d s k t i = m _ 7 tt tt & m _ 8 tt tt & n _ 9 tt tt & n _ 9 tt tt & n _ 9 tt tt & picks 7 12 _ _ _ (none 7 12) (m _ 8 tt tt) & m _ 10 tt tt & m _ 10 tt tt & picks 7 12 _ _ _ (m _ 10 tt tt) (none 7 12) & m _ 11 tt tt & m _ 12 tt tt & none 7 12
+  where
+    m : (t : Bool) (v : ℕ) → T (leb 7 v) → T (leb v 12) → Gives 7 12 (must t v)
+    m t v p q = musts 7 12 t v p q
+
+    n : (t : Bool) (v : ℕ) → T (leb 7 v) → T (leb v 12) → Gives 7 12 (never t v)
+    n t v p q = nevers 7 12 t v p q
+
+-- ---- what a key's tests say: v is not 0
+
+pub data Says (d : Disk) (s : List ℕ) (t i p k v : ℕ) : Type 0 where
+  outside : inRange d k ≡ false → v ≡ 5 → Says d s t i p k v
+  beyond : inRange d k ≡ true → chainLimit d ≤ p → v ≡ 6 → Says d s t i p k v
+  itself : inRange d k ≡ true → p < chainLimit d → entryFault d s k t i ≡ v → Says d s t i p k v
+
+module _ (d : Disk) (s : List ℕ) (t i p k : ℕ) where
+  pub key-says : keyFault d s t i p k ≢ 0 → Says d s t i p k (keyFault d s t i p k)
+  unfolding keyFault first must
+  key-says z = go (inRange d k) refl (ltb p (chainLimit d)) refl (entryFault d s k t i) refl z
+    where
+      go : (a : Bool) → inRange d k ≡ a → (b : Bool) → ltb p (chainLimit d) ≡ b → (e : ℕ) → entryFault d s k t i ≡ e → first (must a 5) (first (must b 6) (first e 0)) ≢ 0 → Says d s t i p k (first (must a 5) (first (must b 6) (first e 0)))
+      go false q b u e f h = outside q refl
+      go true q false u e f h = beyond q (ltb-false _ _ u) refl
+      go true q true u zero f h = absurd (h refl)
+      go true q true u (suc e) f h = itself q (ltb-true _ _ u) f
+
+  pub says-key : (v : ℕ) → v ≢ 0 → Says d s t i p k v → keyFault d s t i p k ≡ v
+  unfolding keyFault first must
+  says-key v z (outside q e) = rw (q, e)
+  says-key v z (beyond q l e) = rw (q, le-ltb p (chainLimit d) l, e)
+  says-key v z (itself q l e) = rw (q, lt-ltb p (chainLimit d) l, e) (go v z)
+    where
+      go : (v : ℕ) → v ≢ 0 → first v 0 ≡ v
+      go zero h = absurd (h refl)
+      go (suc v) h = refl
+
+-- ---- each number
+
+-- key k stands at a place of a component's chain, and every entry before it passes its tests and has another name
+pub record Stands (d : Disk) (s path : List ℕ) (k : ℕ) : Type 0 where
+  pub opened : Opened d s path
+  pub comes : Reaches d s path
+  pub place : ℕ
+  pub others : Others d s (comes .parent) (comes .name) 0 place
+  pub key : keyIn d s path comes place ≡ k
+  pub some : k ≢ 0
+
+-- no entry of component i's chain has its name, and the chain has ended
+pub record Missing (d : Disk) (s path : List ℕ) (i : ℕ) : Type 0 where
+  pub opened : Opened d s path
+  pub comes : Reaches d s path
+  pub place : ℕ
+  pub over : Over d s (comes .parent) (comes .name) place
+  pub component : i ≡ length (comes .front)
+
+-- component i is a file, and not the last
+pub record Used (d : Disk) (s path : List ℕ) (i : ℕ) : Type 0 where
+  pub opened : Opened d s path
+  pub comes : Reaches d s path
+  pub place : ℕ
+  pub found : First d s (comes .parent) (comes .name) place
+  pub kind : directory s (keyIn d s path comes place) ≡ false
+  pub more : comes .back ≢ []
+  pub component : i ≡ length (comes .front)
+
+-- the file k of z bytes is the last component, n entries compared
+pub record IsFile (d : Disk) (s path : List ℕ) (k z n : ℕ) : Type 0 where
+  pub opened : Opened d s path
+  pub comes : Reaches d s path
+  pub place : ℕ
+  pub found : First d s (comes .parent) (comes .name) place
+  pub kind : directory s (keyIn d s path comes place) ≡ false
+  pub last : comes .back ≡ []
+  pub key : keyIn d s path comes place ≡ k
+  pub size : sizeOf s (keyIn d s path comes place) ≡ z
+  pub count : comes .compared + (place + 1) ≡ n
+
+-- the refusal v at k
+pub data Refuses (d : Disk) (s path : List ℕ) (v k : ℕ) : Type 0 where
+  number-1 : length s ≢ imageBytes d → v ≡ 1 → k ≡ 0 → Refuses d s path v k
+  number-18 : length s ≡ imageBytes d → BadForm path k → v ≡ 18 → Refuses d s path v k
+  number-3 : length s ≡ imageBytes d → pathFault path ≡ Passed → wordAt s 0 ≢ tagOf d → v ≡ 3 → k ≡ 0 → Refuses d s path v k
+  -- 4, 7, 8 and 11
+  of-root : length s ≡ imageBytes d → pathFault path ≡ Passed → wordAt s 0 ≡ tagOf d → v ≢ 0 → rootFault d s ≡ v → k ≡ rootOf d → Refuses d s path v k
+  number-5 : Stands d s path k → inRange d k ≡ false → v ≡ 5 → Refuses d s path v k
+  -- as many entries as a chain may have were compared
+  number-6 : (h : Stands d s path k) → inRange d k ≡ true → h .place ≡ chainLimit d → v ≡ 6 → Refuses d s path v k
+  -- 7 to 12
+  of-entry : (h : Stands d s path k) → inRange d k ≡ true → h .place < chainLimit d → v ≢ 0 → entryFault d s k (h .comes .parent) (slotOf d (h .comes .name)) ≡ v → Refuses d s path v k
+  number-19 : Missing d s path k → v ≡ 19 → Refuses d s path v k
+  number-20 : Used d s path k → v ≡ 20 → Refuses d s path v k
+
+module _ (d : Disk) (s path : List ℕ) where
+  behind-none : (n : ℕ) → 0 + n ≡ n
+  behind-none n = omega arith
+
+  module _ (v k : ℕ) where
+    -- v and k of a refusal that is the answer
+    same : (a b : ℕ) → findOf d s path ≡ refuse a b → findOf d s path ≡ refuse v k → (v ≡ a) × (k ≡ b)
+    same a b p q = let x : refusal a b ≡ refusal v k = cc in (sym (number-is x), sym (place-is x))
+
+    refused-why : Why d s path (findOf d s path) → findOf d s path ≡ refuse v k → Refuses d s path v k
+    refused-why (image h q) e = let x = same 1 0 q e in number-1 h (x .0) (x .1)
+    refused-why (form h f p q) e = let x : f ≡ refusal v k = cc in let y = form-exactly path v k .0 (p ∙ ap Failed x) in number-18 h (y .1) (y .0)
+    refused-why (tag h p u q) e = let x = same 3 0 q e in number-3 h p u (x .0) (x .1)
+    refused-why (root h p u z q) e = let x = same (rootFault d s) (rootOf d) q e in of-root h p u (λ y. z (sym (x .0) ∙ y)) (sym (x .0)) (x .1)
+    refused-why (leads-to o (holds k′ m h q)) e = let z : _≡_ {A = ℕ} 0 1 = cc in absurd (omega arith)
+    refused-why (leads-to o (file w p f u b q)) e = let z : _≡_ {A = ℕ} 0 1 = cc in absurd (omega arith)
+    refused-why (leads-to o (used w p f u b q)) e =
+        let x = same 20 (0 + length (w .front)) q e in
+        number-20 (record { opened = o; comes = w; place = p; found = f; kind = u; more = b; component = x .1 ∙ behind-none _ }) (x .0)
+    refused-why (leads-to o (missing w p f q)) e =
+        let x = same 19 (0 + length (w .front)) q e in
+        number-19 (record { opened = o; comes = w; place = p; over = f; component = x .1 ∙ behind-none _ }) (x .0)
+    refused-why (leads-to o (fault w p f q)) e = go (key-says d s (w .parent) (slotOf d (w .name)) p (keyIn d s path w p) (f .fault))
+      where
+        x : (v ≡ faultAt d s (w .parent) (w .name) p) × (k ≡ keyIn d s path w p)
+        x = same (faultAt d s (w .parent) (w .name) p) (keyIn d s path w p) q e
+
+        stands : Stands d s path k
+        stands = record { opened = o; comes = w; place = p; others = f .others; key = sym (x .1); some = λ y. f .some (sym (x .1) ∙ y) }
+
+        ranged : (b : Bool) → inRange d (keyIn d s path w p) ≡ b → inRange d k ≡ b
+        ranged b y = rw (x .1) y
+
+        go : Says d s (w .parent) (slotOf d (w .name)) p (keyIn d s path w p) (faultAt d s (w .parent) (w .name) p) → Refuses d s path v k
+        go (outside y z) = number-5 stands (ranged false y) (x .0 ∙ z)
+        go (beyond y l z) = let n = places-few d s (w .parent) (w .name) p (f .others) in number-6 stands (ranged true y) (omega arith) (x .0 ∙ z)
+        go (itself y l z) = of-entry stands (ranged true y) l (λ g. f .fault (sym (x .0) ∙ g)) (rw (x .1) (z ∙ sym (x .0)))
+
+    why-refused : Refuses d s path v k → findOf d s path ≡ refuse v k
+    why-refused h = sym (why-find d s path (refuse v k) (why h))
+      where
+        fails : (h : Stands d s path k) → v ≢ 0 → Says d s (h .comes .parent) (slotOf d (h .comes .name)) (h .place) k v → Why d s path (refuse v k)
+        fails h z y = leads-to (h .opened) (fault (h .comes) (h .place) (record { some = λ g. h .some (sym (h .key) ∙ g); fault = λ g. z (sym at ∙ g); others = h .others }) (rw (at, h .key)))
+          where
+            at : faultAt d s (h .comes .parent) (h .comes .name) (h .place) ≡ v
+            at = says-key d s _ _ (h .place) _ v z (rw (h .key) y)
+
+        why : Refuses d s path v k → Why d s path (refuse v k)
+        why (number-1 h a b) = image h (rw (a, b))
+        why (number-18 h f a) = form h (refusal v k) (form-exactly path v k .1 (a, f)) refl
+        why (number-3 h p u a b) = tag h p u (rw (a, b))
+        why (of-root h p u z a b) = root h p u (λ g. z (sym a ∙ g)) (rw (a, b))
+        why (number-5 h y a) = fails h (λ g. omega arith) (outside y a)
+        why (number-6 h y l a) = fails h (λ g. omega arith) (beyond y (omega arith) a)
+        why (of-entry h y l z a) = fails h z (itself y l a)
+        why (number-19 h a) = leads-to (h .opened) (missing (h .comes) (h .place) (h .over) (rw (a, h .component, behind-none (length (h .comes .front)))))
+        why (number-20 h a) = leads-to (h .opened) (used (h .comes) (h .place) (h .found) (h .kind) (h .more) (rw (a, h .component, behind-none (length (h .comes .front)))))
+
+    -- Every number is given exactly then, at that place.
+    pub refused-exactly : (findOf d s path ≡ refuse v k) ↔ Refuses d s path v k
+    refused-exactly = (refused-why (find-why d s path), why-refused)
+
+  -- 19 at component i exactly if its chain has ended, every entry on it passes its tests, and none has its folded name.
+  pub missing-exactly : (i : ℕ) → (findOf d s path ≡ refuse 19 i) ↔ Missing d s path i
+  missing-exactly i = ((λ e. go (refused-exactly 19 i .0 e)), (λ h. refused-exactly 19 i .1 (number-19 h refl)))
+    where
+      go : Refuses d s path 19 i → Missing d s path i
+      go (number-1 h a b) = absurd (omega arith)
+      go (number-18 h f a) = absurd (omega arith)
+      go (number-3 h p u a b) = absurd (omega arith)
+      go (of-root h p u z a b) = absurd (omega (arith, root-gives d s .high))
+      go (number-5 h y a) = absurd (omega arith)
+      go (number-6 h y l a) = absurd (omega arith)
+      go (of-entry h y l z a) = absurd (omega (arith, entry-gives d s i (h .comes .parent) (slotOf d (h .comes .name)) .high))
+      go (number-19 h a) = h
+      go (number-20 h a) = absurd (omega arith)
+
+  -- 20 at component i exactly if it is a file with components behind it.
+  pub used-exactly : (i : ℕ) → (findOf d s path ≡ refuse 20 i) ↔ Used d s path i
+  used-exactly i = ((λ e. go (refused-exactly 20 i .0 e)), (λ h. refused-exactly 20 i .1 (number-20 h refl)))
+    where
+      go : Refuses d s path 20 i → Used d s path i
+      go (number-1 h a b) = absurd (omega arith)
+      go (number-18 h f a) = absurd (omega arith)
+      go (number-3 h p u a b) = absurd (omega arith)
+      go (of-root h p u z a b) = absurd (omega (arith, root-gives d s .high))
+      go (number-5 h y a) = absurd (omega arith)
+      go (number-6 h y l a) = absurd (omega arith)
+      go (of-entry h y l z a) = absurd (omega (arith, entry-gives d s i (h .comes .parent) (slotOf d (h .comes .name)) .high))
+      go (number-19 h a) = absurd (omega arith)
+      go (number-20 h a) = h
+
+  -- ---- what is found
+
+  -- A directory is found exactly if every component leads to one.
+  pub directory-exactly : (k n : ℕ) → (findOf d s path ≡ Directory k n) ↔ (Opened d s path × Trail d s (rootOf d) (components path) k n)
+  directory-exactly k n = ((λ e. go (find-why d s path) e), (λ h. sym (why-find d s path (Directory k n) (leads-to (h .0) (holds k n (h .1) (rw (behind-none n)))))))
+    where
+      go : Why d s path (findOf d s path) → findOf d s path ≡ Directory k n → Opened d s path × Trail d s (rootOf d) (components path) k n
+      go (image h q) e = let z : _≡_ {A = ℕ} 0 1 = cc in absurd (omega arith)
+      go (form h f p q) e = let z : _≡_ {A = ℕ} 0 1 = cc in absurd (omega arith)
+      go (tag h p u q) e = let z : _≡_ {A = ℕ} 0 1 = cc in absurd (omega arith)
+      go (root h p u z q) e = let z : _≡_ {A = ℕ} 0 1 = cc in absurd (omega arith)
+      go (leads-to o (holds k′ m h q)) e =
+          let x : k′ ≡ k = cc in
+          let y : 0 + m ≡ n = cc in
+          let y′ : m ≡ n = omega arith in
+          (o, rw x at (rw y′ at h))
+      go (leads-to o (file w p f u b q)) e = let z : _≡_ {A = ℕ} 0 1 = cc in absurd (omega arith)
+      go (leads-to o (used w p f u b q)) e = let z : _≡_ {A = ℕ} 0 1 = cc in absurd (omega arith)
+      go (leads-to o (missing w p f q)) e = let z : _≡_ {A = ℕ} 0 1 = cc in absurd (omega arith)
+      go (leads-to o (fault w p f q)) e = let z : _≡_ {A = ℕ} 0 1 = cc in absurd (omega arith)
+
+  -- A file is found exactly if it is what the last component leads to.
+  pub file-exactly : (k z n : ℕ) → (findOf d s path ≡ File k z n) ↔ IsFile d s path k z n
+  file-exactly k z n = ((λ e. go (find-why d s path) e), (λ h. sym (why-find d s path (File k z n) (leads-to (h .opened) (file (h .comes) (h .place) (h .found) (h .kind) (h .last) (rw (h .count, h .size, h .key, behind-none n)))))))
+    where
+      go : Why d s path (findOf d s path) → findOf d s path ≡ File k z n → IsFile d s path k z n
+      go (image h q) e = let z : _≡_ {A = ℕ} 0 1 = cc in absurd (omega arith)
+      go (form h f p q) e = let z : _≡_ {A = ℕ} 0 1 = cc in absurd (omega arith)
+      go (tag h p u q) e = let z : _≡_ {A = ℕ} 0 1 = cc in absurd (omega arith)
+      go (root h p u z q) e = let z : _≡_ {A = ℕ} 0 1 = cc in absurd (omega arith)
+      go (leads-to o (holds k′ m h q)) e = let z : _≡_ {A = ℕ} 0 1 = cc in absurd (omega arith)
+      go (leads-to o (file w p f u b q)) e =
+          let y : 0 + (w .compared + (p + 1)) ≡ n = cc in
+          record { opened = o; comes = w; place = p; found = f; kind = u; last = b; key = cc; size = cc; count = omega arith }
+      go (leads-to o (used w p f u b q)) e = let z : _≡_ {A = ℕ} 0 1 = cc in absurd (omega arith)
+      go (leads-to o (missing w p f q)) e = let z : _≡_ {A = ℕ} 0 1 = cc in absurd (omega arith)
+      go (leads-to o (fault w p f q)) e = let z : _≡_ {A = ℕ} 0 1 = cc in absurd (omega arith)
