@@ -23,8 +23,10 @@ use Rattle.walk.specs.declared.Counts.{Counts}
 use Rattle.walk.specs.Nodes.{Node, list, datum, before, keyNodes, listing, listed, leadsTo, noted, withList, withBlock, faultOf}
 use Rattle.audit.specs.declared.claims.Walked.{Walked}
 use Rattle.audit.specs.declared.claims.Walked.the-variants.{Done, Stopped}
-use Rattle.audit.specs.declared.files.Lister.{Lister}
-use Rattle.audit.specs.Walks.{Claims, Met, Walks, Ready, Listing, keysIn, KeysWalked, nextList, Listed, ListWalked}
+use Rattle.walk.specs.declared.Lister.{Lister}
+use Rattle.walk.specs.Listings.{Listing, keysIn, nextList, Listed}
+use Rattle.walk.proofs.Links.{linked-next, is-listed}
+use Rattle.audit.specs.Walks.{Claims, Met, Walks, Ready, KeysWalked, ListWalked}
 use Rattle.audit.proofs.Meeting.{claims-holds}
 use Rattle.audit.proofs.Walking.{not-both, walks-none, walks-stopped, walks-then, walks-part, met-free, met-inside, met-passed, met-stops, met-goes, ready-met, ready-walked}
 
@@ -121,36 +123,6 @@ module _ (d : Disk) (s : List ℕ) (b : Lister) where
     keys-end h =
         let e : count - i ≡ 0 = omega arith in
         record { walks = rw (← v .counted) (rw e at (v .walked)); keys = λ x p j l. v .keys j (omega (arith, v .counted)) }
-
--- ---- the link to the next list block
-
--- it is there only where keys are left
-some-more : (s : List ℕ) (k n : ℕ) → Lists s k n → wordOf s k 126 ≢ 0 → slots < n
-some-more s k n l h = go (decLt slots n)
-  where
-    go : Dec (slots < n) → slots < n
-    go (yes p) = p
-    go (no p) = absurd (h (l .more .1 (omega arith)))
-
-module _ (d : Disk) (s : List ℕ) (h k m c : ℕ) where
-  pub linked-next : Lists s k (blocksOf d s h - m) → listing (wordOf s k 126) h (m + keysHere (blocksOf d s h - m)) (before s k c (keysHere (blocksOf d s h - m))) ≡ nextList s h k m
-  linked-next l = go (wordOf s k 126) refl
-    where
-      go : (w : ℕ) → wordOf s k 126 ≡ w → listing w h (m + keysHere (blocksOf d s h - m)) (before s k c (keysHere (blocksOf d s h - m))) ≡ listing w h (m + slots) (keyWord s k 71)
-      go zero e = refl
-      go (suc w) e =
-          let g = some-more s k (blocksOf d s h - m) l (λ z. absurd (omega (arith, e, z))) in
-          let f : keysHere (blocksOf d s h - m) ≡ slots = omega arith in
-          rw f refl
-
-  -- what is known of a block that lists keys, once they are walked
-  pub is-listed : Lists s k (blocksOf d s h - m) → k < d .blocks → ((i : ℕ) → i < keysHere (blocksOf d s h - m) → keyWord s k i < d .blocks) → Listed d s h k m
-  is-listed l i f =
-      record {
-        key = i;
-        more = λ z. omega (arith, some-more s k (blocksOf d s h - m) l z);
-        last = λ z. f 71 (omega (arith, some-more s k (blocksOf d s h - m) l z));
-      }
 
 -- ---- a list block
 

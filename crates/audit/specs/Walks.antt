@@ -14,7 +14,8 @@ use Rattle.volume.specs.Files.{sizeOf, blocksOf, keysHere}
 use Rattle.walk.specs.declared.Counts.{Counts}
 use Rattle.volume.specs.Law.{chainKey}
 use Rattle.walk.specs.Nodes.{Node, entry, list, keyOf, keyFault, keyNodes, listing, chained, graph}
-use Rattle.audit.specs.declared.files.Lister.{Lister}
+use Rattle.walk.specs.declared.Lister.{Lister}
+use Rattle.walk.specs.Listings.{keysIn, nextList, Listed}
 use Rattle.audit.specs.declared.claims.Walked.{Walked}
 use Rattle.audit.specs.declared.claims.Walked.the-variants.{Done, Stopped}
 
@@ -51,32 +52,10 @@ pub record Ready (d : Disk) (s cl : List ℕ) (n : Counts) : Type 0 where
 
 -- ---- files
 
--- a block whose keys come next: its file passes, and what it needs lies in the volume
-pub record Listing (d : Disk) (s : List ℕ) (b : Lister) : Type 0 where
-  pub size : sizeOf s (b .header) ≤ fileLimit d
-  pub header : b .header < d .blocks
-  pub key : b .key < d .blocks
-  pub last : b .last < d .blocks
-  pub done : b .done ≤ blocksOf d s (b .header)
-
--- how many keys it has
-abbrev pub keysIn : Disk → List ℕ → Lister → ℕ
-keysIn d s b = keysHere (blocksOf d s (b .header) - b .done)
-
 -- its data blocks are walked
 pub record KeysWalked (d : Disk) (s : List ℕ) (b : Lister) (n : Counts) (cl : List ℕ) (r : Walked) (cl′ : List ℕ) : Type 0 where
   pub walks : Walks d s (keyNodes s (b .header) (b .key) (b .done) (b .last) 0 (keysIn d s b)) [] n cl r cl′
   pub keys : (c : Counts) → r ≡ Done c → (i : ℕ) → i < keysIn d s b → keyWord s (b .key) i < d .blocks
-
--- where block k of file h, with m data blocks before its own, leads to a list block, that comes behind 72 more
-abbrev pub nextList : List ℕ → ℕ → ℕ → ℕ → List Node
-nextList s h k m = listing (wordOf s k 126) h (m + slots) (keyWord s k 71)
-
--- what is known of a block of file h whose keys are walked
-pub record Listed (d : Disk) (s : List ℕ) (h k m : ℕ) : Type 0 where
-  pub key : k < d .blocks
-  pub more : wordOf s k 126 ≢ 0 → m + slots < blocksOf d s h
-  pub last : wordOf s k 126 ≢ 0 → keyWord s k 71 < d .blocks
 
 -- a list block is walked, up to the link to the next
 pub record ListWalked (d : Disk) (s : List ℕ) (b : Lister) (n : Counts) (cl : List ℕ) (r : Walked) (cl′ : List ℕ) : Type 0 where

@@ -10,6 +10,7 @@ use volume::file::key_of;
 use volume::file::keys_here;
 use volume::file::list_fault;
 use walk::Counts;
+use walk::Lister;
 ghost use mathlib.Core.Path.{_≡_};
 ghost use mathlib.Core.List.{[]};
 ghost use Prim.Native.Nat.{_+_, _≤_, _<_};
@@ -17,16 +18,8 @@ ghost use Rattle.volume.specs.Disks.{fileLimit};
 ghost use Rattle.volume.specs.Files.{sizeOf, blocksOf};
 ghost use Rattle.volume.specs.Rules.{fileFault};
 ghost use Rattle.walk.specs.Nodes.{list, datum, listed, withBlock, withList};
-ghost use Rattle.audit.specs.Walks.{Met, Ready, Walks, Listing, KeysWalked, ListWalked};
-
-// A block that lists data blocks of a file: the header, or a list block.
-pub struct Lister {
-    pub header: u32,
-    pub key: u32,
-    // How many data blocks come before its own, and the last of them, or the header.
-    pub done: u32,
-    pub last: u32,
-}
+ghost use Rattle.walk.specs.Listings.{Listing};
+ghost use Rattle.audit.specs.Walks.{Met, Ready, Walks, KeysWalked, ListWalked};
 
 // Data block n of a file, behind the block `last`: its claim and its tests.
 fn meet_data(

@@ -14,6 +14,8 @@ pub mod Chains
 pub mod Spreads
 -- the nodes that a block of a file leads to
 pub mod Listed
+-- the link to the next list block
+pub mod Links
 -- a directory whose chains are reached, and pass, is as the law says
 pub mod Directories
 -- `fine-volume`: if every node passes, the volume is as its law says

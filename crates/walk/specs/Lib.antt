@@ -3,3 +3,5 @@
 pub mod Nodes
 -- what an accepted walk hands back, and what a refusal means
 pub mod Reports
+-- a block that lists keys, and the next
+pub mod Listings

@@ -8,3 +8,12 @@ pub struct Counts {
     pub lists: u32,
     pub blocks: u32,
 }
+
+// A block that lists data blocks of a file: the header, or a list block.
+pub struct Lister {
+    pub header: u32,
+    pub key: u32,
+    // How many data blocks come before its own, and the last of them, or the header.
+    pub done: u32,
+    pub last: u32,
+}

@@ -1,0 +1,32 @@
+-- A block that lists data blocks of a file, as code passes it on: what it may take for granted of it, its keys, and the link behind them.
+use Prim.Native.Nat.{ℕ, _+_, _-_, _≤_, _<_}
+use mathlib.Core.Logic.{_≢_}
+use mathlib.Core.List.{List}
+use Rattle.volume.specs.declared.disk.Disk.{Disk}
+use Rattle.volume.specs.Disks.{fileLimit}
+use Rattle.volume.specs.Blocks.{slots, wordOf, keyWord}
+use Rattle.volume.specs.Files.{sizeOf, blocksOf, keysHere}
+use Rattle.walk.specs.declared.Lister.{Lister}
+use Rattle.walk.specs.Nodes.{Node, listing}
+
+-- a block whose keys come next: its file passes, and what it needs lies in the volume
+pub record Listing (d : Disk) (s : List ℕ) (b : Lister) : Type 0 where
+  pub size : sizeOf s (b .header) ≤ fileLimit d
+  pub header : b .header < d .blocks
+  pub key : b .key < d .blocks
+  pub last : b .last < d .blocks
+  pub done : b .done ≤ blocksOf d s (b .header)
+
+-- how many keys it has
+abbrev pub keysIn : Disk → List ℕ → Lister → ℕ
+keysIn d s b = keysHere (blocksOf d s (b .header) - b .done)
+
+-- where block k of file h, with m data blocks before its own, leads to a list block, that comes behind 72 more
+abbrev pub nextList : List ℕ → ℕ → ℕ → ℕ → List Node
+nextList s h k m = listing (wordOf s k 126) h (m + slots) (keyWord s k 71)
+
+-- what is known of a block of file h whose keys are walked
+pub record Listed (d : Disk) (s : List ℕ) (h k m : ℕ) : Type 0 where
+  pub key : k < d .blocks
+  pub more : wordOf s k 126 ≢ 0 → m + slots < blocksOf d s h
+  pub last : wordOf s k 126 ≢ 0 → keyWord s k 71 < d .blocks
