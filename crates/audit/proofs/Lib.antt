@@ -11,3 +11,9 @@ pub mod Hanging
 pub mod Mapping
 -- the audit's answer, and what it leaves
 pub mod Auditing
+-- the bits are right, or there is a lowest that is wrong
+pub mod Bitmaps
+-- an answer taken apart
+pub mod Answers
+-- what an accepted audit says: `accepted-exactly`, `accepted-claims`, `accepted-report`
+pub mod Accepting

@@ -1,0 +1,92 @@
+-- What an audit's answer means, said of blocks, kinds and bits (the build paper, "Order of the walk" and "Numbers"): the six numbers of a
+-- report, the claim area after it, and the cause of each refusal.
+use Prim.Native.Nat.{ℕ, zero, suc, _+_, _≤_, _<_}
+use mathlib.Core.Path.{_≡_}
+use mathlib.Core.Logic.{_≢_, _⊎_, _↔_}
+use mathlib.Core.Bool.{true, false}
+use mathlib.Core.List.{List, map}
+use lib.ListN.{length, getD}
+use Rattle.answers.specs.Tests.{pick}
+use Rattle.answers.specs.Refusals.{refusal}
+use Rattle.answers.specs.declared.Refusal.{Refusal}
+use Rattle.words.specs.Word.{wordAt}
+use Rattle.reach.specs.References.{_∈_, Uniq, Reached, Owned}
+use Rattle.reach.specs.Walk.{refused}
+use Rattle.reach.specs.Law.{Fine}
+use Rattle.volume.specs.declared.disk.Disk.{Disk}
+use Rattle.volume.specs.Disks.{firstKey, bitSpan, imageBytes, claimBytes, tagOf, rootOf}
+use Rattle.volume.specs.Blocks.{wordOf}
+use Rattle.volume.specs.Bitmap.{isFree}
+use Rattle.volume.specs.References.{Ref, references}
+use Rattle.walk.specs.Nodes.{graph, walkOf}
+use Rattle.walk.specs.Reports.{count, isDirectory, isFile, isList, isData, Used}
+use Rattle.audit.specs.declared.audit.Report.{Report}
+
+-- the key of the bitmap block
+abbrev pub pageOf : Disk → List ℕ → ℕ
+pageOf d s = wordOf s (rootOf d) 79
+
+-- how many of the n blocks from block k on the bitmap block `page` calls free
+unfoldable pub freeFrom : List ℕ → ℕ → ℕ → ℕ → ℕ
+freeFrom s page k zero = 0
+freeFrom s page k (suc n) = pick (isFree s page k) (suc (freeFrom s page (suc k) n)) (freeFrom s page (suc k) n)
+
+-- ---- accepted
+
+-- the six numbers
+pub record Reported (d : Disk) (s : List ℕ) (p : Report) : Type 0 where
+  -- what is reached, no key twice
+  pub reached : List Ref
+  pub all : (r : Ref) → Reached (references d s) r → r ∈ reached
+  pub only : (r : Ref) → r ∈ reached → Reached (references d s) r
+  pub keys : Uniq (map (λ r. r .key) reached)
+  -- of these, how many of each kind, and all
+  pub directories : p .directories ≡ count (isDirectory s) reached
+  pub files : p .files ≡ count (isFile s) reached
+  pub lists : p .lists ≡ count isList reached
+  pub blocks : p .blocks ≡ count isData reached
+  pub used : p .used ≡ length reached
+  -- the other blocks but the boot blocks
+  pub free : p .free ≡ freeFrom s (pageOf d s) firstKey (bitSpan d)
+  pub whole : p .used + p .free ≡ bitSpan d
+
+-- a claim area of n bytes: 1 for each block that is reached, and 0 elsewhere, also behind the last block
+pub record Claimed (d : Disk) (s : List ℕ) (n : ℕ) (claim : List ℕ) : Type 0 where
+  pub size : length claim ≡ n
+  pub byte : (k : ℕ) → ((getD claim k 0 ≡ 1) × Used d s k) ⊎ ((getD claim k 0 ≡ 0) × (¬ Used d s k))
+
+-- ---- refused
+
+-- the bit of block k is 0 exactly if k is reached
+abbrev pub BitRight : Disk → List ℕ → ℕ → Type 0
+BitRight d s k = (isFree s (pageOf d s) k ≡ false) ↔ Used d s k
+
+-- k is called free though it is reached, or in use though it is not
+abbrev pub BitWrong : Disk → List ℕ → ℕ → Type 0
+BitWrong d s k = ((isFree s (pageOf d s) k ≡ true) × Used d s k) ⊎ ((isFree s (pageOf d s) k ≡ false) × (¬ Used d s k))
+
+-- k is the lowest block whose bit is wrong
+pub record FirstWrong (d : Disk) (s : List ℕ) (k : ℕ) : Type 0 where
+  pub low : firstKey ≤ k
+  pub high : k < d .blocks
+  pub wrong : BitWrong d s k
+  pub before : (j : ℕ) → firstKey ≤ j → j < k → BitRight d s j
+
+-- what is tested before the walk
+pub record Opened (d : Disk) (s : List ℕ) (n : ℕ) : Type 0 where
+  pub long : length s ≡ imageBytes d
+  pub room : claimBytes d ≤ n
+  pub tag : wordAt s 0 ≡ tagOf d
+
+-- what the walk tests: every reached node passes, and every block is owned once
+abbrev pub Sound : Disk → List ℕ → Type 0
+Sound d s = Fine (graph d s) × Owned (references d s)
+
+-- of an image s and a claim area of n bytes: why an audit refuses with x. `refused-why` of crate `walk` says what a refusal of the walk means
+abbrev pub Cause : Disk → List ℕ → ℕ → Refusal → Type 0
+Cause d s n x =
+    ((x ≡ refusal 1 0) × (length s ≢ imageBytes d))
+    ⊎ ((x ≡ refusal 2 0) × (length s ≡ imageBytes d) × (n < claimBytes d))
+    ⊎ ((x ≡ refusal 3 0) × (length s ≡ imageBytes d) × (claimBytes d ≤ n) × (wordAt s 0 ≢ tagOf d))
+    ⊎ (Opened d s n × (walkOf d s ≡ refused (x .number) (x .place)))
+    ⊎ ((x .number ≡ 17) × Opened d s n × Sound d s × FirstWrong d s (x .place))
