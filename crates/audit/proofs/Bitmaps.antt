@@ -4,12 +4,14 @@ use Prim.Native.Nat.{ℕ, zero, suc, _+_, _≤_, _<_}
 use mathlib.Core.Path.{_≡_, refl, sym, ap, _∙_, subst}
 use mathlib.Core.Logic.{_⊎_, _↔_, inl, inr}
 use mathlib.Core.Bool.{Bool, true, false}
-use mathlib.Core.List.{List}
+use mathlib.Core.List.{List, [], _∷_}
 use native.Mathlib.Omega.{arith}
 use native.Mathlib.Decide.{decLt}
-use native.Mathlib.Nat.{zero-add}
-use lib.ListN.{getD}
+use native.Mathlib.Nat.{zero-add, add-zero}
+use lib.ListN.{length, getD}
+use borrow.Author.Tests.{eqb-true, not-false}
 use Rattle.answers.specs.Tests.{pick}
+use Rattle.reach.specs.Walk.{free}
 use Rattle.reach.proofs.Claims.{byte-any}
 use Rattle.volume.specs.declared.disk.Disk.{Disk}
 use Rattle.volume.specs.Disks.{firstKey, bitSpan}
@@ -153,3 +155,33 @@ module _ (d : Disk) (s c : List ℕ) (n : Counts) (w : Walked d s c n) where
           let a = h .low in
           let l = h .high in
           record { low = a; high = omega arith; wrong = bit k l .1 .1 (h .wrong); before = λ j q u. bit j (omega arith) .0 .1 (h .before j q u) }
+
+-- ---- as many free blocks as claim bytes that are 0
+
+module _ (s : List ℕ) (page : ℕ) where
+  count-byte : (b : Bool) (x f : ℕ) (c : List ℕ) → bitWrong b x ≡ false → free c ≡ f → free (x ∷ c) ≡ pick b (suc f) f
+  unfolding bitWrong pick free
+  count-byte true zero f c e h = ap suc h
+  count-byte true (suc x) f c e h = absurd (omega (arith, eqb-true (suc x) 0 (not-false _ e)))
+  count-byte false zero f c e h = let z : _≡_ {A = ℕ} 0 1 = cc in absurd (omega arith)
+  count-byte false (suc x) f c e h = h
+
+  -- of the bytes of the blocks from block k on
+  count-bytes : (c : List ℕ) (k : ℕ) → ((i : ℕ) → i < length c → bitWrong (isFree s page (k + i)) (getD c i 0) ≡ false) → free c ≡ freeFrom s page k (length c)
+  unfolding freeFrom free
+  count-bytes [] k h = refl
+  count-bytes (x ∷ c) k h =
+      count-byte (isFree s page k) x _ c (rw (add-zero k) at (h 0 (omega arith)))
+      (count-bytes c (suc k) (λ i l. let e : k + suc i ≡ suc k + i = omega arith in rw e at (h (suc i) (omega arith))))
+
+  -- the boot blocks are never claimed
+  pub count-free : (c : List ℕ) (n : ℕ) → length c ≡ firstKey + n → getD c 0 0 ≡ 0 → getD c 1 0 ≡ 0 → AllRight s page c firstKey n → free c ≡ firstKey + freeFrom s page firstKey n
+  unfolding free
+  count-free [] n l a b h = absurd (omega arith)
+  count-free (x ∷ []) n l a b h = absurd (omega arith)
+  count-free (suc x ∷ y ∷ c) n l a b h = absurd (omega arith)
+  count-free (zero ∷ suc y ∷ c) n l a b h = absurd (omega arith)
+  count-free (zero ∷ zero ∷ c) n l a b h =
+      let e : length c ≡ n = omega arith in
+      let f = count-bytes c firstKey (λ i u. let j : firstKey + i ≡ suc (suc i) = omega arith in rw j (h (suc (suc i)) (omega arith) (omega arith))) in
+      rw (← e) (omega (arith, f))
