@@ -2,14 +2,14 @@
 use Prim.Native.Nat.{ℕ, zero, suc, _+_, _-_, _≤_, _<_}
 use mathlib.Core.Path.{_≡_, refl, sym, ap, _∙_, subst}
 use mathlib.Core.Logic.{_⊎_, _↔_, inl, inr}
-use mathlib.Core.List.{List, [], _∷_, _++_}
+use mathlib.Core.List.{List, _++_}
 use native.Mathlib.Omega.{arith}
 use native.Mathlib.Decide.{decLt}
-use lib.ListN.{length, getD, drop, replicate, length-append, length-replicate, List·getD-append}
+use lib.ListN.{length, getD, replicate, length-append, length-replicate, List·getD-append}
 use lib.Seq.{getD-append-add}
 use Rattle.answers.specs.declared.Refusal.{Refusal}
 use Rattle.reach.specs.References.{top}
-use Rattle.reach.specs.Walk.{Outcome, done, refused, free, Accepted as Through}
+use Rattle.reach.specs.Walk.{Outcome, done, free, Accepted as Through}
 use Rattle.volume.specs.declared.disk.Disk.{Disk}
 use Rattle.volume.specs.Disks.{firstKey, bitSpan, claimBytes, rootOf}
 use Rattle.volume.specs.References.{to, root}
@@ -21,16 +21,15 @@ use Rattle.walk.proofs.Passes.{key-passed}
 use Rattle.walk.proofs.Accepts.{accepted-lawful, node-reached, node-key}
 use Rattle.walk.proofs.Decides.{volume-decided}
 use Rattle.walk.proofs.Reports.{walked-report}
-use Rattle.audit.specs.declared.bitmap.Mapped.{Mapped}
-use Rattle.audit.specs.declared.bitmap.Mapped.the-variants.{Right, Wrong}
+use Rattle.audit.specs.declared.bitmap.Mapped.the-variants.{Right}
 use Rattle.audit.specs.declared.audit.Report.{Report}
 use Rattle.audit.specs.declared.audit.Audited.{Audited}
 use Rattle.audit.specs.declared.audit.Audited.the-variants.{Accepted, Refused}
 use Rattle.audit.specs.Bits.{bitsOf}
 use Rattle.audit.specs.Audits.{numbersOf, reportOf, claimsOf, leaves, auditOf, Audits}
-use Rattle.audit.specs.Verdicts.{pageOf, freeFrom, Opened, Reported, Claimed}
+use Rattle.audit.specs.Verdicts.{pageOf, freeFrom, Reported, Claimed}
 use Rattle.audit.proofs.Bitmaps.{claim-byte, right-exactly, bits-right, count-free}
-use Rattle.audit.proofs.Answers.{Ends, answers-exactly}
+use Rattle.audit.proofs.Answers.{Ends, through, answers-exactly}
 
 zero-byte : (n k : ℕ) → getD {A = ℕ} (replicate n 0) k 0 ≡ 0
 zero-byte zero k = refl
@@ -44,14 +43,6 @@ audit-determined d s n r r′ c c′ a b =
     (ap numbersOf e, e, a .claim ∙ ap (λ (x : Audited). leaves d s x n) e ∙ sym (b .claim))
 
 module _ (d : Disk) (s : List ℕ) where
-  -- a walk that is through has claims and counts
-  through : Through (walkOf d s) → (c : List ℕ) × (m : Counts) × (walkOf d s ≡ done c m)
-  through h = go (walkOf d s) refl h
-    where
-      go : (o : Outcome Counts) → walkOf d s ≡ o → Through o → (c : List ℕ) × (m : Counts) × (walkOf d s ≡ done c m)
-      go (done c m) e h = (c, m, e)
-      go (refused v k) e h = absurd h
-
   module _ (c : List ℕ) (m : Counts) (e : walkOf d s ≡ done c m) where
     -- reached blocks lie behind the boot blocks, in the volume
     used-inside : (k : ℕ) → Used d s k → (firstKey ≤ k) × (k < d .blocks)
@@ -92,7 +83,7 @@ module _ (d : Disk) (s : List ℕ) where
         back : Volume d s → (r : Report) × (auditOf d s n ≡ Accepted r)
         back v =
             let p = volume-decided d s .0 v in
-            let t = through (p .0) in
+            let t = through d s (p .0) in
             let f = freeFrom s (pageOf d s) firstKey (bitSpan d) in
             let z : Ends d s (Right f) = record { claims = t .0; counts = t .1; walks = t .2; maps = bits-right d s (t .0) (t .1) (walked-report d s (t .0) (t .1) (t .2)) f .1 (p .3, refl) } in
             (reportOf (t .1) f, answers-exactly d s n (Accepted (reportOf (t .1) f)) .1 (record { long = p .1; room = l; tag = p .2 }, (f, z, refl)))

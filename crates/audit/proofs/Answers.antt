@@ -4,7 +4,6 @@ use mathlib.Core.Path.{_≡_, refl, sym, ap, _∙_, subst}
 use mathlib.Core.Logic.{_≢_, _⊎_, _↔_, inl, inr}
 use mathlib.Core.Bool.{Bool, true, false}
 use mathlib.Core.List.{List}
-use native.Mathlib.Omega.{arith}
 use lib.Dec.{eqb, ltb}
 use lib.ListN.{length}
 use borrow.Author.Tests.{ltb-true, ltb-false, eqb-true, eqb-false, lt-ltb, le-ltb, eq-eqb, ne-eqb}
@@ -12,7 +11,7 @@ use Rattle.answers.specs.Tests.{pick}
 use Rattle.answers.specs.Refusals.{refusal}
 use Rattle.answers.specs.declared.Refusal.{Refusal}
 use Rattle.words.specs.Word.{wordAt}
-use Rattle.reach.specs.Walk.{Outcome, done, refused}
+use Rattle.reach.specs.Walk.{Outcome, done, refused, Accepted as Through}
 use Rattle.volume.specs.declared.disk.Disk.{Disk}
 use Rattle.volume.specs.Disks.{imageBytes, claimBytes, tagOf}
 use Rattle.walk.specs.declared.Counts.{Counts}
@@ -27,6 +26,14 @@ use Rattle.audit.specs.Audits.{refuse, reportOf, mapped, walked, auditOf
 use Rattle.audit.specs.Verdicts.{pageOf, Opened}
 
 module _ (d : Disk) (s : List ℕ) where
+  -- a walk that is through has claims and counts
+  pub through : Through (walkOf d s) → (c : List ℕ) × (m : Counts) × (walkOf d s ≡ done c m)
+  through h = go (walkOf d s) refl h
+    where
+      go : (o : Outcome Counts) → walkOf d s ≡ o → Through o → (c : List ℕ) × (m : Counts) × (walkOf d s ≡ done c m)
+      go (done c m) e h = (c, m, e)
+      go (refused v k) e h = absurd h
+
   -- the claims and the counts of a walk that is through, and the bitmap's answer
   pub record Ends (m : Mapped) : Type 0 where
     pub claims : List ℕ

@@ -17,3 +17,7 @@ pub mod Bitmaps
 pub mod Answers
 -- what an accepted audit says: `accepted-exactly`, `accepted-claims`, `accepted-report`
 pub mod Accepting
+-- the walk's numbers are 4 to 16
+pub mod Numbers
+-- what a refused audit says: `refused-exactly`, and each number by itself
+pub mod Refusing

@@ -5,10 +5,9 @@ use mathlib.Core.Path.{_≡_}
 use mathlib.Core.Logic.{_≢_, _⊎_, _↔_}
 use mathlib.Core.Bool.{true, false}
 use mathlib.Core.List.{List, map}
+use lib.Dec.{eqb}
 use lib.ListN.{length, getD}
 use Rattle.answers.specs.Tests.{pick}
-use Rattle.answers.specs.Refusals.{refusal}
-use Rattle.answers.specs.declared.Refusal.{Refusal}
 use Rattle.words.specs.Word.{wordAt}
 use Rattle.reach.specs.References.{_∈_, Uniq, Reached, Owned}
 use Rattle.reach.specs.Walk.{refused}
@@ -82,11 +81,17 @@ pub record Opened (d : Disk) (s : List ℕ) (n : ℕ) : Type 0 where
 abbrev pub Sound : Disk → List ℕ → Type 0
 Sound d s = Fine (graph d s) × Owned (references d s)
 
--- of an image s and a claim area of n bytes: why an audit refuses with x. `refused-why` of crate `walk` says what a refusal of the walk means
-abbrev pub Cause : Disk → List ℕ → ℕ → Refusal → Type 0
-Cause d s n x =
-    ((x ≡ refusal 1 0) × (length s ≢ imageBytes d))
-    ⊎ ((x ≡ refusal 2 0) × (length s ≡ imageBytes d) × (n < claimBytes d))
-    ⊎ ((x ≡ refusal 3 0) × (length s ≡ imageBytes d) × (claimBytes d ≤ n) × (wordAt s 0 ≢ tagOf d))
-    ⊎ (Opened d s n × (walkOf d s ≡ refused (x .number) (x .place)))
-    ⊎ ((x .number ≡ 17) × Opened d s n × Sound d s × FirstWrong d s (x .place))
+-- the five tests, in order, and which of them refuses with the number v
+pub data Test : Type 0 where
+  size area tag walk bitmap : Test
+
+abbrev pub testOf : ℕ → Test
+testOf v = pick (eqb v 1) size (pick (eqb v 2) area (pick (eqb v 3) tag (pick (eqb v 17) bitmap walk)))
+
+-- of an image s and a claim area of n bytes: what it says that a test refuses with v at k. `refused-why` of crate `walk` says more of a walk
+abbrev pub Says : Disk → List ℕ → ℕ → ℕ → ℕ → Test → Type 0
+Says d s n v k size = (k ≡ 0) × (length s ≢ imageBytes d)
+Says d s n v k area = (k ≡ 0) × (length s ≡ imageBytes d) × (n < claimBytes d)
+Says d s n v k tag = (k ≡ 0) × (length s ≡ imageBytes d) × (claimBytes d ≤ n) × (wordAt s 0 ≢ tagOf d)
+Says d s n v k walk = Opened d s n × (walkOf d s ≡ refused v k)
+Says d s n v k bitmap = Opened d s n × Sound d s × FirstWrong d s k

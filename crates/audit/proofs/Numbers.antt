@@ -1,0 +1,98 @@
+-- The theorem `walk-number`: the walk refuses with the numbers 4 to 16 only. Assumes nothing.
+use Prim.Native.Nat.{ℕ, zero, suc, _≤_, _<_}
+use mathlib.Core.Path.{_≡_, refl, subst}
+use mathlib.Core.Logic.{_≢_, _⊎_, inl, inr}
+use mathlib.Core.Bool.{Bool, true, false}
+use mathlib.Core.List.{List}
+use native.Mathlib.Omega.{arith}
+use lib.Dec.{T, leb, leb→le}
+use Rattle.answers.specs.Tests.{pick, must, never, first}
+use Rattle.reach.specs.Walk.{refused}
+use Rattle.reach.specs.Law.{Twice}
+use Rattle.volume.specs.declared.disk.Disk.{Disk}
+use Rattle.volume.specs.Disks.{firstKey}
+use Rattle.volume.specs.Rules.{rootFault, mapFault, bitmapFault, entryFault, fileFault, listFault, dataFault}
+use Rattle.walk.specs.Nodes.{Node, root, bitmap, entry, list, datum, hangsFault, faultOf, graph, walkOf}
+use Rattle.walk.proofs.Refuses.{refused-why}
+
+-- what a list of the walk's tests gives
+record Given (v : ℕ) : Type 0 where
+  bounds : v ≢ 0 → (4 ≤ v) × (v ≤ 16)
+
+none : Given 0
+none = record { bounds = λ h. absurd (h refl) }
+
+some : (v : ℕ) → T (leb 4 v) → T (leb v 16) → Given v
+some v a b = record { bounds = λ h. (leb→le 4 v a, leb→le v 16 b) }
+
+module _ (v : ℕ) (a : T (leb 4 v)) (b : T (leb v 16)) where
+  must-given : (t : Bool) → Given (must t v)
+  unfolding must
+  must-given true = none
+  must-given false = some v a b
+
+  never-given : (t : Bool) → Given (never t v)
+  unfolding never
+  never-given true = some v a b
+  never-given false = none
+
+pick-given : (t : Bool) (x y : ℕ) → Given x → Given y → Given (pick t x y)
+unfolding pick
+pick-given true x y p q = p
+pick-given false x y p q = q
+
+first-given : (x y : ℕ) → Given x → Given y → Given (first x y)
+unfolding first
+first-given zero y p q = q
+first-given (suc x) y p q = p
+
+ruleset given = (tt, none, must-given, never-given, pick-given, first-given)
+
+module _ (d : Disk) (s : List ℕ) where
+  root-given : Given (rootFault d s)
+  unfolding rootFault
+  root-given = search given depth 16
+
+  map-given : Given (mapFault d s)
+  unfolding mapFault
+  map-given = search given depth 16
+
+  bitmap-given : (k : ℕ) → Given (bitmapFault s k)
+  unfolding bitmapFault
+  bitmap-given k = search given depth 16
+
+  entry-given : (k t i : ℕ) → Given (entryFault d s k t i)
+  unfolding entryFault
+  entry-given k t i = search given depth 16
+
+  file-given : (k : ℕ) → Given (fileFault d s k)
+  unfolding fileFault
+  file-given k = search given depth 16
+
+  list-given : (k h n : ℕ) → Given (listFault s k h n)
+  unfolding listFault
+  list-given k h n = search given depth 16
+
+  data-given : (k h z n named : ℕ) → Given (dataFault d s k h z n named)
+  unfolding dataFault
+  data-given k h z n named = search given depth 16
+
+  hangs-given : (k t i p : ℕ) → Given (hangsFault d s k t i p)
+  unfolding hangsFault
+  hangs-given k t i p = search (given, entry-given, file-given) depth 8
+
+  fault-given : (n : Node) → Given (faultOf d s n)
+  unfolding faultOf
+  fault-given root = first-given _ _ root-given map-given
+  fault-given (bitmap k) = bitmap-given k
+  fault-given (entry k t i p) = hangs-given k t i p
+  fault-given (list k h m c) = list-given k h _
+  fault-given (datum k h n c) = data-given k h _ n _
+
+  pub walk-number : (v k : ℕ) → walkOf d s ≡ refused v k → (4 ≤ v) × (v ≤ 16)
+  walk-number v k e = let w = refused-why d s v k e in go (w .node) (w .cause)
+    where
+      go : (n : Node) → ((v ≡ 5) × ((k < firstKey) ⊎ (d .blocks ≤ k))) ⊎ ((v ≡ 6) × Twice (graph d s) k) ⊎ ((v ≢ 0) × (faultOf d s n ≡ v)) → (4 ≤ v) × (v ≤ 16)
+      go n (inl h) = let z = h .0 in (omega arith, omega arith)
+      go n (inr (inl h)) = let z = h .0 in (omega arith, omega arith)
+      go n (inr (inr h)) = subst Given (h .1) (fault-given n) .bounds (h .0)
