@@ -27,9 +27,9 @@ use Rattle.audit.specs.declared.audit.Audited.{Audited}
 use Rattle.audit.specs.declared.audit.Audited.the-variants.{Accepted, Refused}
 use Rattle.audit.specs.Bits.{bitsOf}
 use Rattle.audit.specs.Audits.{numbersOf, reportOf, claimsOf, leaves, auditOf, Audits}
-use Rattle.audit.specs.Verdicts.{pageOf, freeFrom, Reported, Claimed}
+use Rattle.audit.specs.Verdicts.{pageOf, freeFrom, Opened, Reported, Claimed}
 use Rattle.audit.proofs.Bitmaps.{claim-byte, right-exactly, bits-right, count-free}
-use Rattle.audit.proofs.Answers.{Ends, through, answers-exactly}
+use Rattle.audit.proofs.Answers.{through, answers-exactly}
 
 zero-byte : (n k : ℕ) → getD {A = ℕ} (replicate n 0) k 0 ≡ 0
 zero-byte zero k = refl
@@ -75,28 +75,27 @@ module _ (d : Disk) (s : List ℕ) where
       where
         there : (r : Report) × (auditOf d s n ≡ Accepted r) → Volume d s
         there (r, e) =
-            let a = answers-exactly d s n (Accepted r) .0 e in
-            let z = a .1 .1 in
-            let b = bits-right d s (z .claims) (z .counts) (walked-report d s (z .claims) (z .counts) (z .walks)) (a .1 .0) .0 (z .maps) in
-            volume-decided d s .1 (subst Through (sym (z .walks)) tt, a .0 .long, a .0 .tag, b .0)
+            let z = answers-exactly d s n (Accepted r) .0 e in
+            let b = bits-right d s (z .claims) (z .counts) (walked-report d s (z .claims) (z .counts) (z .walks)) (z .free) .0 (z .maps) in
+            volume-decided d s .1 (subst Through (sym (z .walks)) tt, z .opened .long, z .opened .tag, b .0)
 
         back : Volume d s → (r : Report) × (auditOf d s n ≡ Accepted r)
         back v =
             let p = volume-decided d s .0 v in
             let t = through d s (p .0) in
             let f = freeFrom s (pageOf d s) firstKey (bitSpan d) in
-            let z : Ends d s (Right f) = record { claims = t .0; counts = t .1; walks = t .2; maps = bits-right d s (t .0) (t .1) (walked-report d s (t .0) (t .1) (t .2)) f .1 (p .3, refl) } in
-            (reportOf (t .1) f, answers-exactly d s n (Accepted (reportOf (t .1) f)) .1 (record { long = p .1; room = l; tag = p .2 }, (f, z, refl)))
+            let m = bits-right d s (t .0) (t .1) (walked-report d s (t .0) (t .1) (t .2)) f .1 (p .3, refl) in
+            let o : Opened d s n = record { long = p .1; room = l; tag = p .2 } in
+            (reportOf (t .1) f, answers-exactly d s n (Accepted (reportOf (t .1) f)) .1 (record { opened = o; claims = t .0; counts = t .1; free = f; walks = t .2; maps = m; told = refl }))
 
     -- ---- what it leaves
 
     module _ (r : Audited) (claim′ : List ℕ) (a : Audits d s n r claim′) where
       pub accepted-claims : (p : Report) → r ≡ Accepted p → Claimed d s n claim′
       accepted-claims p q =
-          let h = answers-exactly d s n (Accepted p) .0 (sym (a .answer) ∙ q) in
-          let z = h .1 .1 in
+          let z = answers-exactly d s n (Accepted p) .0 (sym (a .answer) ∙ q) in
           let e : claim′ ≡ z .claims ++ zeros = a .claim ∙ ap (λ (x : Audited). leaves d s x n) q ∙ ap (λ (o : Outcome Counts). claimsOf o ++ zeros) (z .walks) in
-          subst (Claimed d s n) (sym e) (claimed (z .claims) (z .counts) (z .walks) (h .0 .room))
+          subst (Claimed d s n) (sym e) (claimed (z .claims) (z .counts) (z .walks) (z .opened .room))
         where
           zeros : List ℕ
           zeros = replicate (n - claimBytes d) 0
@@ -120,9 +119,8 @@ module _ (d : Disk) (s : List ℕ) where
 
     pub accepted-report : (p : Report) → auditOf d s n ≡ Accepted p → Reported d s p
     accepted-report p q =
-        let h = answers-exactly d s n (Accepted p) .0 q in
-        let z = h .1 .1 in
-        subst (Reported d s) (sym (h .1 .2)) (reported (z .claims) (z .counts) (z .walks) (h .1 .0) (z .maps))
+        let z = answers-exactly d s n (Accepted p) .0 q in
+        subst (Reported d s) (sym (z .told)) (reported (z .claims) (z .counts) (z .walks) (z .free) (z .maps))
       where
         reported : (c : List ℕ) (m : Counts) → walkOf d s ≡ done c m → (f : ℕ) → bitsOf d s (pageOf d s) c ≡ Right f → Reported d s (reportOf m f)
         reported c m e f b =

@@ -1,21 +1,21 @@
 -- An audit's answer taken apart, test by test: each answer is given exactly then (`answers-exactly`). Assumes nothing.
-use Prim.Native.Nat.{ℕ, _≤_, _<_}
-use mathlib.Core.Path.{_≡_, refl, sym, ap, _∙_, subst}
-use mathlib.Core.Logic.{_≢_, _⊎_, _↔_, inl, inr}
+use Prim.Native.Nat.{ℕ}
+use mathlib.Core.Path.{_≡_, refl, sym, ap, ap₂, _∙_, subst}
+use mathlib.Core.Logic.{_↔_}
 use mathlib.Core.Bool.{Bool, true, false}
 use mathlib.Core.List.{List}
 use lib.Dec.{eqb, ltb}
 use lib.ListN.{length}
 use borrow.Author.Tests.{ltb-true, ltb-false, eqb-true, eqb-false, lt-ltb, le-ltb, eq-eqb, ne-eqb}
 use Rattle.answers.specs.Tests.{pick}
-use Rattle.answers.specs.Refusals.{refusal}
-use Rattle.answers.specs.declared.Refusal.{Refusal}
 use Rattle.words.specs.Word.{wordAt}
 use Rattle.reach.specs.Walk.{Outcome, done, refused, Accepted as Through}
 use Rattle.volume.specs.declared.disk.Disk.{Disk}
 use Rattle.volume.specs.Disks.{imageBytes, claimBytes, tagOf}
 use Rattle.walk.specs.declared.Counts.{Counts}
 use Rattle.walk.specs.Nodes.{walkOf}
+use Rattle.walk.proofs.Accepts.{accepted-lawful}
+use Rattle.walk.proofs.Reports.{walked-report}
 use Rattle.audit.specs.declared.bitmap.Mapped.{Mapped}
 use Rattle.audit.specs.declared.bitmap.Mapped.the-variants.{Right, Wrong}
 use Rattle.audit.specs.declared.audit.Report.{Report}
@@ -23,85 +23,77 @@ use Rattle.audit.specs.declared.audit.Audited.{Audited}
 use Rattle.audit.specs.declared.audit.Audited.the-variants.{Accepted, Refused}
 use Rattle.audit.specs.Bits.{bitsOf}
 use Rattle.audit.specs.Audits.{refuse, reportOf, mapped, walked, auditOf}
-use Rattle.audit.specs.Verdicts.{pageOf, Opened}
+use Rattle.audit.specs.Verdicts.{pageOf, Opened, Test, size, area, tag, walk, bitmap, testOf, Says}
+use Rattle.audit.proofs.Bitmaps.{bits-wrong}
+use Rattle.audit.proofs.Numbers.{Numbered, numbered, walk-number, by-walk}
 
-module _ (d : Disk) (s : List ℕ) where
-  -- a walk that is through has claims and counts
-  pub through : Through (walkOf d s) → (c : List ℕ) × (m : Counts) × (walkOf d s ≡ done c m)
-  through h = go (walkOf d s) refl h
-    where
-      go : (o : Outcome Counts) → walkOf d s ≡ o → Through o → (c : List ℕ) × (m : Counts) × (walkOf d s ≡ done c m)
-      go (done c m) e h = (c, m, e)
-      go (refused v k) e h = absurd h
+-- a walk that is through has claims and counts
+pub through : (d : Disk) (s : List ℕ) → Through (walkOf d s) → (c : List ℕ) × (m : Counts) × (walkOf d s ≡ done c m)
+through d s h = go (walkOf d s) refl h
+  where
+    go : (o : Outcome Counts) → walkOf d s ≡ o → Through o → (c : List ℕ) × (m : Counts) × (walkOf d s ≡ done c m)
+    go (done c m) e h = (c, m, e)
+    go (refused v k) e h = absurd h
 
-  -- the claims and the counts of a walk that is through, and the bitmap's answer
-  pub record Ends (m : Mapped) : Type 0 where
+module _ (d : Disk) (s : List ℕ) (n : ℕ) where
+  -- all tests pass
+  pub record Passed (p : Report) : Type 0 where
+    pub opened : Opened d s n
     pub claims : List ℕ
     pub counts : Counts
+    pub free : ℕ
     pub walks : walkOf d s ≡ done claims counts
-    pub maps : bitsOf d s (pageOf d s) claims ≡ m
+    pub maps : bitsOf d s (pageOf d s) claims ≡ Right free
+    pub told : p ≡ reportOf counts free
 
-  -- the walk and the bitmap
-  abbrev pub Walks : Audited → Type 0
-  Walks (Accepted p) = (f : ℕ) × (e : Ends (Right f)) × (p ≡ reportOf (e .counts) f)
-  Walks (Refused x) = (walkOf d s ≡ refused (x .number) (x .place)) ⊎ ((x .number ≡ 17) × Ends (Wrong (x .place)))
+  abbrev pub Answers : Audited → Type 0
+  Answers (Accepted p) = Passed p
+  Answers (Refused x) = Says d s n (x .number) (x .place) (testOf (x .number))
 
-  walks : Walks (walked d s (walkOf d s))
-  walks = go (walkOf d s) refl
+  -- ---- what the answer says
+
+  walked-says : Opened d s n → Answers (walked d s (walkOf d s))
+  unfolding pick
+  walked-says o = go (walkOf d s) refl
     where
-      map : (c : List ℕ) (n : Counts) → walkOf d s ≡ done c n → (m : Mapped) → bitsOf d s (pageOf d s) c ≡ m → Walks (mapped n m)
-      map c n e (Right f) b = (f, record { claims = c; counts = n; walks = e; maps = b }, refl)
-      map c n e (Wrong k) b = inr (refl, record { claims = c; counts = n; walks = e; maps = b })
+      says : (c : List ℕ) (m : Counts) → walkOf d s ≡ done c m → (b : Mapped) → bitsOf d s (pageOf d s) c ≡ b → Answers (mapped m b)
+      says c m e (Right f) b = record { opened = o; claims = c; counts = m; free = f; walks = e; maps = b; told = refl }
+      says c m e (Wrong k) b = (o, accepted-lawful d s .0 (subst Through (sym e) tt), bits-wrong d s c m (walked-report d s c m e) k .0 b)
 
-      go : (o : Outcome Counts) → walkOf d s ≡ o → Walks (walked d s o)
-      go (done c n) e = map c n e (bitsOf d s (pageOf d s) c) refl
-      go (refused v k) e = inl e
+      go : (u : Outcome Counts) → walkOf d s ≡ u → Answers (walked d s u)
+      go (done c m) e = says c m e (bitsOf d s (pageOf d s) c) refl
+      go (refused v k) e = let l = walk-number d s v k e in rw (by-walk v (l .0) (l .1)) (o, e)
 
-  -- the tests before them too, for a claim area of n bytes
-  abbrev pub Stops : ℕ → Refusal → Type 0
-  Stops n x =
-      ((x ≡ refusal 1 0) × (length s ≢ imageBytes d))
-      ⊎ ((x ≡ refusal 2 0) × (length s ≡ imageBytes d) × (n < claimBytes d))
-      ⊎ ((x ≡ refusal 3 0) × (length s ≡ imageBytes d) × (claimBytes d ≤ n) × (wordAt s 0 ≢ tagOf d))
-      ⊎ (Opened d s n × Walks (Refused x))
-
-  abbrev pub Answers : ℕ → Audited → Type 0
-  Answers n (Accepted p) = Opened d s n × Walks (Accepted p)
-  Answers n (Refused x) = Stops n x
-
-  opened : (n : ℕ) (r : Audited) → Opened d s n → Walks r → Answers n r
-  opened n (Accepted p) o w = (o, w)
-  opened n (Refused x) o w = inr (inr (inr (o, w)))
-
-  answers : (n : ℕ) → Answers n (auditOf d s n)
+  answers : Answers (auditOf d s n)
   unfolding auditOf pick
-  answers n = go (eqb (length s) (imageBytes d)) refl (ltb n (claimBytes d)) refl (eqb (wordAt s 0) (tagOf d)) refl
+  answers = go (eqb (length s) (imageBytes d)) refl (ltb n (claimBytes d)) refl (eqb (wordAt s 0) (tagOf d)) refl
     where
       go : (a : Bool) → eqb (length s) (imageBytes d) ≡ a → (b : Bool) → ltb n (claimBytes d) ≡ b → (c : Bool) → eqb (wordAt s 0) (tagOf d) ≡ c
-          → Answers n (pick a (pick b (refuse 2 0) (pick c (walked d s (walkOf d s)) (refuse 3 0))) (refuse 1 0))
-      go false p b q c r = inl (refl, eqb-false _ _ p)
-      go true p true q c r = inr (inl (refl, eqb-true _ _ p, ltb-true _ _ q))
-      go true p false q false r = inr (inr (inl (refl, eqb-true _ _ p, ltb-false _ _ q, eqb-false _ _ r)))
-      go true p false q true r = opened n (walked d s (walkOf d s)) (record { long = eqb-true _ _ p; room = ltb-false _ _ q; tag = eqb-true _ _ r }) walks
+          → Answers (pick a (pick b (refuse 2 0) (pick c (walked d s (walkOf d s)) (refuse 3 0))) (refuse 1 0))
+      go false p b q c r = (refl, eqb-false _ _ p)
+      go true p true q c r = (refl, eqb-true _ _ p, ltb-true _ _ q)
+      go true p false q false r = (refl, eqb-true _ _ p, ltb-false _ _ q, eqb-false _ _ r)
+      go true p false q true r = walked-says (record { long = eqb-true _ _ p; room = ltb-false _ _ q; tag = eqb-true _ _ r })
 
-  -- ---- and put together again
+  -- ---- and what makes it
 
-  module _ (n : ℕ) where
-    opens : Opened d s n → auditOf d s n ≡ walked d s (walkOf d s)
-    unfolding auditOf pick
-    opens o = rw (eq-eqb (length s) (imageBytes d) (o .long), le-ltb n (claimBytes d) (o .room), eq-eqb (wordAt s 0) (tagOf d) (o .tag))
+  opens : Opened d s n → (o : Outcome Counts) → walkOf d s ≡ o → auditOf d s n ≡ walked d s o
+  unfolding auditOf pick
+  opens h o e = rw (eq-eqb (length s) (imageBytes d) (h .long), le-ltb n (claimBytes d) (h .room), eq-eqb (wordAt s 0) (tagOf d) (h .tag), e)
 
-    ends : (m : Mapped) (e : Ends m) → walked d s (walkOf d s) ≡ mapped (e .counts) m
-    ends m e = ap (walked d s) (e .walks) ∙ ap (mapped (e .counts)) (e .maps)
+  refuses : (v k : ℕ) (t : Test) → Numbered v t → Says d s n v k t → auditOf d s n ≡ refuse v k
+  unfolding auditOf pick
+  refuses v k size e (q, l) = rw (ne-eqb (length s) (imageBytes d) l) (ap₂ refuse (sym e) (sym q))
+  refuses v k area e (q, l, h) = rw (eq-eqb (length s) (imageBytes d) l, lt-ltb n (claimBytes d) h) (ap₂ refuse (sym e) (sym q))
+  refuses v k tag e (q, l, h, t) = rw (eq-eqb (length s) (imageBytes d) l, le-ltb n (claimBytes d) h, ne-eqb (wordAt s 0) (tagOf d) t) (ap₂ refuse (sym e) (sym q))
+  refuses v k walk e (o, w) = opens o (refused v k) w
+  refuses v k bitmap e (o, h, w) =
+      let t = through d s (accepted-lawful d s .1 h) in
+      opens o (done (t .0) (t .1)) (t .2) ∙ ap (mapped (t .1)) (bits-wrong d s (t .0) (t .1) (walked-report d s (t .0) (t .1) (t .2)) k .1 w) ∙ ap (λ (u : ℕ). refuse u k) (sym e)
 
-    back : (r : Audited) → Answers n r → auditOf d s n ≡ r
-    unfolding auditOf pick
-    back (Accepted p) (o, (f, e, q)) = opens o ∙ ends (Right f) e ∙ ap Accepted (sym q)
-    back (Refused x) (inl (q, l)) = rw (ne-eqb (length s) (imageBytes d) l) (ap Refused (sym q))
-    back (Refused x) (inr (inl (q, l, h))) = rw (eq-eqb (length s) (imageBytes d) l, lt-ltb n (claimBytes d) h) (ap Refused (sym q))
-    back (Refused x) (inr (inr (inl (q, l, h, t)))) = rw (eq-eqb (length s) (imageBytes d) l, le-ltb n (claimBytes d) h, ne-eqb (wordAt s 0) (tagOf d) t) (ap Refused (sym q))
-    back (Refused x) (inr (inr (inr (o, inl e)))) = opens o ∙ ap (walked d s) e
-    back (Refused x) (inr (inr (inr (o, inr (q, e))))) = opens o ∙ ends (Wrong (x .place)) e ∙ ap (λ (v : ℕ). refuse v (x .place)) (sym q)
+  back : (r : Audited) → Answers r → auditOf d s n ≡ r
+  back (Accepted p) h = opens (h .opened) (done (h .claims) (h .counts)) (h .walks) ∙ ap (mapped (h .counts)) (h .maps) ∙ ap Accepted (sym (h .told))
+  back (Refused x) h = refuses (x .number) (x .place) (testOf (x .number)) (numbered (x .number)) h
 
-    pub answers-exactly : (r : Audited) → (auditOf d s n ≡ r) ↔ Answers n r
-    answers-exactly r = ((λ e. subst (Answers n) e (answers n)), back r)
+  pub answers-exactly : (r : Audited) → (auditOf d s n ≡ r) ↔ Answers r
+  answers-exactly r = ((λ e. subst Answers e answers), back r)

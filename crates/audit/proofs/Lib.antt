@@ -13,11 +13,11 @@ pub mod Mapping
 pub mod Auditing
 -- the bits are right, or there is a lowest that is wrong
 pub mod Bitmaps
--- an answer taken apart
-pub mod Answers
--- what an accepted audit says: `accepted-exactly`, `accepted-claims`, `accepted-report`
-pub mod Accepting
--- the walk's numbers are 4 to 16
+-- the numbers of refusals
 pub mod Numbers
--- what a refused audit says: `refused-exactly`, and each number by itself
+-- an answer taken apart, test by test
+pub mod Answers
+-- what an accepted audit says: `accepted-exactly`, `accepted-claims`, `accepted-report`; and `audit-determined`
+pub mod Accepting
+-- what a refused audit says: `refused-exactly`, each number by itself, and `refused-number`
 pub mod Refusing

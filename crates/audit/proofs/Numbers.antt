@@ -1,11 +1,12 @@
--- The theorem `walk-number`: the walk refuses with the numbers 4 to 16 only. Assumes nothing.
+-- The numbers of refusals: those of the walk are 4 to 16 (`walk-number`), and each test knows its own (`numbered`, `by-walk`). Assumes nothing.
 use Prim.Native.Nat.{ℕ, zero, suc, _≤_, _<_}
 use mathlib.Core.Path.{_≡_, refl, subst}
 use mathlib.Core.Logic.{_≢_, _⊎_, inl, inr}
 use mathlib.Core.Bool.{Bool, true, false}
 use mathlib.Core.List.{List}
 use native.Mathlib.Omega.{arith}
-use lib.Dec.{T, leb, leb→le}
+use lib.Dec.{T, eqb, leb, leb→le}
+use borrow.Author.Tests.{eqb-true, ne-eqb}
 use Rattle.answers.specs.Tests.{pick, must, never, first}
 use Rattle.reach.specs.Walk.{refused}
 use Rattle.reach.specs.Law.{Twice}
@@ -14,6 +15,7 @@ use Rattle.volume.specs.Disks.{firstKey}
 use Rattle.volume.specs.Rules.{rootFault, mapFault, bitmapFault, entryFault, fileFault, listFault, dataFault}
 use Rattle.walk.specs.Nodes.{Node, root, bitmap, entry, list, datum, hangsFault, faultOf, graph, walkOf}
 use Rattle.walk.proofs.Refuses.{refused-why}
+use Rattle.audit.specs.Verdicts.{Test, size, area, tag, walk, bitmap as map, testOf}
 
 -- what a list of the walk's tests gives
 record Given (v : ℕ) : Type 0 where
@@ -96,3 +98,29 @@ module _ (d : Disk) (s : List ℕ) where
       go n (inl h) = let z = h .0 in (omega arith, omega arith)
       go n (inr (inl h)) = let z = h .0 in (omega arith, omega arith)
       go n (inr (inr h)) = subst Given (h .1) (fault-given n) .bounds (h .0)
+
+-- ---- a test's number
+
+-- what the test tells of the number
+abbrev pub Numbered : ℕ → Test → Type 0
+Numbered v size = v ≡ 1
+Numbered v area = v ≡ 2
+Numbered v tag = v ≡ 3
+Numbered v walk = Unit {0}
+Numbered v map = v ≡ 17
+
+module _ (v : ℕ) where
+  pub numbered : Numbered v (testOf v)
+  unfolding pick
+  numbered = go (eqb v 1) refl (eqb v 2) refl (eqb v 3) refl (eqb v 17) refl
+    where
+      go : (a : Bool) → eqb v 1 ≡ a → (b : Bool) → eqb v 2 ≡ b → (c : Bool) → eqb v 3 ≡ c → (e : Bool) → eqb v 17 ≡ e → Numbered v (pick a size (pick b area (pick c tag (pick e map walk))))
+      go true p b q c r e w = eqb-true v 1 p
+      go false p true q c r e w = eqb-true v 2 q
+      go false p false q true r e w = eqb-true v 3 r
+      go false p false q false r true w = eqb-true v 17 w
+      go false p false q false r false w = tt
+
+  pub by-walk : 4 ≤ v → v ≤ 16 → testOf v ≡ walk
+  unfolding pick
+  by-walk l h = rw (ne-eqb v 1 (λ e. omega arith), ne-eqb v 2 (λ e. omega arith), ne-eqb v 3 (λ e. omega arith), ne-eqb v 17 (λ e. omega arith))
