@@ -23,7 +23,7 @@ use Rattle.audit.specs.declared.audit.Audited.{Audited}
 use Rattle.audit.specs.declared.audit.Audited.the-variants.{Accepted, Refused}
 use Rattle.audit.specs.Bits.{bitsOf}
 use Rattle.audit.specs.Audits.{refuse, reportOf, mapped, walked, auditOf}
-use Rattle.audit.specs.Verdicts.{pageOf, Opened, Test, size, area, tag, walk, bitmap, testOf, Says}
+use Rattle.audit.specs.Verdicts.{pageOf, Opened, Test, size, area, tag, walk, bits, testOf, Says}
 use Rattle.audit.proofs.Bitmaps.{bits-wrong}
 use Rattle.audit.proofs.Numbers.{Numbered, numbered, walk-number, by-walk}
 
@@ -87,7 +87,7 @@ module _ (d : Disk) (s : List ℕ) (n : ℕ) where
   refuses v k area e (q, l, h) = rw (eq-eqb (length s) (imageBytes d) l, lt-ltb n (claimBytes d) h) (ap₂ refuse (sym e) (sym q))
   refuses v k tag e (q, l, h, t) = rw (eq-eqb (length s) (imageBytes d) l, le-ltb n (claimBytes d) h, ne-eqb (wordAt s 0) (tagOf d) t) (ap₂ refuse (sym e) (sym q))
   refuses v k walk e (o, w) = opens o (refused v k) w
-  refuses v k bitmap e (o, h, w) =
+  refuses v k bits e (o, h, w) =
       let t = through d s (accepted-lawful d s .1 h) in
       opens o (done (t .0) (t .1)) (t .2) ∙ ap (mapped (t .1)) (bits-wrong d s (t .0) (t .1) (walked-report d s (t .0) (t .1) (t .2)) k .1 w) ∙ ap (λ (u : ℕ). refuse u k) (sym e)
 

@@ -1,5 +1,5 @@
--- The bitmap against the claims: the bits of a range are right, or there is a lowest that is wrong (`bits-say`); then the same said of what
--- is reached (`bits-right`, `bits-wrong`). Assumes nothing.
+-- The bitmap against the claims: the bits of a range are right, or there is a lowest that is wrong (`bits-say`); the same said of what is
+-- reached (`bits-right`, `bits-wrong`); and how many are free (`count-free`). Assumes nothing.
 use Prim.Native.Nat.{ℕ, zero, suc, _+_, _≤_, _<_}
 use mathlib.Core.Path.{_≡_, refl, sym, ap, _∙_, subst}
 use mathlib.Core.Logic.{_⊎_, _↔_, inl, inr}

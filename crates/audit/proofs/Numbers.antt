@@ -1,4 +1,4 @@
--- The numbers of refusals: those of the walk are 4 to 16 (`walk-number`), and each test knows its own (`numbered`, `by-walk`). Assumes nothing.
+-- The numbers of refusals: the walk's are 4 to 16 (`walk-number`), and each test knows its own (`numbered`, `by-walk`). Assumes nothing.
 use Prim.Native.Nat.{ℕ, zero, suc, _≤_, _<_}
 use mathlib.Core.Path.{_≡_, refl, subst}
 use mathlib.Core.Logic.{_≢_, _⊎_, inl, inr}
@@ -15,7 +15,7 @@ use Rattle.volume.specs.Disks.{firstKey}
 use Rattle.volume.specs.Rules.{rootFault, mapFault, bitmapFault, entryFault, fileFault, listFault, dataFault}
 use Rattle.walk.specs.Nodes.{Node, root, bitmap, entry, list, datum, hangsFault, faultOf, graph, walkOf}
 use Rattle.walk.proofs.Refuses.{refused-why}
-use Rattle.audit.specs.Verdicts.{Test, size, area, tag, walk, bitmap as map, testOf}
+use Rattle.audit.specs.Verdicts.{Test, size, area, tag, walk, bits, testOf}
 
 -- what a list of the walk's tests gives
 record Given (v : ℕ) : Type 0 where
@@ -107,14 +107,14 @@ Numbered v size = v ≡ 1
 Numbered v area = v ≡ 2
 Numbered v tag = v ≡ 3
 Numbered v walk = Unit {0}
-Numbered v map = v ≡ 17
+Numbered v bits = v ≡ 17
 
 module _ (v : ℕ) where
   pub numbered : Numbered v (testOf v)
   unfolding pick
   numbered = go (eqb v 1) refl (eqb v 2) refl (eqb v 3) refl (eqb v 17) refl
     where
-      go : (a : Bool) → eqb v 1 ≡ a → (b : Bool) → eqb v 2 ≡ b → (c : Bool) → eqb v 3 ≡ c → (e : Bool) → eqb v 17 ≡ e → Numbered v (pick a size (pick b area (pick c tag (pick e map walk))))
+      go : (a : Bool) → eqb v 1 ≡ a → (b : Bool) → eqb v 2 ≡ b → (c : Bool) → eqb v 3 ≡ c → (e : Bool) → eqb v 17 ≡ e → Numbered v (pick a size (pick b area (pick c tag (pick e bits walk))))
       go true p b q c r e w = eqb-true v 1 p
       go false p true q c r e w = eqb-true v 2 q
       go false p false q true r e w = eqb-true v 3 r

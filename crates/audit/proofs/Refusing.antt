@@ -15,7 +15,7 @@ use Rattle.walk.specs.Nodes.{walkOf}
 use Rattle.walk.specs.Reports.{Refused as RefusedAt}
 use Rattle.walk.proofs.Refuses.{refused-why}
 use Rattle.audit.specs.Audits.{refuse, auditOf}
-use Rattle.audit.specs.Verdicts.{FirstWrong, Opened, Sound, Test, size, area, tag, walk, bitmap, testOf, Says}
+use Rattle.audit.specs.Verdicts.{FirstWrong, Opened, Sound, Test, size, area, tag, walk, bits, testOf, Says}
 use Rattle.audit.proofs.Answers.{answers-exactly}
 use Rattle.audit.proofs.Numbers.{Numbered, walk-number, numbered, by-walk}
 
@@ -31,7 +31,7 @@ module _ (d : Disk) (s : List ℕ) (n v k : ℕ) where
       go area e c = (omega arith, omega arith)
       go tag e c = (omega arith, omega arith)
       go walk e c = let l = walk-number d s v k (c .1) in (omega arith, omega arith)
-      go bitmap e c = (omega arith, omega arith)
+      go bits e c = (omega arith, omega arith)
 
   -- 4 to 16 are the walk's, and have a cause
   module _ (l : 4 ≤ v) (h : v ≤ 16) where

@@ -45,7 +45,7 @@ pub record Reported (d : Disk) (s : List ℕ) (p : Report) : Type 0 where
   pub lists : p .lists ≡ count isList reached
   pub blocks : p .blocks ≡ count isData reached
   pub used : p .used ≡ length reached
-  -- the other blocks but the boot blocks
+  -- the free blocks: together these are all but the boot blocks
   pub free : p .free ≡ freeFrom s (pageOf d s) firstKey (bitSpan d)
   pub whole : p .used + p .free ≡ bitSpan d
 
@@ -83,15 +83,15 @@ Sound d s = Fine (graph d s) × Owned (references d s)
 
 -- the five tests, in order, and which of them refuses with the number v
 pub data Test : Type 0 where
-  size area tag walk bitmap : Test
+  size area tag walk bits : Test
 
 abbrev pub testOf : ℕ → Test
-testOf v = pick (eqb v 1) size (pick (eqb v 2) area (pick (eqb v 3) tag (pick (eqb v 17) bitmap walk)))
+testOf v = pick (eqb v 1) size (pick (eqb v 2) area (pick (eqb v 3) tag (pick (eqb v 17) bits walk)))
 
--- of an image s and a claim area of n bytes: what it says that a test refuses with v at k. `refused-why` of crate `walk` says more of a walk
+-- of an image s and a claim area of n bytes: what it says that a test refuses with v at k. Of the walk, `Refused` of crate `walk` says more
 abbrev pub Says : Disk → List ℕ → ℕ → ℕ → ℕ → Test → Type 0
 Says d s n v k size = (k ≡ 0) × (length s ≢ imageBytes d)
 Says d s n v k area = (k ≡ 0) × (length s ≡ imageBytes d) × (n < claimBytes d)
 Says d s n v k tag = (k ≡ 0) × (length s ≡ imageBytes d) × (claimBytes d ≤ n) × (wordAt s 0 ≢ tagOf d)
 Says d s n v k walk = Opened d s n × (walkOf d s ≡ refused v k)
-Says d s n v k bitmap = Opened d s n × Sound d s × FirstWrong d s k
+Says d s n v k bits = Opened d s n × Sound d s × FirstWrong d s k
