@@ -37,5 +37,6 @@ module _ (d : Disk) (s : List ℕ) (h k m c : ℕ) where
       record {
         key = i;
         more = λ z. omega (arith, some-more s k (blocksOf d s h - m) l z);
+        ends = λ z. omega (arith, l .more .0 z);
         last = λ z. f 71 (omega (arith, some-more s k (blocksOf d s h - m) l z));
       }

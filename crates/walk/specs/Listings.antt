@@ -1,5 +1,6 @@
 -- A block that lists data blocks of a file, as code passes it on: what it may take for granted of it, its keys, and the link behind them.
 use Prim.Native.Nat.{ℕ, _+_, _-_, _≤_, _<_}
+use mathlib.Core.Path.{_≡_}
 use mathlib.Core.Logic.{_≢_}
 use mathlib.Core.List.{List}
 use Rattle.volume.specs.declared.disk.Disk.{Disk}
@@ -29,4 +30,5 @@ nextList s h k m = listing (wordOf s k 126) h (m + slots) (keyWord s k 71)
 pub record Listed (d : Disk) (s : List ℕ) (h k m : ℕ) : Type 0 where
   pub key : k < d .blocks
   pub more : wordOf s k 126 ≢ 0 → m + slots < blocksOf d s h
+  pub ends : wordOf s k 126 ≡ 0 → blocksOf d s h ≤ m + slots
   pub last : wordOf s k 126 ≢ 0 → keyWord s k 71 < d .blocks

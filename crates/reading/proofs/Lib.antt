@@ -1,0 +1,3 @@
+-- Laws that the code of reading is proved by, and what a read says of a file.
+-- the tests of a file's blocks
+pub mod Testing

@@ -1,0 +1,2 @@
+// Reading a file's bytes.
+pub mod blocks;
