@@ -1,3 +1,5 @@
 -- Laws that the code of reading is proved by, and what a read says of a file.
 -- the tests of a file's blocks
 pub mod Testing
+-- what it says of a file that its blocks pass
+pub mod Tested

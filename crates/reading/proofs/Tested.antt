@@ -1,0 +1,132 @@
+-- What it says of a file that its blocks pass their tests: it is as the law says, and its data blocks lie in the volume (`tested-file`,
+-- `tested-keys`). Assumes nothing.
+use Prim.Native.Nat.{ℕ, zero, suc, _+_, _-_, _<_}
+use mathlib.Core.Path.{_≡_, refl, sym, ap, _∙_, subst}
+use mathlib.Core.Logic.{inl, inr, _⊎_}
+use mathlib.Core.Bool.{Bool, true, false}
+use mathlib.Core.List.{List, [], _∷_, _++_}
+use native.Mathlib.Omega.{arith}
+use lib.Dec.{eqb}
+use borrow.Author.Tests.{eqb-true}
+use Rattle.answers.specs.Tests.{pick, first}
+use Rattle.answers.specs.Refusals.{refusal}
+use Rattle.answers.specs.declared.Tested.the-variants.{Passed, Failed}
+use Rattle.answers.proofs.Tests.{first-zero, must-passed}
+use Rattle.reach.specs.References.{_∈_}
+use Rattle.reach.proofs.Lists.{in-left, in-right, in-either}
+use Rattle.volume.specs.declared.disk.Disk.{Disk}
+use Rattle.volume.specs.Blocks.{slots, wordOf, keyWord}
+use Rattle.volume.specs.Files.{keysHere, listBlocks, keysDown, listsFrom, keysFrom, blocksOf, keysOf}
+use Rattle.volume.specs.Law.{Lists, File}
+use Rattle.volume.specs.Rules.{fileFault}
+use Rattle.volume.proofs.Sizes.{range-is}
+use Rattle.volume.proofs.Passes.{file-passed, list-passed, data-passed}
+use Rattle.walk.specs.Nodes.{Node, root, bitmap, entry, list, datum, before, keyNodes, keyOf, keyFault, faultOf}
+use Rattle.walk.proofs.Spreads.{Run, Spread, here, file-spreads}
+use Rattle.walk.proofs.Listed.{Sound, run-listed}
+use Rattle.walk.proofs.Links.{some-more}
+use Rattle.reading.specs.FileTests.{nodeFault, firstFault, blocksFrom, fileNodes, blocksFault}
+
+module _ (d : Disk) (s : List ℕ) where
+  abbrev Pass : List Node → Type 0
+  Pass ns = (x : Node) → x ∈ ns → nodeFault d s x ≡ 0
+
+  all-pass : (ns : List Node) → firstFault d s ns ≡ Passed → Pass ns
+  unfolding firstFault pick
+  all-pass [] e x h = absurd h
+  all-pass (n ∷ ns) e x h = go (eqb (nodeFault d s n) 0) refl e h (all-pass ns)
+    where
+      go : (b : Bool) → eqb (nodeFault d s n) 0 ≡ b → pick b (firstFault d s ns) (Failed (refusal (nodeFault d s n) (keyOf d n))) ≡ Passed → x ∈ (n ∷ ns) → (firstFault d s ns ≡ Passed → Pass ns) → nodeFault d s x ≡ 0
+      go true q e (inl a) f = rw a (eqb-true _ 0 q)
+      go true q e (inr a) f = f e x a
+      go false q e a f = let z : _≡_ {A = ℕ} 0 1 = cc in absurd (omega arith)
+
+  inside : (x : Node) → nodeFault d s x ≡ 0 → keyOf d x < d .blocks
+  inside x e = range-is d (keyOf d x) (must-passed _ 4 (first-zero (keyFault d (keyOf d x)) _ e .0)) .1
+
+  own : (x : Node) → nodeFault d s x ≡ 0 → faultOf d s x ≡ 0
+  own x e = first-zero (keyFault d (keyOf d x)) _ e .1
+
+  -- a data block that passes is as the law says
+  sound : (x : Node) → faultOf d s x ≡ 0 → Sound d s x
+  unfolding faultOf
+  sound root e = tt
+  sound (bitmap k) e = tt
+  sound (entry k t i p) e = tt
+  sound (list k h m c) e = tt
+  sound (datum k h n c) e = let p = data-passed d s k h n (wordOf s c 4) e in (p .1, p .2 .0, p .2 .1)
+
+  module _ (h : ℕ) where
+    abbrev next : ℕ → ℕ → Node
+    next b m = list (wordOf s b 126) h (m + slots) (keyWord s b 71)
+
+    keysPart : (q b m c : ℕ) → Pass (blocksFrom d s h b m c q) → Pass (keyNodes s h b m c 0 (keysHere (blocksOf d s h - m)))
+    unfolding blocksFrom
+    keysPart zero b m c f = f
+    keysPart (suc q) b m c f = λ x a. f x (in-left x (keyNodes s h b m c 0 (keysHere (blocksOf d s h - m))) (next b m ∷ blocksFrom d s h (wordOf s b 126) (m + slots) (keyWord s b 71) q) a)
+
+    runs : (q b m c : ℕ) → Pass (blocksFrom d s h b m c q) → Run d s h m c (keysDown s b 0 (here d s h m))
+    runs q b m c f = run-listed d s h b m c .1 (λ x a. sound x (own x (keysPart q b m c f x a)))
+
+    rest : (q b m c : ℕ) → Pass (blocksFrom d s h b m c (suc q)) → Pass (next b m ∷ blocksFrom d s h (wordOf s b 126) (m + slots) (keyWord s b 71) q)
+    unfolding blocksFrom
+    rest q b m c f x a = f x (in-right x (keyNodes s h b m c 0 (keysHere (blocksOf d s h - m))) _ a)
+
+    spread-tested : (q b m c : ℕ) → q ≡ listBlocks (blocksOf d s h - m) → Lists s b (blocksOf d s h - m) → Pass (blocksFrom d s h b m c q) → Spread d s h q b m c
+    unfolding faultOf
+    spread-tested zero b m c e l f = (l, runs zero b m c f)
+    spread-tested (suc q) b m c e l f =
+        let g = rest q b m c f in
+        let p = list-passed s (wordOf s b 126) h _ (own (next b m) (g (next b m) (inl refl))) in
+        let n : here d s h m ≡ slots = omega (arith, e) in
+        let t = spread-tested q (wordOf s b 126) (m + slots) (keyWord s b 71) (omega (arith, e)) (p .2) (λ x a. g x (inr a)) in
+        (l, runs (suc q) b m c f, p .1, rw n t)
+
+    -- ---- the keys
+
+    down-inside : (b m c i n : ℕ) → Pass (keyNodes s h b m c i n) → (k : ℕ) → k ∈ keysDown s b i n → k < d .blocks
+    unfolding keyNodes keysDown
+    down-inside b m c i zero f k a = absurd a
+    down-inside b m c i (suc n) f k (inl a) = rw a (inside (datum (keyWord s b i) h (suc (m + i)) (before s b c i)) (f _ (inl refl)))
+    down-inside b m c i (suc n) f k (inr a) = down-inside b m c (suc i) n (λ x p. f x (inr p)) k a
+
+    -- those of one block, and those behind
+    keys-split : (q b m c r k : ℕ) → r ≡ blocksOf d s h - m → Pass (blocksFrom d s h b m c q) → (k ∈ keysFrom s (r - slots) (listsFrom s b q) → k < d .blocks) → k ∈ keysFrom s r (b ∷ listsFrom s b q) → k < d .blocks
+    unfolding keysFrom
+    keys-split q b m c r k e f g a = go (in-either k (keysDown s b 0 (keysHere r)) _ a)
+      where
+        go : (k ∈ keysDown s b 0 (keysHere r)) ⊎ (k ∈ keysFrom s (r - slots) (listsFrom s b q)) → k < d .blocks
+        go (inl p) = down-inside b m c 0 (keysHere (blocksOf d s h - m)) (keysPart q b m c f) k (rw e at p)
+        go (inr p) = g p
+
+    keys-inside : (q b m c r k : ℕ) → r ≡ blocksOf d s h - m → Pass (blocksFrom d s h b m c q) → k ∈ keysFrom s r (b ∷ listsFrom s b q) → k < d .blocks
+    unfolding keysFrom listsFrom
+    keys-inside zero b m c r k e f a = keys-split zero b m c r k e f (λ p. absurd p) a
+    keys-inside (suc q) b m c r k e f a = keys-split (suc q) b m c r k e f (λ p. keys-inside q (wordOf s b 126) (m + slots) (keyWord s b 71) (r - slots) k (omega arith) (λ x y. rest q b m c f x (inr y)) p) a
+
+    -- ---- the whole file
+
+    module _ (e : blocksFault d s h ≡ Passed) where
+      header-passes : fileFault d s h ≡ 0
+      unfolding blocksFault pick
+      header-passes = go (eqb (fileFault d s h) 0) refl e
+        where
+          go : (b : Bool) → eqb (fileFault d s h) 0 ≡ b → pick b (firstFault d s (fileNodes d s h)) (Failed (refusal (fileFault d s h) h)) ≡ Passed → fileFault d s h ≡ 0
+          go true q x = eqb-true _ 0 q
+          go false q x = let z : _≡_ {A = ℕ} 0 1 = cc in absurd (omega arith)
+
+      blocks-pass : Pass (fileNodes d s h)
+      unfolding blocksFault pick
+      blocks-pass = all-pass (fileNodes d s h) (rw header-passes at e)
+
+      nothing-done : blocksOf d s h ≡ blocksOf d s h - 0
+      nothing-done = omega arith
+
+      -- a file that passes is as the law says
+      pub tested-file : File d s h
+      tested-file =
+          let p = file-passed d s h header-passes in
+          file-spreads d s h .1 (p .0, p .2, spread-tested (listBlocks (blocksOf d s h)) h 0 h (ap listBlocks nothing-done) (subst (Lists s h) nothing-done (p .1)) blocks-pass)
+
+      pub tested-keys : (k : ℕ) → k ∈ keysOf d s h → k < d .blocks
+      tested-keys k a = keys-inside (listBlocks (blocksOf d s h)) h 0 h (blocksOf d s h) k nothing-done blocks-pass a
