@@ -13,3 +13,7 @@ pub mod Trails
 pub mod Deciding
 -- each number exactly then
 pub mod Refusing
+-- `chain-few`: no chain of a volume is longer than the limit
+pub mod Rooms
+-- `volume-answers`: on a volume a lookup gives an answer, 18, 19 or 20
+pub mod OnVolumes

@@ -1,0 +1,99 @@
+-- On a volume every entry of a chain passes its tests, so that a lookup gives an answer, 18, 19 or 20 (`volume-answers`). Assumes nothing.
+use Prim.Native.Nat.{ℕ, _≤_, _<_}
+use mathlib.Core.Path.{_≡_, refl, sym, _∙_}
+use mathlib.Core.Logic.{_≢_, _⊎_, inl, inr}
+use mathlib.Core.Bool.{true}
+use mathlib.Core.List.{List}
+use native.Mathlib.Omega.{arith}
+use borrow.Author.Tests.{lt-ltb, le-ltb}
+use Rattle.answers.specs.Tests.{pick}
+use Rattle.reach.specs.References.{Reached, top}
+use Rattle.volume.specs.declared.disk.Disk.{Disk}
+use Rattle.volume.specs.Disks.{firstKey, rootOf, inRange, chainLimit}
+use Rattle.volume.specs.Blocks.{slots, slotWord}
+use Rattle.volume.specs.Names.{slotOf}
+use Rattle.volume.specs.References.{Kind, to, references}
+use Rattle.volume.specs.Law.{chainKey, Hangs, Directory, Volume}
+use Rattle.volume.specs.Rules.{entryFault}
+use Rattle.volume.proofs.Passes.{root-passes, entry-passes}
+use Rattle.walk.proofs.Places.{Holder, from-chain, referred}
+use Rattle.lookup.specs.Search.{placeKey}
+use Rattle.lookup.specs.Lookup.{refuse, findOf}
+use Rattle.lookup.proofs.Chains.{slot-below, key-own}
+use Rattle.lookup.proofs.Places.{Tests, First}
+use Rattle.lookup.proofs.Trails.{Trail, stay, down}
+use Rattle.lookup.proofs.Refusing.{Refuses, number-1, number-18, number-3, of-root, number-5, number-6, of-entry, number-19, number-20, Stands, refused-exactly}
+use Rattle.lookup.proofs.Rooms.{chain-few}
+
+-- a key between the boot blocks and the end is in range
+in-range : (d : Disk) (k : ℕ) → (firstKey ≤ k) × (k < d .blocks) → inRange d k ≡ true
+unfolding inRange pick
+in-range d k h = rw (le-ltb k firstKey (h .0)) (lt-ltb k (d .blocks) (h .1))
+
+module _ (d : Disk) (s : List ℕ) (v : Volume d s) where
+  pub held-by : (t : ℕ) → Holder d s t → Directory d s t
+  held-by t (inl e) = rw e (v .holds)
+  held-by t (inr o) = v .directories t (o .0) (o .1) .1
+
+  -- ---- place p of the chain of slot i of directory t
+
+  module _ (t i p : ℕ) (holder : Holder d s t) (l : i < slots) (some : chainKey s (slotWord s t i) p ≢ 0) where
+    abbrev k : ℕ
+    k = chainKey s (slotWord s t i) p
+
+    pub place-reached : Reached (references d s) (to Kind.entry (chainKey s (slotWord s t i) p))
+    place-reached = referred d s k (from-chain d s t i holder l p some)
+
+    pub place-ranged : inRange d (chainKey s (slotWord s t i) p) ≡ true
+    place-ranged = in-range d k (v .keys (to Kind.entry k) place-reached)
+
+    pub place-fine : entryFault d s (chainKey s (slotWord s t i) p) t i ≡ 0
+    place-fine =
+        let h : Hangs s t i k = record { slot = l; place = p; there = refl; some = some } in
+        let b = held-by t holder in
+        entry-passes d s k t i (record { sum = v .sums (to Kind.entry k) place-reached; entry = v .entries k place-reached; parent = b .parent i k h; link = λ e. v .directories k place-reached e .0; slot = b .slot i k h })
+
+    pub place-near : p < chainLimit d
+    place-near = chain-few d s v t i holder l p some
+
+  module _ (t : ℕ) (name : List ℕ) (holder : Holder d s t) where
+    abbrev i : ℕ
+    i = slotOf d name
+
+    low : i < slots
+    low = slot-below d name i refl
+
+    pub place-tests : (p : ℕ) → placeKey d s t name p ≢ 0 → Tests d s t name p
+    place-tests p some = record { some = some; fine = sym (key-own d s t i p (placeKey d s t name p) true (sym (place-ranged t i p holder low some)) refl (chainLimit d) refl (place-near t i p holder low some) 0 (sym (place-fine t i p holder low some))) }
+
+    -- an entry that is found is reached
+    pub first-reached : (p : ℕ) → First d s t name p → Reached (references d s) (to Kind.entry (placeKey d s t name p))
+    first-reached p f = place-reached t i p holder low (f .tests .some)
+
+  pub trail-holder : {t k n : ℕ} {cs : List (List ℕ)} → Trail d s t cs k n → Holder d s t → Holder d s k
+  trail-holder stay h = h
+  trail-holder {t} (down {c = c} p f e r) h = trail-holder r (inr (first-reached t c h p f, e))
+
+  -- No lookup on a volume gives anything but an answer, 18, 19 or 20.
+  pub volume-answers : (path : List ℕ) (n k : ℕ) → findOf d s path ≡ refuse n k → (n ≡ 18) ⊎ (n ≡ 19) ⊎ (n ≡ 20)
+  volume-answers path n k e = go (refused-exactly d s path n k .0 e)
+    where
+      held : (h : Stands d s path k) → Holder d s (h .comes .parent)
+      held h = trail-holder (h .comes .trail) (inl refl)
+
+      some : (h : Stands d s path k) → placeKey d s (h .comes .parent) (h .comes .name) (h .place) ≢ 0
+      some h z = h .some (sym (h .key) ∙ z)
+
+      go : Refuses d s path n k → (n ≡ 18) ⊎ (n ≡ 19) ⊎ (n ≡ 20)
+      go (number-1 h a b) = absurd (h (v .long))
+      go (number-18 h f a) = inl a
+      go (number-3 h p u a b) = absurd (u (v .tag))
+      go (of-root h p u z a b) = absurd (z (sym a ∙ root-passes d s (v .sums (to Kind.root (rootOf d)) (top refl)) (v .top) .0))
+      go (number-5 h y a) =
+          let q : inRange d k ≡ true = rw (h .key) at (place-ranged (h .comes .parent) (slotOf d (h .comes .name)) (h .place) (held h) (slot-below d (h .comes .name) _ refl) (some h)) in
+          let z : _≡_ {A = ℕ} 0 1 = cc in
+          absurd (omega arith)
+      go (number-6 h y l a) = let q = place-near (h .comes .parent) (slotOf d (h .comes .name)) (h .place) (held h) (slot-below d (h .comes .name) _ refl) (some h) in absurd (omega arith)
+      go (of-entry h y l z a) = absurd (z (sym a ∙ (rw (h .key) at (place-fine (h .comes .parent) (slotOf d (h .comes .name)) (h .place) (held h) (slot-below d (h .comes .name) _ refl) (some h)))))
+      go (number-19 h a) = inr (inl a)
+      go (number-20 h a) = inr (inr a)
