@@ -17,3 +17,7 @@ pub mod Refusing
 pub mod Rooms
 -- `volume-answers`: on a volume a lookup gives an answer, 18, 19 or 20
 pub mod OnVolumes
+-- names joined by '/'
+pub mod Joins
+-- `reached-lies`, `reached-found`: every reached entry of a volume is found by its path
+pub mod Bridge

@@ -13,16 +13,18 @@ use Rattle.volume.specs.Disks.{firstKey, rootOf, inRange, chainLimit}
 use Rattle.volume.specs.Blocks.{slots, slotWord}
 use Rattle.volume.specs.Names.{slotOf}
 use Rattle.volume.specs.References.{Kind, to, references}
-use Rattle.volume.specs.Law.{chainKey, Hangs, Directory, Volume}
+use Rattle.volume.specs.Law.{chainKey, Hangs, Volume}
+use Rattle.volume.specs.Law as law
 use Rattle.volume.specs.Rules.{entryFault}
 use Rattle.volume.proofs.Passes.{root-passes, entry-passes}
 use Rattle.walk.proofs.Places.{Holder, from-chain, referred}
+use Rattle.lookup.specs.declared.find.Found.the-variants.{Directory, File}
 use Rattle.lookup.specs.Search.{placeKey}
 use Rattle.lookup.specs.Lookup.{refuse, findOf}
 use Rattle.lookup.proofs.Chains.{slot-below, key-own}
 use Rattle.lookup.proofs.Places.{Tests, First}
 use Rattle.lookup.proofs.Trails.{Trail, stay, down}
-use Rattle.lookup.proofs.Refusing.{Refuses, number-1, number-18, number-3, of-root, number-5, number-6, of-entry, number-19, number-20, Stands, refused-exactly}
+use Rattle.lookup.proofs.Refusing.{Refuses, number-1, number-18, number-3, of-root, number-5, number-6, of-entry, number-19, number-20, Stands, refused-exactly, directory-exactly, file-exactly}
 use Rattle.lookup.proofs.Rooms.{chain-few}
 
 -- a key between the boot blocks and the end is in range
@@ -31,7 +33,7 @@ unfolding inRange pick
 in-range d k h = rw (le-ltb k firstKey (h .0)) (lt-ltb k (d .blocks) (h .1))
 
 module _ (d : Disk) (s : List ℕ) (v : Volume d s) where
-  pub held-by : (t : ℕ) → Holder d s t → Directory d s t
+  pub held-by : (t : ℕ) → Holder d s t → law.Directory d s t
   held-by t (inl e) = rw e (v .holds)
   held-by t (inr o) = v .directories t (o .0) (o .1) .1
 
@@ -97,3 +99,12 @@ module _ (d : Disk) (s : List ℕ) (v : Volume d s) where
       go (of-entry h y l z a) = absurd (z (sym a ∙ (rw (h .key) at (place-fine (h .comes .parent) (slotOf d (h .comes .name)) (h .place) (held h) (slot-below d (h .comes .name) _ refl) (some h)))))
       go (number-19 h a) = inr (inl a)
       go (number-20 h a) = inr (inr a)
+
+  -- What is found on a volume is the root or a reached entry.
+  pub found-directory : (path : List ℕ) (k n : ℕ) → findOf d s path ≡ Directory k n → Holder d s k
+  found-directory path k n e = trail-holder (directory-exactly d s path k n .0 e .1) (inl refl)
+
+  pub found-file : (path : List ℕ) (k z n : ℕ) → findOf d s path ≡ File k z n → Reached (references d s) (to Kind.entry k)
+  found-file path k z n e =
+      let h = file-exactly d s path k z n .0 e in
+      rw (h .key) at (first-reached (h .comes .parent) (h .comes .name) (trail-holder (h .comes .trail) (inl refl)) (h .place) (h .found))
