@@ -16,6 +16,7 @@ use Rattle.words.specs.Word.{wordAt}
 use Rattle.volume.specs.declared.disk.Disk.{Disk}
 use Rattle.volume.specs.Disks.{Sized, floppy, imageBytes, tagOf, rootOf, chainLimit}
 use Rattle.volume.specs.Blocks.{Holds, directory}
+use Rattle.volume.specs.Names.{slotOf}
 use Rattle.volume.specs.Files.{sizeOf}
 use Rattle.volume.specs.Rules.{rootFault}
 use Rattle.lookup.specs.declared.chain.Step.{Step}
@@ -23,11 +24,11 @@ use Rattle.lookup.specs.declared.chain.Step.the-variants.{At, Ended, Fau
 use Rattle.lookup.specs.declared.find.Found.{Found}
 use Rattle.lookup.specs.declared.find.Found.the-variants.{Directory, File, Refused}
 use Rattle.lookup.specs.Paths.{split, onto, components, pathFault, FirstSlash}
-use Rattle.lookup.specs.Search.{placeKey, Searches, searchOf}
+use Rattle.lookup.specs.Search.{Searches, searchOf}
 use Rattle.lookup.specs.Lookup.{refuse, fileAt, stepped, lookupFrom, fromRoot, and, findOf, Looks}
 use Rattle.lookup.proofs.Splits.{split-more, split-end, path-components}
 use Rattle.lookup.proofs.Chains.{key-passed, range-holds}
-use Rattle.lookup.proofs.Places.{Searched, Decides, equal, over, fails, searched}
+use Rattle.lookup.proofs.Places.{first-equal-name, compared-most}
 
 -- ---- an entry that a search came to
 
@@ -36,19 +37,10 @@ pub record Came (d : Disk) (s : List ℕ) (k m : ℕ) : Type 0 where
   pub holds : length s ≡ imageBytes d → Holds s k
 
 pub came : (d : Disk) (s : List ℕ) (t : ℕ) (name : List ℕ) (step : Step) (k m : ℕ) → step ≡ searchOf d s t name → step ≡ At k m → Came d s k m
-came d s t name step k m e f = go (h .decides)
-  where
-    h : Searched d s t name 0 (searchOf d s t name)
-    h = searched d s t name
-
-    go : Decides d s t name (h .place) (searchOf d s t name) → Came d s k m
-    go (equal a b r) =
-        let p = key-passed d s t _ (h .place) _ (a .fine) in
-        let y : m ≡ h .place + 1 = cc in
-        let z : k ≡ placeKey d s t name (h .place) = cc in
-        record { few = let l = p .near in omega arith; holds = λ w. rw z (range-holds d s _ true w (sym (p .ranged)) refl) }
-    go (over a r) = let z : _≡_ {A = ℕ} 0 1 = cc in absurd (omega arith)
-    go (fails a b r) = let z : _≡_ {A = ℕ} 0 1 = cc in absurd (omega arith)
+came d s t name step k m e f =
+    let h = first-equal-name d s t name k m .0 (sym e ∙ f) in
+    let p = key-passed d s t (slotOf d name) (h .0) _ (h .1 .tests .fine) in
+    record { few = compared-most d s t name k m (sym e ∙ f); holds = λ w. rw (h .2) (range-holds d s _ true w (sym (p .ranged)) refl) }
 
 -- ---- the first component of xs ends at k, and `step` is what its search came to
 

@@ -182,6 +182,14 @@ module _ (d : Disk) (s : List ℕ) (t : ℕ) (name : List ℕ) where
       go (ended p h q) e = let z : _≡_ {A = ℕ} 0 1 = cc in absurd (omega arith)
       go (faulty p h q) e = let z : _≡_ {A = ℕ} 0 1 = cc in absurd (omega arith)
 
+  -- a component compares no more entries than a chain may have
+  pub compared-most : (k m : ℕ) → searchOf d s t name ≡ At k m → m ≤ chainLimit d
+  compared-most k m e =
+      let h = first-equal-name k m .0 e in
+      let n = key-passed d s t (slotOf d name) (h .0) _ (h .1 .tests .fine) .near in
+      let c = h .3 in
+      omega arith
+
   -- a chain that is searched through has no more entries than the limit
   pub places-few : (p : ℕ) → Others d s t name 0 p → p ≤ chainLimit d
   places-few zero o = omega arith
