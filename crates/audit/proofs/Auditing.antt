@@ -18,7 +18,7 @@ use Rattle.reach.specs.Walk.{Outcome, done, refused, audit, free, Accepted as T
 use Rattle.reach.proofs.Claims.{free-all}
 use Rattle.reach.proofs.Runs.{run-end}
 use Rattle.volume.specs.declared.disk.Disk.{Disk}
-use Rattle.volume.specs.Disks.{floppy, Sized, mostBlocks, imageBytes, claimBytes, tagOf, rootOf}
+use Rattle.volume.specs.Disks.{Sized, mostBlocks, imageBytes, claimBytes, tagOf, rootOf}
 use Rattle.volume.specs.Blocks.{slots, Holds, wordOf}
 use Rattle.volume.proofs.Sizes.{range-is}
 use Rattle.walk.specs.declared.Counts.{Counts}
@@ -172,6 +172,3 @@ module _ (d : Disk) (s X : List ℕ) (n b : ℕ) (r : Audited) (z : X ≡ replic
 
 pub all-zero : (X : List ℕ) (n : ℕ) → X ≡ replicate n 0 → length X ≡ n → X ≡ replicate (length X) 0
 all-zero X n z l = rw l z
-
-pub floppy-sized : Sized floppy
-floppy-sized = record { least = omega arith; most = omega arith }

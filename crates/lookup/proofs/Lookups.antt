@@ -14,6 +14,7 @@ use Rattle.answers.specs.declared.Tested.{Tested}
 use Rattle.answers.specs.declared.Tested.the-variants.{Passed, Failed}
 use Rattle.words.specs.Word.{wordAt}
 use Rattle.volume.specs.declared.disk.Disk.{Disk}
+use Rattle.volume.proofs.Sizes.{floppy-sized as sized}
 use Rattle.volume.specs.Disks.{Sized, floppy, imageBytes, tagOf, rootOf, chainLimit}
 use Rattle.volume.specs.Blocks.{Holds, directory}
 use Rattle.volume.specs.Names.{slotOf}
@@ -186,7 +187,7 @@ module _ (d : Disk) (s path : List ℕ) (n : ℕ) (e : n ≡ imageBytes d) where
 -- ---- the disk of today
 
 pub floppy-sized : (d : Disk) → d ≡ floppy → Sized d
-floppy-sized d e = rw e (record { least = omega arith; most = omega arith })
+floppy-sized d e = rw e sized
 
 pub on-floppy : (d : Disk) (s path : List ℕ) (r : Found) → d ≡ floppy → r ≡ findOf d s path → r ≡ findOf floppy s path
 on-floppy d s path r e f = rw e at f

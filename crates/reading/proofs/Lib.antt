@@ -1,5 +1,13 @@
--- Laws that the code of reading is proved by, and what a read says of a file.
+-- Laws that the code of `reading` is proved by, and what a read says of a file.
 -- the tests of a file's blocks
 pub mod Testing
 -- what it says of a file that its blocks pass
 pub mod Tested
+-- parts of lists
+pub mod Parts
+-- a file's keys and its bytes
+pub mod Contents
+-- the turns of copying
+pub mod Turns
+-- a read, and that outcomes are determined
+pub mod Readings

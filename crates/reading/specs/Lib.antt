@@ -1,3 +1,7 @@
--- What the contracts of `reading` cite.
+-- What the contracts of `reading` cite. To read what a read answers and leaves: Bytes, FileTests, Reads.
+-- a file's bytes, and what a read copies of them
+pub mod Bytes
 -- the tests of a file's blocks
 pub mod FileTests
+-- a read's answer, and the output after it
+pub mod Reads

@@ -1,5 +1,5 @@
 -- `audit::audit::audit` meets its contract. Assumes nothing.
-use Rattle.audit.proofs.Auditing.{floppy-sized}
+use Rattle.volume.proofs.Sizes.{floppy-sized}
 use borrow.Author.Needs.{needs}
 use Rattle.audit.proofs.audit.audit.Statement.{statement}
 use Rattle.audit.proofs.audit.audit.Tie as tie

@@ -1,0 +1,210 @@
+-- Copying, block by block: what each turn leaves to copy. Assumes nothing.
+use Prim.Native.Nat.{ℕ, zero, suc, _+_, _-_, _/_, _%_, _≤_, _<_, _^_, min}
+use mathlib.Core.Path.{_≡_, refl, sym, ap, _∙_}
+use mathlib.Core.List.{List, [], _∷_, _++_}
+use native.Mathlib.Nat.{sub-zero, mod-lt, div-le-self}
+use native.Mathlib.Omega.{arith}
+use native.Mathlib.Numerals.{add-one}
+use native.Mathlib.Decide.{decLt}
+use lib.ListN.{length, getD, take, drop, length-drop, drop-of-length-le}
+use lib.Seq.{paste, length-paste, drop-drop, drop-nil, take-nil, take-take, take-all, drop-cons}
+use Rattle.volume.specs.declared.disk.Disk.{Disk}
+use Rattle.volume.specs.Blocks.{Holds, wordOf}
+use Rattle.volume.specs.Disks.{Sized, dataBytes, imageBytes, fileLimit}
+use Rattle.volume.specs.Files.{sizeOf, keysOf}
+use Rattle.volume.proofs.Sizes.{limit-most}
+use Rattle.reading.specs.Bytes.{dataPlace, dataOf, dataIn, fileBytes, part, filledBy, Copied, Followed}
+use Rattle.reading.proofs.Parts.{drop-take, filled-more, turn-front, turn-rest}
+use Rattle.reading.proofs.Contents.{data-inside, data-some, data-long, all-none, all-first, part-long, part-there, key-inside, key-first, key-next, block-there}
+
+-- ---- the way to the block of an offset
+
+-- the key n + 1 steps behind block h
+unfoldable pub behind : List ℕ → ℕ → ℕ → ℕ
+behind s h zero = wordOf s h 4
+behind s h (suc n) = wordOf s (behind s h n) 4
+
+module _ (d : Disk) (s : List ℕ) (h o b n : ℕ) (long : length s ≡ imageBytes d) (t : Followed d s h) (l : o < sizeOf s h) (f : b ≡ dataBytes d) (e : n ≡ o / b) where
+  few : n < length (keysOf d s h)
+  few = rw (e, f) (block-there d s h long t o l)
+
+  behind-is : (i : ℕ) → i ≤ n → behind s h i ≡ getD (keysOf d s h) i 0
+  unfolding behind
+  behind-is zero p = key-first d s h long t
+  behind-is (suc i) p = rw (behind-is i (omega arith)) (key-next d s h long t i (omega (arith, few)))
+
+  pub seek-holds : (i k : ℕ) → i < n → k ≡ behind s h i → Holds s k
+  seek-holds i k p q = omega (arith, q ∙ behind-is i (omega arith), key-inside d s h long t i (omega (arith, few)))
+
+  pub seek-ends : (i k : ℕ) → i ≤ n → n ≤ i → k ≡ behind s h i → k ≡ getD (keysOf d s h) (o / dataBytes d) 0
+  seek-ends i k p q r =
+      let g : i ≡ o / dataBytes d = rw (← f) (omega arith) in
+      r ∙ behind-is i p ∙ ap (λ (j : ℕ). getD (keysOf d s h) j 0) g
+
+pub seek-starts : (s : List ℕ) (h k : ℕ) → k ≡ wordOf s h 4 → k ≡ behind s h 0
+unfolding behind
+seek-starts s h k e = e
+
+pub seek-goes : (s : List ℕ) (h k i k′ : ℕ) → k ≡ behind s h i → k′ ≡ wordOf s k 4 → k′ ≡ behind s h (i + 1)
+unfolding behind
+seek-goes s h k i k′ e f = rw (add-one i, ← e) f
+
+pub seek-fits : (o b i : ℕ) → i < o / b → o < 2 ^ 64 → i + 1 < 2 ^ 64
+seek-fits o b i p h = omega (arith, div-le-self o b)
+
+-- ---- the turns
+
+room : (a b n : ℕ) → b + n ≤ a → n ≤ a - b
+room a b n h = omega arith
+
+small : (a b c e : ℕ) → a ≤ b → b ≤ c → c ≤ e → e ≤ 2079232 → a < 2 ^ 64
+small a b c e f g h i = omega arith
+
+module _ (d : Disk) (s : List ℕ) (h o : ℕ) (before : List ℕ) where
+  -- what is copied in the end
+  abbrev whole : List ℕ
+  whole = part (fileBytes d s h) o (length before)
+
+  pub record Going (count bytes : ℕ) (out : List ℕ) (key within done : ℕ) : Type 0 where
+    pub sized : Sized d
+    pub long : length s ≡ imageBytes d
+    pub tested : Followed d s h
+    pub counted : count ≡ min (length before) (sizeOf s h - o)
+    pub each : bytes ≡ dataBytes d
+    pub block : ℕ
+    pub here : key ≡ getD (keysOf d s h) block 0
+    pub near : within < bytes
+    pub upto : done ≤ count
+    pub filled : out ≡ take done whole ++ drop done before
+    pub kept : length out ≡ length before
+    pub rest : drop done whole ≡ take (count - done) (drop within (dataIn d s (drop block (keysOf d s h))))
+
+  -- an offset at or past the end, or no room
+  pub none : (z count : ℕ) → length s ≡ imageBytes d → Followed d s h → z ≡ sizeOf s h → count ≡ min (length before) (z - o) → count ≡ 0 → Copied (fileBytes d s h) o before 0 before
+  unfolding filledBy
+  none z count g t q e n =
+      let l : length whole ≡ 0 = part-long d s h g t o (length before) ∙ rw (← q) (omega arith) in
+      record { count = sym l; output = sym (rw l (ap (λ (p : List ℕ). p ++ before) (empty whole l))) }
+    where
+      empty : (p : List ℕ) → length p ≡ 0 → p ≡ []
+      empty [] e = refl
+      empty (x ∷ p) e = absurd (omega arith)
+
+  pub some : (z count : ℕ) → z ≡ sizeOf s h → count ≡ min (length before) (z - o) → (count ≡ 0 → ⊥) → o < sizeOf s h
+  some z count q e n = go (decLt o (sizeOf s h))
+    where
+      go : Dec (o < sizeOf s h) → o < sizeOf s h
+      go (yes p) = p
+      go (no p) = absurd (n (omega arith))
+
+  pub starts : (z count b k : ℕ) → Sized d → length s ≡ imageBytes d → Followed d s h → z ≡ sizeOf s h → count ≡ min (length before) (z - o) → b ≡ dataBytes d → k ≡ getD (keysOf d s h) (o / dataBytes d) 0 → Going count b before k (o % b) 0
+  starts z count b k i g t q e f r =
+      let c : count ≡ min (length before) (sizeOf s h - o) = rw (← q) e in
+      record {
+        sized = i;
+        long = g;
+        tested = t;
+        counted = c;
+        each = f;
+        block = o / dataBytes d;
+        here = r;
+        near = rw f (mod-lt o (data-some d));
+        upto = omega arith;
+        filled = refl;
+        kept = refl;
+        rest = part-there d s h g t o (length before) ∙ rw (c, f, sub-zero (min (length before) (sizeOf s h - o))) refl;
+      }
+
+  module _ (count bytes : ℕ) (out : List ℕ) (key within done : ℕ) (v : Going count bytes out key within done) where
+    whole-long : length whole ≡ count
+    whole-long = part-long d s h (v .long) (v .tested) o (length before) ∙ sym (v .counted)
+
+    pub ends : count ≤ done → Copied (fileBytes d s h) o before count out
+    unfolding filledBy
+    ends q =
+        let e : done ≡ length whole = omega (arith, v .upto, whole-long) in
+        record { count = sym whole-long; output = v .filled ∙ rw e (ap (λ (p : List ℕ). p ++ drop (length whole) before) (take-all (length whole) whole (omega arith))) }
+
+    module _ (p : done < count) where
+      there : v .block < length (keysOf d s h)
+      there = go (decLt (v .block) (length (keysOf d s h)))
+        where
+          nothing : drop (v .block) (keysOf d s h) ≡ [] → drop done whole ≡ []
+          nothing e = v .rest ∙ rw (e, all-none d s, drop-nil within, take-nil (count - done)) refl
+
+          go : Dec (v .block < length (keysOf d s h)) → v .block < length (keysOf d s h)
+          go (yes q) = q
+          go (no q) = absurd (omega (arith, length-drop done whole, whole-long, ap length (nothing (drop-of-length-le (keysOf d s h) {i = v .block} (omega arith)))))
+
+      pub inside : key < d .blocks
+      inside = rw (v .here) (key-inside d s h (v .long) (v .tested) (v .block) there)
+
+      pub held : Holds s key
+      held = omega (arith, inside, v .long)
+
+      -- the data of this block, and of those behind it
+      abbrev mine : List ℕ
+      mine = dataOf d s key
+
+      abbrev others : List ℕ
+      others = dataIn d s (drop (suc (v .block)) (keysOf d s h))
+
+      mine-long : length mine ≡ bytes
+      mine-long = data-long d s (v .long) key inside ∙ sym (v .each)
+
+      within-mine : within ≤ length mine
+      within-mine = omega (arith, mine-long, v .near)
+
+      opened : drop done whole ≡ take (count - done) (drop within (mine ++ others))
+      opened = v .rest ∙ rw (drop-cons (keysOf d s h) (v .block) 0 there, all-first d s, v .here) refl
+
+      module _ (n : ℕ) (m : n ≡ min (bytes - within) (count - done)) where
+        pub falls : count - (done + n) < count - done
+        falls = omega (arith, v .near)
+
+        upto : done + n ≤ count
+        upto = omega arith
+
+        ahead : count - done - n ≡ count - (done + n)
+        ahead = omega arith
+
+        taken : n ≡ min (length mine - within) (count - done)
+        taken = rw mine-long m
+
+        pub to-inside : done + n ≤ length out
+        to-inside = omega (arith, v .counted, v .kept)
+
+        pub done-fits : done + n < 2 ^ 64
+        done-fits = small (done + n) count (sizeOf s h) (fileLimit d) upto (omega (arith, v .counted)) (v .tested .size) (limit-most d (v .sized))
+
+        module _ (place : ℕ) (q : place ≡ dataPlace d key) where
+          pub place-fits : place + within < 2 ^ 64
+          place-fits = omega (arith, data-inside d, inside, v .each, v .near, v .sized .most)
+
+          pub from-inside : place + within + n ≤ length s
+          from-inside = omega (arith, data-inside d, held, v .each, v .near)
+
+          -- what is copied in this turn
+          copied : take n (drop (place + within) s) ≡ take n (drop done whole)
+          copied =
+              let g : n ≤ dataBytes d - within = omega (arith, v .each) in
+              let e : take n (drop within mine) ≡ take n (drop (place + within) s) =
+              rw (drop-take within (dataBytes d) (drop (dataPlace d key) s), take-take n (dataBytes d - within) (drop within (drop (dataPlace d key) s)) g, drop-drop within (dataPlace d key) s, q) refl in
+              sym (turn-front (drop done whole) mine others within (count - done) n opened within-mine taken ∙ e)
+
+          pub goes : (out′ : List ℕ) (key′ : ℕ) → out′ ≡ paste out done (drop (place + within) s) n → key′ ≡ wordOf s key 4 → Going count bytes out′ key′ 0 (done + n)
+          goes out′ key′ e f =
+              record {
+                sized = v .sized;
+                long = v .long;
+                tested = v .tested;
+                counted = v .counted;
+                each = v .each;
+                block = suc (v .block);
+                here = f ∙ rw (v .here) (key-next d s h (v .long) (v .tested) (v .block) there);
+                near = rw (v .each) (data-some d);
+                upto = upto;
+                filled = e ∙ filled-more whole before out (drop (place + within) s) done n (v .filled) copied (rw whole-long upto);
+                kept = ap length e ∙ length-paste out done (drop (place + within) s) n to-inside (rw (length-drop (place + within) s) (room (length s) (place + within) n from-inside)) ∙ v .kept;
+                rest = sym (drop-drop n done whole) ∙ turn-rest (drop done whole) mine others within (count - done) n opened within-mine taken ∙ ap (λ (j : ℕ). take j others) ahead;
+              }

@@ -1,0 +1,20 @@
+-- `reading::read::read` meets its contract. Assumes nothing.
+use Rattle.volume.proofs.Sizes.{floppy-sized}
+use borrow.Author.Needs.{needs}
+use Rattle.reading.proofs.read.read.Statement.{statement}
+use Rattle.reading.proofs.read.read.Tie as tie
+
+floppy-requires : tie.Need-floppy-requires
+floppy-requires c κs = search needs
+
+read-on-requires : tie.Need-read-on-requires
+read-on-requires c κs = rw (c .before .floppy .ensures) floppy-sized
+
+same-length : tie.Need-same-length
+same-length c = search needs
+
+returns : tie.Need-returns
+returns c = rw (c .before .before .before .before .floppy .ensures) at (c .before .before .read-on .ensures)
+
+pub read-spec : {M : Type 1} → statement M
+read-spec = tie.close (tie.spec floppy-requires read-on-requires same-length returns)

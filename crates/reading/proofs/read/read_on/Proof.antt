@@ -1,0 +1,55 @@
+-- `reading::read::read_on` meets its contract. Assumes nothing.
+use mathlib.Core.List.{[]}
+use Rattle.reading.proofs.Readings.{read-handed, file-long, file-inside, file-size, followed, read-failed, read-copied}
+use borrow.Author.Needs.{needs}
+use Rattle.reading.proofs.read.read_on.Statement.{statement}
+use Rattle.reading.proofs.read.read_on.Tie as tie
+
+find-on-requires : tie.Need-find-on-requires
+find-on-requires c κs = search needs
+
+enum-known-found : tie.Need-enum-known-found
+enum-known-found c = search needs
+
+handed-back-requires : tie.Need-handed-back-requires
+handed-back-requires c κs = search needs
+
+returns : tie.Need-returns
+returns c = read-handed _ _ _ _ _ _ (c .before .before .find-on .ensures) _ (c .before .match .keys2) (c .handed-back .ensures)
+
+test-file-requires : tie.Need-test-file-requires
+test-file-requires c κs = (c .before .before .before .before .before .before .before .pre, file-long _ _ _ 0 [] _ (c .before .before .before .find-on .ensures) _ _ _ (c .before .found .given .1), file-inside _ _ _ 0 [] _ (c .before .before .before .find-on .ensures) _ _ _ (c .before .found .given .1))
+
+enum-known-t : tie.Need-enum-known-t
+enum-known-t c = search needs
+
+enum-told : tie.Need-enum-told
+enum-told c = search needs
+
+copy-file-requires : tie.Need-copy-file-requires
+copy-file-requires c κs = (c .before .before .before .before .before .before .before .before .before .before .before .pre, file-long _ _ _ 0 [] _ (c .before .before .before .before .before .before .before .find-on .ensures) _ _ _ (c .before .before .before .before .before .found .given .1), file-inside _ _ _ 0 [] _ (c .before .before .before .before .before .before .before .find-on .ensures) _ _ _ (c .before .before .before .before .before .found .given .1), file-size _ _ _ 0 [] _ (c .before .before .before .before .before .before .before .find-on .ensures) _ _ _ (c .before .before .before .before .before .found .given .1), followed _ _ _ _ (c .before .before .before .test-file .ensures) (c .before .enum-told .given .1))
+
+returns-2 : tie.Need-returns-2
+returns-2 c = read-failed _ _ _ _ _ _ (c .before .before .before .before .before .before .before .find-on .ensures) _ _ _ (c .before .before .before .before .before .found .given .1) _ _ (c .before .before .before .test-file .ensures) (c .before .t .given .1)
+
+same-length : tie.Need-same-length
+same-length c = search needs
+
+returns-3 : tie.Need-returns-3
+returns-3 c = read-copied _ _ _ _ _ _ (c .before .before .before .before .before .before .before .before .before .before .find-on .ensures) _ _ _ (c .before .before .before .before .before .before .before .before .found .given .1) _ _ _ (c .before .before .before .before .before .before .test-file .ensures) (c .before .before .before .before .enum-told .given .1) (c .before .before .copy-file .ensures)
+
+pub read-on-spec : {M : Type 1} → statement M
+read-on-spec =
+    tie.close
+    (tie.spec
+    find-on-requires
+    enum-known-found
+    handed-back-requires
+    returns
+    test-file-requires
+    enum-known-t
+    enum-told
+    copy-file-requires
+    returns-2
+    same-length
+    returns-3)

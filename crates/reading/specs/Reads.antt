@@ -1,0 +1,75 @@
+-- A read: the path's lookup, the tests of the file's blocks, and then its bytes from an offset on (the build paper, "Paths and reads"). Nothing is
+-- copied before all is tested; a directory is no file.
+use Prim.Native.Nat.{ℕ, _-_}
+use mathlib.Core.Path.{_≡_}
+use mathlib.Core.List.{List, []}
+use lib.ListN.{length}
+use Rattle.answers.specs.Refusals.{refusal}
+use Rattle.answers.specs.declared.Tested.{Tested}
+use Rattle.answers.specs.declared.Tested.the-variants.{Passed, Failed}
+use Rattle.volume.specs.declared.disk.Disk.{Disk}
+use Rattle.lookup.specs.declared.find.Found.{Found}
+use Rattle.lookup.specs.declared.find.Found.the-variants as found
+use Rattle.lookup.specs.Paths.{components}
+use Rattle.lookup.specs.Lookup.{findOf}
+use Rattle.reading.specs.declared.read.Reading.{Reading}
+use Rattle.reading.specs.declared.read.Reading.the-variants.{Bytes, Refused}
+use Rattle.reading.specs.FileTests.{blocksFault}
+use Rattle.reading.specs.Bytes.{fileBytes, part, filledBy}
+
+-- an answer's numbers: 0, 0 and the count where it reads; the refusal's, and 0 for the count
+pub record Numbers : Type 0 where
+  pub number : ℕ
+  pub place : ℕ
+  pub count : ℕ
+
+abbrev pub numbersOf : Reading → Numbers
+numbersOf (Bytes n) = record { number = 0; place = 0; count = n }
+numbersOf (Refused r) = record { number = r .number; place = r .place; count = 0 }
+
+abbrev pub refuse : ℕ → ℕ → Reading
+refuse v k = Refused (refusal v k)
+
+-- the number of a path's last component; 0 for the empty path
+abbrev pub lastComponent : List ℕ → ℕ
+lastComponent path = length (components path) - 1
+
+-- ---- the answer
+
+-- what is no file
+abbrev pub handed : List ℕ → Found → Reading
+handed path (found.Directory k c) = refuse 20 (lastComponent path)
+handed path (found.File k z c) = refuse 20 (lastComponent path)
+handed path (found.Refused r) = Refused r
+
+-- of file k at offset o, into room for n bytes
+abbrev pub tested : Disk → List ℕ → ℕ → ℕ → ℕ → Tested → Reading
+tested d s k o n Passed = Bytes (length (part (fileBytes d s k) o n))
+tested d s k o n (Failed r) = Refused r
+
+abbrev pub reads : Disk → List ℕ → List ℕ → ℕ → ℕ → Found → Reading
+reads d s path o n (found.File k z c) = tested d s k o n (blocksFault d s k)
+reads d s path o n (found.Directory k c) = refuse 20 (lastComponent path)
+reads d s path o n (found.Refused r) = Refused r
+
+unfoldable pub readOf : Disk → List ℕ → List ℕ → ℕ → ℕ → Reading
+readOf d s path o n = reads d s path o n (findOf d s path)
+
+-- ---- the output
+
+-- the bytes of what was found
+abbrev pub bytesOf : Disk → List ℕ → Found → List ℕ
+bytesOf d s (found.File k z c) = fileBytes d s k
+bytesOf d s (found.Directory k c) = []
+bytesOf d s (found.Refused r) = []
+
+-- refused, it stays
+abbrev pub leaves : Disk → List ℕ → List ℕ → ℕ → List ℕ → Reading → List ℕ
+leaves d s path o output (Bytes n) = filledBy (bytesOf d s (findOf d s path)) o output
+leaves d s path o output (Refused r) = output
+
+-- ---- the promise
+
+pub record Reads (d : Disk) (s path : List ℕ) (o : ℕ) (output : List ℕ) (r : Reading) (output′ : List ℕ) : Type 0 where
+  pub answer : r ≡ readOf d s path o (length output)
+  pub left : output′ ≡ leaves d s path o output r

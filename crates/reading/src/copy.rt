@@ -1,0 +1,94 @@
+// A file's bytes from an offset on, copied out of its data blocks.
+use volume::block::Block;
+use volume::block::word_of;
+use volume::disk::Disk;
+ghost use mathlib.Core.Path.{_≡_};
+ghost use Prim.Native.Nat.{_+_, _-_, _/_, _≤_, _<_, min};
+ghost use lib.ListN.{length, getD, drop};
+ghost use lib.Seq.{paste};
+ghost use Rattle.volume.specs.Disks.{Sized, imageBytes, dataBytes};
+ghost use Rattle.volume.specs.Files.{sizeOf, keysOf};
+ghost use Rattle.reading.specs.Bytes.{dataPlace, fileBytes, Followed, Copied};
+
+// The byte of a data block at which its data begin.
+const DATA_START: usize = 24;
+
+// The first byte of a data block's data.
+fn data_place(disk: Disk, key: u32) -> usize
+    ensures { λ r. ⌜ r ≡ dataPlace disk key ⌝ }
+{
+    Block::place(key, 0) + DATA_START
+}
+
+fn least(a: usize, b: usize) -> usize
+    ensures { λ r. ⌜ r ≡ min a b ⌝ }
+{
+    if a <= b { a } else { b }
+}
+
+// How many bytes are copied: until the output or the file ends.
+fn count_of(size: u32, offset: usize, room: usize) -> usize
+    ensures { λ r. ⌜ r ≡ min room (size - offset) ⌝ }
+{
+    if size as usize <= offset {
+        return 0;
+    }
+    least(room, size as usize - offset)
+}
+
+// Copies n bytes of the image, from `from` on, to `at` of the output.
+fn copy_bytes(image: &[u8], from: usize, output: &mut [u8], at: usize, n: usize)
+    requires { ⌜ (from + n ≤ length (now image)) × (at + n ≤ length (now output)) ⌝ }
+    ensures { λ _. ⌜ now (output .exit) ≡ paste (now (output .entry)) at (drop from (now (image .entry))) n ⌝ }
+{
+    let mut i = 0;
+    while i < n {
+        output[at + i] = image[from + i];
+        i += 1;
+    }
+}
+
+// The key of the data block that holds byte `offset` of a file: each block names the next.
+fn seek(disk: Disk, image: &[u8], header: u32, offset: usize) -> u32
+    requires { ⌜ (length (now image) ≡ imageBytes disk) × (header < disk .blocks) × (Followed disk (now image) header) × (offset < sizeOf (now image) header) ⌝ }
+    ensures { λ r. ⌜ r ≡ getD (keysOf disk (now (image .entry)) header) (offset / dataBytes disk) 0 ⌝ }
+{
+    let n = offset / disk.data_bytes() as usize;
+    let mut key = word_of(image, header, Block::FIRST_DATA);
+    let mut i = 0;
+    while i < n {
+        key = word_of(image, key, Block::FOLLOWING);
+        i += 1;
+    }
+    key
+}
+
+// Copies the bytes of a tested file from `offset` on until the output or the file ends, and gives their number.
+pub fn copy_file(
+    disk: Disk,
+    image: &[u8],
+    header: u32,
+    size: u32,
+    offset: usize,
+    output: &mut [u8],
+) -> usize
+    requires { ⌜ (Sized disk) × (length (now image) ≡ imageBytes disk) × (header < disk .blocks) × (size ≡ sizeOf (now image) header) × (Followed disk (now image) header) ⌝ }
+    ensures { λ r. ⌜ Copied (fileBytes disk (now (image .entry)) header) offset (now (output .entry)) r (now (output .exit)) ⌝ }
+{
+    let count = count_of(size, offset, output.len());
+    if count == 0 {
+        return 0;
+    }
+    let bytes = disk.data_bytes() as usize;
+    let mut key = seek(disk, image, header, offset);
+    let mut within = offset % bytes;
+    let mut done = 0;
+    while done < count {
+        let n = least(bytes - within, count - done);
+        copy_bytes(image, data_place(disk, key) + within, output, done, n);
+        key = word_of(image, key, Block::FOLLOWING);
+        within = 0;
+        done += n;
+    }
+    count
+}

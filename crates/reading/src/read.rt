@@ -1,0 +1,86 @@
+// A read: a path to a file, the tests of its blocks, and its bytes from an offset on.
+use crate::blocks::test_file;
+use crate::copy::copy_file;
+use answers::Refusal;
+use answers::Tested;
+use lookup::find::Found;
+use lookup::find::find_on;
+use volume::disk::Disk;
+ghost use mathlib.Core.Path.{_≡_};
+ghost use Prim.Native.Nat.{_+_, _<_};
+ghost use lib.Dec.{eqb};
+ghost use lib.ListN.{length};
+ghost use Rattle.answers.specs.Tests.{pick};
+ghost use Rattle.lookup.specs.Paths.{slash};
+ghost use Rattle.volume.specs.Disks.{Sized, floppy};
+ghost use Rattle.reading.specs.Reads.{lastComponent, handed, Reads};
+
+// How many bytes were copied, or why none were.
+pub enum Reading {
+    Bytes(usize),
+    Refused(Refusal),
+}
+
+// One more where a byte is a '/'.
+fn with_slash(n: usize, b: u8) -> usize
+    requires { ⌜ n < 18446744073709551615 ⌝ }
+    ensures { λ r. ⌜ r ≡ pick (eqb b slash) (n + 1) n ⌝ }
+{
+    if b == b'/' {
+        return n + 1;
+    }
+    n
+}
+
+// The number of the last component of a path, and 0 for the empty path: there is a '/' before each but the first.
+fn last_component(path: &[u8]) -> usize
+    ensures { λ r. ⌜ r ≡ lastComponent (now (path .entry)) ⌝ }
+{
+    let mut n: usize = 0;
+    let mut i: usize = 0;
+    while i < path.len() {
+        n = with_slash(n, path[i]);
+        i += 1;
+    }
+    n
+}
+
+// What is answered where no file was found.
+fn handed_back(found: Found, path: &[u8]) -> Reading
+    ensures { λ r. ⌜ r ≡ handed (now (path .entry)) found ⌝ }
+{
+    let Found::Refused(r) = found else {
+        return Reading::Refused(Refusal {
+            number: 20,
+            place: last_component(path),
+        });
+    };
+    Reading::Refused(r)
+}
+
+// Reads a file of a disk's image: its bytes from `offset` on until the output or the file ends. The rest of the output stays, and all of it
+// where the read is refused.
+pub fn read_on(disk: Disk, image: &[u8], path: &[u8], offset: usize, output: &mut [u8]) -> Reading
+    requires { ⌜ Sized disk ⌝ }
+    ensures { λ r. ⌜ Reads disk (now (image .entry)) (now (path .entry)) offset (now (output .entry)) r (now (output .exit)) ⌝ }
+{
+    let found = find_on(disk, image, path);
+    let Found::File(key, size, _) = found else {
+        return handed_back(found, path);
+    };
+    let t = test_file(disk, image, key);
+    match t {
+        Tested::Failed(r) => Reading::Refused(r),
+        Tested::Passed => {
+            let n = copy_file(disk, image, key, size, offset, output);
+            Reading::Bytes(n)
+        }
+    }
+}
+
+// Reads a file of an 880 KB floppy of the old file system.
+pub fn read(image: &[u8], path: &[u8], offset: usize, output: &mut [u8]) -> Reading
+    ensures { λ r. ⌜ Reads floppy (now (image .entry)) (now (path .entry)) offset (now (output .entry)) r (now (output .exit)) ⌝ }
+{
+    read_on(Disk::floppy(), image, path, offset, output)
+}
