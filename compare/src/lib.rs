@@ -1,6 +1,7 @@
 //! A second opinion on the disks that the Rattle library reads.
 //!
 //! Everything here was written from the build paper alone, without a look at the library's code, so that a
+//! misreading has to be made twice before the two agree on it. Where the paper gives a rule as a step by step
 //! recipe, this side prefers another way to the same number.
 //!
 //! What is judged, from the smallest piece upward:
@@ -13,6 +14,8 @@
 //! - [`blocks`]: the tests of one block, each answered by a refusal's number;
 //! - [`audit`]: the audit of a volume, which meets every block in the paper's order;
 //! - [`declared`]: the same question asked of the volume as a whole, without an order;
+//! - [`lookup`]: finding a path, on any image;
+//! - [`reading`]: reading a file's bytes, on any image;
 //! - [`program`]: the check of a program file;
 //! - [`loader`]: loading a program and moving it.
 //!
@@ -23,6 +26,7 @@
 //! - [`bad_programs`]: what can be wrong with them, each with the refusal due for it;
 //! - [`volumes`]: good volumes to audit, drawn at random, with what each of their blocks is;
 //! - [`bad_volumes`]: what can be wrong with them, each with the refusal due for it;
+//! - [`paths`]: paths to look for on good volumes, each with the answer due;
 //! - [`driver`]: runs a Rattle program on a batch of requests and compares every line it answers.
 
 pub mod audit;
@@ -34,9 +38,12 @@ pub mod declared;
 pub mod disk;
 pub mod driver;
 pub mod loader;
+pub mod lookup;
 pub mod names;
+pub mod paths;
 pub mod program;
 pub mod programs;
+pub mod reading;
 pub mod rng;
 pub mod sizes;
 pub mod volumes;

@@ -15,7 +15,7 @@ ghost use lib.ListN.{length};
 // The longest image that is taken.
 const IMAGE_ROOM: usize = 1802240;
 
-// The longest file that is taken.
+// The longest file that is taken, and the longest output of a read.
 const FILE_ROOM: usize = 1048576;
 
 // The most memory, and the largest work area, that a program is lent.
@@ -31,6 +31,10 @@ const PATCH: u32 = 2;
 
 const AUDIT: u32 = 3;
 
+const FIND: u32 = 4;
+
+const READ: u32 = 5;
+
 const FILE: u32 = 6;
 
 const LOAD: u32 = 7;
@@ -43,6 +47,7 @@ fn answer(
     length: u32,
     state: State,
     image: &mut [u8],
+    output: &mut [u8],
     file: &mut [u8],
     memory: &mut [u8],
     table: &mut [u32],
@@ -56,6 +61,12 @@ fn answer(
     }
     if number == AUDIT {
         return volumes::audit_held(length, state, image);
+    }
+    if number == FIND {
+        return volumes::find_held(length, state, image);
+    }
+    if number == READ {
+        return volumes::read_held(length, state, image, output);
     }
     if number == FILE {
         return programs::file(length, state, file);
@@ -73,6 +84,7 @@ fn answer(
 fn one(
     state: State,
     image: &mut [u8],
+    output: &mut [u8],
     file: &mut [u8],
     memory: &mut [u8],
     table: &mut [u32],
@@ -81,7 +93,17 @@ fn one(
     let next = frame::next();
     match next {
         Frame::Request(number, length) => {
-            answer(number, length, state, image, file, memory, table, work)
+            answer(
+                number,
+                length,
+                state,
+                image,
+                output,
+                file,
+                memory,
+                table,
+                work,
+            )
         }
         Frame::Broken => state.broken(),
         Frame::End => state.ended(),
@@ -89,11 +111,18 @@ fn one(
 }
 
 // Takes one request after the other.
-fn all(image: &mut [u8], file: &mut [u8], memory: &mut [u8], table: &mut [u32], work: &mut [u8]) {
+fn all(
+    image: &mut [u8],
+    output: &mut [u8],
+    file: &mut [u8],
+    memory: &mut [u8],
+    table: &mut [u32],
+    work: &mut [u8],
+) {
     let mut state = frame::start();
     let mut turns = u64::MAX;
     while turns > 0 && state.more {
-        state = one(state, image, file, memory, table, work);
+        state = one(state, image, output, file, memory, table, work);
         turns -= 1;
     }
 }
@@ -119,9 +148,17 @@ fn area_room() -> [u8; AREA_ROOM]
 
 fn main() {
     let mut image = image_room();
+    let mut output = file_room();
     let mut file = file_room();
     let mut memory = area_room();
     let mut work = area_room();
     let mut table = [0u32; TABLE_ROOM];
-    all(&mut image, &mut file, &mut memory, &mut table, &mut work);
+    all(
+        &mut image,
+        &mut output,
+        &mut file,
+        &mut memory,
+        &mut table,
+        &mut work,
+    );
 }

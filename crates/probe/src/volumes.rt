@@ -1,4 +1,4 @@
-// Request 3: the audit of the held image.
+// Requests 3, 4 and 5: the audit of the held image, its paths, and reads.
 use crate::checksum::fill_bytes;
 use crate::checksum::of_bytes;
 use crate::frame::State;
@@ -9,9 +9,13 @@ use crate::line::say_pair;
 use audit::audit::Audited;
 use audit::audit::Report;
 use libc::STDOUT_FILENO;
+use lookup::find::Found;
+use reading::read::Reading;
 
-// What is in the claim area before a call.
+// What is in the claim area, and in the output of a read, before a call.
 const CLAIM: u8 = 0xAA;
+
+const OUTPUT: u8 = 0xAA;
 
 // The six numbers of an accepted volume.
 fn say_report(report: Report) {
@@ -57,6 +61,121 @@ pub fn audit_held(length: u32, state: State, room: &[u8]) -> State {
         let held = io::count(state.image as isize, room);
         audit_with(&room[..held], &mut claim[..n]);
         return state;
+    }
+    state.broken()
+}
+
+// A found entry: key, size and entries compared.
+fn say_entry(kind: &[u8], key: u32, size: u32, compared: u32) {
+    io::write_all(STDOUT_FILENO, kind);
+    say_number(key);
+    say_number(size);
+    say_number(compared);
+}
+
+// The line for a lookup.
+fn say_found(found: Found) {
+    match found {
+        Found::Directory(key, compared) => say_entry(b"directory", key, 0, compared),
+        Found::File(key, size, compared) => say_entry(b"file", key, size, compared),
+        Found::Refused(fault) => say_pair(b"refused ", fault.number, fault.place),
+    }
+    io::write_all(STDOUT_FILENO, b"\n");
+}
+
+// Fills `path`, looks for it and answers.
+fn find_path(state: State, image: &[u8], path: &mut [u8]) -> State {
+    if fill(path) {
+        say_found(lookup::find::find(image, path));
+        return state;
+    }
+    state.broken()
+}
+
+// Request 4: a path.
+pub fn find_held(length: u32, state: State, room: &[u8]) -> State {
+    let mut path = io::buffer();
+    let n = io::count(length as isize, &path);
+    if n as u64 != length as u64 {
+        return state.refused(length);
+    }
+    let held = io::count(state.image as isize, room);
+    find_path(state, &room[..held], &mut path[..n])
+}
+
+// The line for a read that was made into this output.
+fn say_reading(reading: Reading, output: &[u8]) {
+    match reading {
+        Reading::Bytes(count) => {
+            io::write_all(STDOUT_FILENO, b"bytes ");
+            io::print_decimal(STDOUT_FILENO, count as u64);
+        }
+        Reading::Refused(fault) => say_pair(b"refused ", fault.number, fault.place),
+    }
+    say_area(b" out ", of_bytes(output));
+    io::write_all(STDOUT_FILENO, b"\n");
+}
+
+// Fills the output, reads and answers.
+fn read_into(image: &[u8], path: &[u8], offset: u32, output: &mut [u8]) {
+    fill_bytes(output, OUTPUT);
+    let reading = reading::read::read(image, path, offset as usize, output);
+    say_reading(reading, output);
+}
+
+// Fills `path`, reads from `offset` on into the first `asked` bytes of the output, and answers.
+fn read_path(
+    offset: u32,
+    asked: u32,
+    state: State,
+    image: &[u8],
+    path: &mut [u8],
+    output: &mut [u8],
+) -> State {
+    if fill(path) {
+        let n = io::count(asked as isize, output);
+        if n as u64 != asked as u64 {
+            return state.bad();
+        }
+        read_into(image, path, offset, &mut output[..n]);
+        return state;
+    }
+    state.broken()
+}
+
+// The last `length` bytes of a read's body are its path.
+fn read_by(
+    offset: u32,
+    asked: u32,
+    length: u32,
+    state: State,
+    room: &[u8],
+    output: &mut [u8],
+) -> State {
+    let mut path = io::buffer();
+    let n = io::count(length as isize, &path);
+    if n as u64 != length as u64 {
+        return state.refused(length);
+    }
+    let held = io::count(state.image as isize, room);
+    read_path(offset, asked, state, &room[..held], &mut path[..n], output)
+}
+
+// Request 5: an offset, the length of the output, and a path.
+pub fn read_held(length: u32, state: State, room: &[u8], output: &mut [u8]) -> State {
+    if length < 8 {
+        return state.refused(length);
+    }
+    let mut head = [0u8; 8];
+    if fill(&mut head) {
+        return read_by(
+            words::word(&head, 0),
+            words::word(&head, 4),
+            length - 8,
+            state,
+            room,
+            output,
+        );
     }
     state.broken()
 }

@@ -80,9 +80,9 @@ module _ (d : Disk) (s : List ℕ) (h o : ℕ) (before : List ℕ) where
     pub rest : drop done whole ≡ take (count - done) (drop within (dataIn d s (drop block (keysOf d s h))))
 
   -- an offset at or past the end, or no room
-  pub none : (z count : ℕ) → length s ≡ imageBytes d → Followed d s h → z ≡ sizeOf s h → count ≡ min (length before) (z - o) → count ≡ 0 → Copied (fileBytes d s h) o before 0 before
+  pub none : (z left count : ℕ) → length s ≡ imageBytes d → Followed d s h → z ≡ sizeOf s h → left ≡ z - o → count ≡ min (length before) left → count ≡ 0 → Copied (fileBytes d s h) o before 0 before
   unfolding filledBy
-  none z count g t q e n =
+  none z left count g t q y e n =
       let l : length whole ≡ 0 = part-long d s h g t o (length before) ∙ rw (← q) (omega arith) in
       record { count = sym l; output = sym (rw l (ap (λ (p : List ℕ). p ++ before) (empty whole l))) }
     where
@@ -90,16 +90,16 @@ module _ (d : Disk) (s : List ℕ) (h o : ℕ) (before : List ℕ) where
       empty [] e = refl
       empty (x ∷ p) e = absurd (omega arith)
 
-  pub some : (z count : ℕ) → z ≡ sizeOf s h → count ≡ min (length before) (z - o) → (count ≡ 0 → ⊥) → o < sizeOf s h
-  some z count q e n = go (decLt o (sizeOf s h))
+  pub some : (z left count : ℕ) → z ≡ sizeOf s h → left ≡ z - o → count ≡ min (length before) left → (count ≡ 0 → ⊥) → o < sizeOf s h
+  some z left count q y e n = go (decLt o (sizeOf s h))
     where
       go : Dec (o < sizeOf s h) → o < sizeOf s h
       go (yes p) = p
       go (no p) = absurd (n (omega arith))
 
-  pub starts : (z count b k : ℕ) → Sized d → length s ≡ imageBytes d → Followed d s h → z ≡ sizeOf s h → count ≡ min (length before) (z - o) → b ≡ dataBytes d → k ≡ getD (keysOf d s h) (o / dataBytes d) 0 → Going count b before k (o % b) 0
-  starts z count b k i g t q e f r =
-      let c : count ≡ min (length before) (sizeOf s h - o) = rw (← q) e in
+  pub starts : (z left count b k : ℕ) → Sized d → length s ≡ imageBytes d → Followed d s h → z ≡ sizeOf s h → left ≡ z - o → count ≡ min (length before) left → b ≡ dataBytes d → k ≡ getD (keysOf d s h) (o / dataBytes d) 0 → Going count b before k (o % b) 0
+  starts z left count b k i g t q y e f r =
+      let c : count ≡ min (length before) (sizeOf s h - o) = rw (← q, ← y) e in
       record {
         sized = i;
         long = g;

@@ -26,14 +26,14 @@ fn least(a: usize, b: usize) -> usize
     if a <= b { a } else { b }
 }
 
-// How many bytes are copied: until the output or the file ends.
-fn count_of(size: u32, offset: usize, room: usize) -> usize
-    ensures { λ r. ⌜ r ≡ min room (size - offset) ⌝ }
+// The bytes of a file from `offset` on.
+fn left_of(size: u32, offset: usize) -> usize
+    ensures { λ r. ⌜ r ≡ size - offset ⌝ }
 {
     if size as usize <= offset {
         return 0;
     }
-    least(room, size as usize - offset)
+    size as usize - offset
 }
 
 // Copies n bytes of the image, from `from` on, to `at` of the output.
@@ -75,7 +75,8 @@ pub fn copy_file(
     requires { ⌜ (Sized disk) × (length (now image) ≡ imageBytes disk) × (header < disk .blocks) × (size ≡ sizeOf (now image) header) × (Followed disk (now image) header) ⌝ }
     ensures { λ r. ⌜ Copied (fileBytes disk (now (image .entry)) header) offset (now (output .entry)) r (now (output .exit)) ⌝ }
 {
-    let count = count_of(size, offset, output.len());
+    let left = left_of(size, offset);
+    let count = least(output.len(), left);
     if count == 0 {
         return 0;
     }

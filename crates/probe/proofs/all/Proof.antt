@@ -6,11 +6,11 @@ use Rattle.probe.proofs.all.Statement.{statement}
 use Rattle.probe.proofs.all.Tie as tie
 
 abbrev Inv-loop : tie.InvT-loop
-Inv-loop image₀ file₀ memory₀ table₀ work₀ state₀ turns₀ image file memory table work state turns =
-    (length image ≡ length image₀) × (length file ≡ length file₀) × (length memory ≡ length memory₀) × (length table ≡ length table₀) × (length work ≡ length work₀)
+Inv-loop image₀ output₀ file₀ memory₀ table₀ work₀ state₀ turns₀ image output file memory table work state turns =
+    (length image ≡ length image₀) × (length output ≡ length output₀) × (length file ≡ length file₀) × (length memory ≡ length memory₀) × (length table ≡ length table₀) × (length work ≡ length work₀)
 
 abbrev μ-loop : tie.MeasureT-loop
-μ-loop image₀ file₀ memory₀ table₀ work₀ state₀ turns₀ image file memory table work state turns = turns
+μ-loop image₀ output₀ file₀ memory₀ table₀ work₀ state₀ turns₀ image output file memory table work state turns = turns
 
 start-requires : tie.Need-start-requires Inv-loop μ-loop
 start-requires c κs = search needs
@@ -45,11 +45,11 @@ same-length-4 c = search needs
 same-length-5 : tie.Need-same-length-5 Inv-loop μ-loop
 same-length-5 c = search needs
 
-returns : tie.Need-returns Inv-loop μ-loop
-returns c = search needs
-
 same-length-6 : tie.Need-same-length-6 Inv-loop μ-loop
 same-length-6 c = search needs
+
+returns : tie.Need-returns Inv-loop μ-loop
+returns c = search needs
 
 same-length-7 : tie.Need-same-length-7 Inv-loop μ-loop
 same-length-7 c = search needs
@@ -62,6 +62,12 @@ same-length-9 c = search needs
 
 same-length-10 : tie.Need-same-length-10 Inv-loop μ-loop
 same-length-10 c = search needs
+
+same-length-11 : tie.Need-same-length-11 Inv-loop μ-loop
+same-length-11 c = search needs
+
+same-length-12 : tie.Need-same-length-12 Inv-loop μ-loop
+same-length-12 c = search needs
 
 returns-2 : tie.Need-returns-2 Inv-loop μ-loop
 returns-2 c = search needs
@@ -83,10 +89,12 @@ all-spec =
     same-length-3
     same-length-4
     same-length-5
-    returns
     same-length-6
+    returns
     same-length-7
     same-length-8
     same-length-9
     same-length-10
+    same-length-11
+    same-length-12
     returns-2)

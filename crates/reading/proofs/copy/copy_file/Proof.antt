@@ -6,13 +6,16 @@ use Rattle.reading.proofs.copy.copy_file.Statement.{statement}
 use Rattle.reading.proofs.copy.copy_file.Tie as tie
 
 abbrev Inv-loop : tie.InvT-loop
-Inv-loop disk image header size offset output₀ count bytes key₀ within₀ done₀ output key within done = Going disk image header offset output₀ count bytes output key within done
+Inv-loop disk image header size offset output₀ left count bytes key₀ within₀ done₀ output key within done = Going disk image header offset output₀ count bytes output key within done
 
 abbrev μ-loop : tie.MeasureT-loop
-μ-loop disk image header size offset output₀ count bytes key₀ within₀ done₀ output key within done = count - done
+μ-loop disk image header size offset output₀ left count bytes key₀ within₀ done₀ output key within done = count - done
 
-count-of-requires : tie.Need-count-of-requires Inv-loop μ-loop
-count-of-requires c κs = search needs
+left-of-requires : tie.Need-left-of-requires Inv-loop μ-loop
+left-of-requires c κs = search needs
+
+least-requires : tie.Need-least-requires Inv-loop μ-loop
+least-requires c κs = search needs
 
 returns : tie.Need-returns Inv-loop μ-loop
 returns c = search none depth 7
@@ -38,8 +41,8 @@ sub-least c = search needs
 sub-least-2 : tie.Need-sub-least-2 Inv-loop μ-loop
 sub-least-2 c = search needs
 
-least-requires : tie.Need-least-requires Inv-loop μ-loop
-least-requires c κs = search needs
+least-requires-2 : tie.Need-least-requires-2 Inv-loop μ-loop
+least-requires-2 c κs = search needs
 
 data-place-requires : tie.Need-data-place-requires Inv-loop μ-loop
 data-place-requires c κs = search needs
@@ -74,7 +77,8 @@ copy-file-spec =
     (tie.spec
     Inv-loop
     μ-loop
-    count-of-requires
+    left-of-requires
+    least-requires
     returns
     data-bytes-requires
     cast-bytes
@@ -83,7 +87,7 @@ copy-file-spec =
     loop-holds
     sub-least
     sub-least-2
-    least-requires
+    least-requires-2
     data-place-requires
     add-copy-bytes
     copy-bytes-requires

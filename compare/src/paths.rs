@@ -1,0 +1,381 @@
+//! Paths to look for on a good volume, each with the answer due, and where to read in a file.
+//!
+//! The volume knows its entries and the chains they hang in, so what a lookup finds, and how many blocks it compares
+//! on the way, is known without one. So are a file's bytes.
+
+use std::collections::{BTreeMap, BTreeSet};
+
+use crate::blocks::{DIRECTORY, FILE};
+use crate::disk::Disk;
+use crate::lookup::{Found, LONGEST_PATH};
+use crate::names::{hash, same, slot, LONGEST};
+use crate::program::Refusal;
+use crate::rng::Rng;
+use crate::sizes::held;
+use crate::volumes::{any_name, Entry, Kind, Volume};
+use crate::words::TABLE;
+
+/// A path, and what is to be said of it.
+#[derive(Clone, Debug)]
+pub struct Question {
+    /// Why it is asked.
+    pub what: &'static str,
+    /// The path.
+    pub path: Vec<u8>,
+    /// The answer due on the volume as it is.
+    pub due: Result<Found, Refusal>,
+}
+
+impl Question {
+    /// The path of these components, due for an answer if it is not too long.
+    fn new(what: &'static str, components: &[Vec<u8>], due: Result<Found, Refusal>) -> Question {
+        let path = components.join(&b'/');
+        let due = if path.len() > LONGEST_PATH { Err(Refusal::at(18, 0)) } else { due };
+        Question { what, path, due }
+    }
+}
+
+/// Some of the letters of a name or path in the other case.
+pub fn recased(rng: &mut Rng, path: &[u8]) -> Vec<u8> {
+    let mut path = path.to_vec();
+    for byte in path.iter_mut().filter(|byte| byte.is_ascii_alphabetic()) {
+        *byte ^= rng.pick(&[0, 0x20]);
+    }
+    path
+}
+
+/// Another name for the same slot, which a reader that folds too much takes for this one: bytes that are no letters
+/// of the 26 are changed as a letter is by folding.
+pub fn unfolded(rng: &mut Rng, name: &[u8]) -> Option<Vec<u8>> {
+    let changes = |byte: u8| !byte.is_ascii_alphabetic() && !b"/:".contains(&(byte ^ 0x20));
+    (0..500).find_map(|_| {
+        let mut other = name.to_vec();
+        other.iter_mut().filter(|byte| changes(**byte)).for_each(|byte| *byte ^= rng.pick(&[0, 0x20]));
+        (other != name && slot(&other) == slot(name)).then_some(other)
+    })
+}
+
+/// Names for the same slot that begin like this one, or that this one begins with.
+fn akin(name: &[u8]) -> Vec<Vec<u8>> {
+    let longer = (0..=255).filter(|byte| !b"/:".contains(byte)).map(|byte| [name, &[byte]].concat());
+    let shorter = (1..name.len()).map(|length| name[..length].to_vec());
+    let fits = |other: &Vec<u8>| other.len() <= LONGEST && slot(other) == slot(name);
+    longer.take_while(|other| other.len() <= LONGEST).chain(shorter).filter(fits).collect()
+}
+
+/// The entries of a volume by their paths. A directory is given by its number, the root by none.
+pub struct Paths<'a> {
+    /// The volume.
+    pub volume: &'a Volume,
+    numbers: BTreeMap<u32, usize>,
+}
+
+impl<'a> Paths<'a> {
+    /// The paths of this volume.
+    pub fn new(volume: &'a Volume) -> Paths<'a> {
+        let numbers = volume.entries.iter().enumerate().map(|(number, entry)| (entry.key, number));
+        Paths { volume, numbers: numbers.collect() }
+    }
+
+    /// The entries on the way from the root to this one, which is the last of them.
+    fn way(&self, number: usize) -> Vec<&'a Entry> {
+        let mut last = &self.volume.entries[number];
+        let mut way = vec![last];
+        while let Some(&above) = self.numbers.get(&last.directory) {
+            last = &self.volume.entries[above];
+            way.push(last);
+        }
+        way.reverse();
+        way
+    }
+
+    /// The names on the way to an entry, its own included.
+    pub fn components(&self, number: Option<usize>) -> Vec<Vec<u8>> {
+        let way = number.map_or_else(Vec::new, |number| self.way(number));
+        way.iter().map(|entry| entry.name.clone()).collect()
+    }
+
+    /// The path of an entry, too long or not.
+    pub fn path(&self, number: usize) -> Vec<u8> {
+        self.components(Some(number)).join(&b'/')
+    }
+
+    /// Whether its path is short enough for it to be found.
+    pub fn is_within_reach(&self, number: usize) -> bool {
+        self.path(number).len() <= LONGEST_PATH
+    }
+
+    /// What is found under its path.
+    pub fn found(&self, number: usize) -> Found {
+        let entry = &self.volume.entries[number];
+        let kind = if entry.kind == Kind::Directory { DIRECTORY } else { FILE };
+        let compared = self.way(number).iter().map(|entry| entry.place() + 1).sum();
+        Found { kind, key: entry.key, size: entry.size(), compared }
+    }
+
+    /// The bytes of a file.
+    pub fn contents(&self, number: usize) -> Vec<u8> {
+        let entry = &self.volume.entries[number];
+        let part = |(&key, number)| {
+            let bytes = held(&self.volume.disk, entry.size(), number) as usize;
+            self.volume.block(key)[Disk::DATA_START..][..bytes].iter().copied()
+        };
+        entry.data.iter().zip(1..).flat_map(part).collect()
+    }
+
+    /// The entries in a directory.
+    fn inside(&self, within: Option<usize>) -> Vec<&'a Entry> {
+        let key = within.map_or(self.volume.disk.root(), |number| self.volume.entries[number].key);
+        self.volume.entries.iter().filter(|entry| entry.directory == key).collect()
+    }
+
+    /// A name of which this holds and which no entry of the directory bears.
+    pub fn new_name(&self, rng: &mut Rng, within: Option<usize>, holds: impl Fn(&[u8]) -> bool) -> Vec<u8> {
+        let inside = self.inside(within);
+        let is_new = |name: &[u8]| !inside.iter().any(|entry| same(&entry.name, name));
+        loop {
+            let name = any_name(rng);
+            if holds(&name) && is_new(&name) {
+                return name;
+            }
+        }
+    }
+
+    /// The root.
+    pub fn root(&self) -> Question {
+        let root = Found { kind: DIRECTORY, key: self.volume.disk.root(), size: 0, compared: 0 };
+        Question::new("the empty path", &[], Ok(root))
+    }
+
+    /// An entry by its path, in any case.
+    pub fn existing(&self, rng: &mut Rng, number: usize) -> Question {
+        let components = self.components(Some(number)).iter().map(|name| recased(rng, name)).collect::<Vec<_>>();
+        Question::new("an entry", &components, Ok(self.found(number)))
+    }
+
+    /// A name that a directory lacks, at times with more behind it.
+    fn lacking(&self, rng: &mut Rng, what: &'static str, within: Option<usize>, name: &[u8]) -> Question {
+        let mut components = self.components(within);
+        let place = components.len();
+        components.push(name.to_vec());
+        components.extend((0..rng.pick(&[0, 0, 1, 3])).map(|_| any_name(rng)));
+        Question::new(what, &components, Err(Refusal::at(19, place)))
+    }
+
+    /// Names that a directory lacks: near to those that it has, and far from them.
+    pub fn missing(&self, rng: &mut Rng, within: Option<usize>) -> Vec<Question> {
+        let inside = self.inside(within);
+        let mut names = vec![("any name", self.new_name(rng, within, |_| true))];
+        names.push(("a longest name", self.new_name(rng, within, |name| name.len() == LONGEST)));
+        let used: BTreeSet<u32> = inside.iter().map(|entry| entry.slot).collect();
+        if used.len() < TABLE as usize {
+            names.push(("an empty slot", self.new_name(rng, within, |name| !used.contains(&slot(name)))));
+        }
+        if !inside.is_empty() {
+            let near = &rng.pick(&inside).name;
+            names.push(("a slot in use", self.new_name(rng, within, |name| slot(name) == slot(near))));
+            names.push(("an entry's hash", self.new_name(rng, within, |name| hash(name) == hash(near))));
+            names.extend(unfolded(rng, near).map(|name| ("not to be folded", name)));
+            let akin = akin(near);
+            let picks = (0..akin.len().min(2)).map(|_| akin[rng.below(akin.len() as u64) as usize].clone());
+            names.extend(picks.map(|name| ("longer or shorter", name)));
+        }
+        let elsewhere = self.volume.entries.iter().map(|entry| entry.name.clone()).take(3);
+        names.extend(elsewhere.map(|name| ("a name from elsewhere", name)));
+        names.retain(|(_, name)| !inside.iter().any(|entry| same(&entry.name, name)));
+        names.iter().map(|(what, name)| self.lacking(rng, what, within, name)).collect()
+    }
+
+    /// A file taken for a directory.
+    pub fn past_file(&self, rng: &mut Rng, number: usize) -> Question {
+        let mut components = self.components(Some(number));
+        let place = components.len() - 1;
+        components.extend((0..rng.pick(&[1, 1, 2])).map(|_| any_name(rng)));
+        Question::new("past a file", &components, Err(Refusal::at(20, place)))
+    }
+
+    /// A path of exactly this length that leads out of a directory to where nothing is.
+    pub fn of_length(&self, rng: &mut Rng, within: Option<usize>, length: usize) -> Question {
+        let mut components = self.components(within);
+        let place = components.len();
+        let before = if place == 0 { 0 } else { components.join(&b'/').len() + 1 };
+        // one byte cannot be left over, for a slash and a name come to two
+        let fits = |name: &[u8]| name.len() < 9 && before + name.len() + 1 != length;
+        components.push(self.new_name(rng, within, fits));
+        loop {
+            let left = length.saturating_sub(components.join(&b'/').len());
+            let bytes = match left {
+                0 => break,
+                LONGEST_AND_TWO => LONGEST - 1,
+                _ => LONGEST.min(left - 1),
+            };
+            components.push(vec![b'n'; bytes]);
+        }
+        Question::new("of some length", &components, Err(Refusal::at(19, place)))
+    }
+}
+
+/// A slash and a longest name leave one byte of these.
+const LONGEST_AND_TWO: usize = LONGEST + 2;
+
+/// Components that no path may have, but for the empty one.
+fn bad_components(rng: &mut Rng) -> Vec<Vec<u8>> {
+    let length = LONGEST + 2 + rng.below(60) as usize;
+    let mut colon = any_name(rng);
+    let place = rng.below(colon.len() as u64) as usize;
+    colon[place] = b':';
+    vec![vec![b'l'; LONGEST + 1], vec![b'l'; length], colon, b":".to_vec(), b"df0:".to_vec(), b":c".to_vec()]
+}
+
+/// Paths of bad form, made from the components of a good one.
+pub fn bad_forms(rng: &mut Rng, components: &[Vec<u8>]) -> Vec<Question> {
+    let bad = |what, components: &[Vec<u8>], place| Question::new(what, components, Err(Refusal::at(18, place)));
+    let mut questions =
+        vec![bad("a slash", &[vec![], vec![]], 0), bad("two slashes", &[vec![], vec![], vec![]], 0)];
+    let count = components.len();
+    let any = rng.below(count as u64 + 1) as usize;
+    // an empty component alone is no component
+    for place in [0, any, count].into_iter().filter(|_| count > 0) {
+        let mut path = components.to_vec();
+        path.insert(place, Vec::new());
+        questions.push(bad("an empty component", &path, place));
+    }
+    for component in bad_components(rng) {
+        let place = rng.below(count as u64 + 1) as usize;
+        let mut path = components.to_vec();
+        path.insert(place, component);
+        questions.push(bad("a bad component", &path, place));
+        let second = place + 1 + rng.below((count - place) as u64 + 1) as usize;
+        path.insert(second, rng.pick(&[&b":"[..], b"", &[b'l'; LONGEST + 1]]).to_vec());
+        questions.push(bad("two bad components", &path, place));
+    }
+    questions
+}
+
+/// Offsets in a file of this size at which something changes, and far past it.
+pub fn telling_offsets(disk: &Disk, size: u32) -> Vec<u32> {
+    let full = disk.data_bytes();
+    let last = size.saturating_sub(1) / full * full;
+    let around = [1, full, TABLE * full, 2 * TABLE * full, last, size].into_iter();
+    let around = around.flat_map(|place| [place.wrapping_sub(1), place, place + 1]);
+    let offsets: BTreeSet<u32> = around.chain([0, 1 << 31, u32::MAX - 1, u32::MAX]).collect();
+    offsets.into_iter().collect()
+}
+
+/// Lengths of an output for which so many bytes are left in a file.
+pub fn telling_rooms(disk: &Disk, left: usize) -> Vec<usize> {
+    let full = disk.data_bytes() as usize;
+    let rooms = [0, 1, 2, full - 1, full, full + 1, left.saturating_sub(1), left, left + 1, left + 300];
+    rooms.into_iter().collect::<BTreeSet<usize>>().into_iter().collect()
+}
+
+#[cfg(test)]
+mod tests {
+    use super::*;
+    use crate::lookup::find;
+    use crate::names::valid;
+    use crate::volumes::{any_style, mixed};
+
+    const DISK: Disk = Disk::FLOPPY;
+
+    fn volume(rng: &mut Rng) -> Volume {
+        let plan = mixed(rng, &DISK, 120);
+        let style = any_style(rng);
+        Volume::new(rng, &DISK, &plan, style)
+    }
+
+    #[test]
+    fn names_that_are_the_same_and_names_that_only_look_so() {
+        let mut rng = Rng::new(110);
+        let (mut changed, mut high) = (0, 0);
+        for _ in 0..500 {
+            let name = any_name(&mut rng);
+            let other = recased(&mut rng, &name);
+            assert!(same(&name, &other), "{name:?} {other:?}");
+            changed += usize::from(name != other);
+            let Some(other) = unfolded(&mut rng, &name) else { continue };
+            assert!(valid(&other) && !same(&name, &other) && slot(&name) == slot(&other), "{name:?} {other:?}");
+            let like_letters = |byte: u8| (0xC0..0xE0).contains(&(byte & 0xDF));
+            high += usize::from(name.iter().zip(&other).any(|(&a, &b)| a != b && like_letters(a)));
+        }
+        assert!(changed > 200 && high > 50, "{changed} changed, {high} above 7F");
+        assert!(akin(b"abc").iter().all(|other| slot(other) == slot(b"abc") && other != b"abc"));
+        assert!(akin(b"abc").iter().any(|other| other.len() == 4));
+        assert!(akin(&[b'x'; LONGEST]).iter().all(|other| other.len() < LONGEST));
+    }
+
+    /// What is due is known from the volume, and a lookup says the same.
+    #[test]
+    fn every_question_is_answered_as_is_due() {
+        let mut rng = Rng::new(111);
+        let mut met = BTreeMap::new();
+        for _ in 0..20 {
+            let volume = volume(&mut rng);
+            let paths = Paths::new(&volume);
+            let mut questions = vec![paths.root()];
+            for number in 0..volume.entries.len() {
+                questions.push(paths.existing(&mut rng, number));
+                let is_directory = volume.entries[number].kind == Kind::Directory;
+                match is_directory {
+                    true => questions.extend(paths.missing(&mut rng, Some(number))),
+                    false => questions.push(paths.past_file(&mut rng, number)),
+                }
+                questions.extend(bad_forms(&mut rng, &paths.components(Some(number))));
+            }
+            questions.extend(paths.missing(&mut rng, None));
+            for Question { what, path, due } in &questions {
+                assert_eq!(find(&DISK, &volume.image, path), *due, "{what}: {path:?}");
+                *met.entry(*what).or_insert(0) += 1;
+            }
+        }
+        let rare: Vec<_> = met.iter().filter(|(_, &times)| times < 10).collect();
+        assert!(rare.is_empty() && met.len() == 16, "{rare:?} of {met:?}");
+    }
+
+    #[test]
+    fn paths_of_every_length() {
+        let mut rng = Rng::new(112);
+        let volume = volume(&mut rng);
+        let paths = Paths::new(&volume);
+        for length in 40..300 {
+            let Question { path, due, .. } = paths.of_length(&mut rng, None, length);
+            assert_eq!(path.len(), length);
+            assert_eq!(due, Err(if length > 255 { Refusal::at(18, 0) } else { Refusal::at(19, 0) }));
+            assert_eq!(find(&DISK, &volume.image, &path), due, "{path:?}");
+        }
+    }
+
+    #[test]
+    fn bad_forms_are_bad_in_every_way() {
+        let mut rng = Rng::new(113);
+        let components = [b"one".to_vec(), b"two".to_vec()];
+        let all: BTreeSet<(Vec<u8>, usize)> = (0..50)
+            .flat_map(|_| bad_forms(&mut rng, &components))
+            .map(|Question { path, due, .. }| (path, due.expect_err("a bad form").place))
+            .collect();
+        for (path, place) in [
+            ("/", 0),
+            ("//", 0),
+            ("/one/two", 0),
+            ("one//two", 1),
+            ("one/two/", 2),
+            (":/one/two", 0),
+            ("one/two/:", 2),
+        ] {
+            assert!(all.contains(&(path.as_bytes().to_vec(), place)), "{path} at {place}");
+        }
+        // with nothing to insert into, an empty component would be the empty path
+        assert!(bad_forms(&mut rng, &[]).iter().all(|question| !question.path.is_empty()));
+    }
+
+    #[test]
+    fn offsets_and_rooms_at_both_sides_of_every_end() {
+        let offsets = telling_offsets(&DISK, 35_137);
+        for wanted in [0, 1, 487, 488, 489, 35_135, 35_136, 35_137, 35_138, 70_271, u32::MAX] {
+            assert!(offsets.contains(&wanted), "{wanted}");
+        }
+        assert!(telling_offsets(&DISK, 0).contains(&1));
+        assert_eq!(telling_rooms(&DISK, 1_000), [0, 1, 2, 487, 488, 489, 999, 1_000, 1_001, 1_300]);
+        assert_eq!(telling_rooms(&DISK, 0), [0, 1, 2, 300, 487, 488, 489]);
+    }
+}

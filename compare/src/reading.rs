@@ -1,0 +1,269 @@
+//! Reading a file on any image, whatever an audit says of it (the build paper, section "Paths and reads").
+//!
+//! A file is had as a whole: its tables first, then all keys in them, then all its bytes. What is asked for is cut
+//! from these at last, so nothing can be copied too early.
+
+use crate::audit::passed;
+use crate::blocks::{self, DataAt, ListAt, DIRECTORY};
+use crate::disk::Disk;
+use crate::lookup::{block, find, led_to};
+use crate::program::Refusal;
+use crate::sizes::{data_blocks, held, list_blocks};
+use crate::words::{key_word, word, TABLE};
+
+/// Copies a file's bytes from an offset on into the output, until one of them ends, and answers how many. The rest
+/// of the output stays, and all of it if the read is refused.
+pub fn read(disk: &Disk, image: &[u8], path: &[u8], offset: usize, output: &mut [u8]) -> Result<usize, Refusal> {
+    let found = find(disk, image, path)?;
+    if found.kind == DIRECTORY {
+        let slashes = path.iter().filter(|&&byte| byte == b'/').count();
+        return Err(Refusal::at(20, slashes));
+    }
+    let contents = contents(disk, image, found.key)?;
+    let rest = contents.get(offset..).unwrap_or(&[]);
+    let count = rest.len().min(output.len());
+    output[..count].copy_from_slice(&rest[..count]);
+    Ok(count)
+}
+
+/// The bytes of the file with this header.
+fn contents(disk: &Disk, image: &[u8], header: u32) -> Result<Vec<u8>, Refusal> {
+    passed(blocks::file(disk, block(image, header)), header)?;
+    let size = blocks::size(block(image, header));
+    let (tables, ended) = tables(disk, image, header);
+    let count = data_blocks(disk, size) as usize;
+    let listed = tables.iter().flat_map(|table| (0..TABLE).map(|index| word(table, key_word(index))));
+    let keys: Vec<u32> = listed.take(count).collect();
+
+    // all data of a table are asked for before the next table is
+    let mut named = word(block(image, header), 4);
+    for (&key, number) in keys.iter().zip(1..) {
+        let block = led_to(disk, image, key)?;
+        passed(blocks::data(disk, block, DataAt { key, header, number, size, named }), key)?;
+        named = word(block, 4);
+    }
+    ended?;
+    let part = |(&key, number)| &block(image, key)[Disk::DATA_START..][..held(disk, size, number) as usize];
+    Ok(keys.iter().zip(1..).flat_map(part).copied().collect())
+}
+
+/// The header and the list blocks of a file; they end before the first list block that is refused, and why.
+fn tables<'a>(disk: &Disk, image: &'a [u8], header: u32) -> (Vec<&'a [u8]>, Result<(), Refusal>) {
+    let mut tables = vec![block(image, header)];
+    let size = blocks::size(tables[0]);
+    for list in 1..=list_blocks(disk, size) {
+        let key = word(tables[tables.len() - 1], 126);
+        let to_come = data_blocks(disk, size) - list * TABLE;
+        let tested = led_to(disk, image, key).and_then(|block| {
+            passed(blocks::list(block, ListAt { key, header, to_come }), key)?;
+            Ok(block)
+        });
+        match tested {
+            Ok(block) => tables.push(block),
+            Err(refusal) => return (tables, Err(refusal)),
+        }
+    }
+    (tables, Ok(()))
+}
+
+#[cfg(test)]
+mod tests {
+    use super::*;
+    use crate::audit::audit;
+    use crate::rng::Rng;
+    use crate::volumes::{any_style, Entry, Kind, Plan, Volume, TELLING_SIZES};
+    use crate::words::{mend, put, BLOCK_BYTES};
+
+    const DISK: Disk = Disk::FLOPPY;
+
+    /// A file with one list, one with three full lists, an empty one, and a directory with a file.
+    fn volume() -> Volume {
+        let mut rng = Rng::new(130);
+        let mut plan = Plan::default();
+        plan.add_named(None, b"one", Kind::File(74 * 488 + 1));
+        plan.add_named(None, b"three", Kind::File(4 * 72 * 488));
+        plan.add_named(None, b"empty", Kind::File(0));
+        let within = Some(plan.add_named(None, b"Mary", Kind::Directory));
+        plan.add_named(within, b"box", Kind::File(1_000));
+        plan.add_named(within, b"Jane", Kind::Directory);
+        let style = any_style(&mut rng);
+        Volume::new(&mut rng, &DISK, &plan, style)
+    }
+
+    fn entry<'a>(volume: &'a Volume, name: &[u8]) -> &'a Entry {
+        volume.entries.iter().find(|entry| entry.name == name).expect("an entry")
+    }
+
+    /// The image with words put into a block, and its sum mended.
+    fn changed(image: &[u8], key: u32, words: &[(usize, u32)]) -> Vec<u8> {
+        let mut image = image.to_vec();
+        let block = &mut image[key as usize * BLOCK_BYTES..][..BLOCK_BYTES];
+        words.iter().for_each(|&(index, value)| put(block, index, value));
+        mend(block, 5);
+        image
+    }
+
+    /// Holds a read into rooms of several lengths, none among them, to a refusal that leaves them alone.
+    fn hold_refused(image: &[u8], path: &[u8], number: u32, place: u32) {
+        for (offset, room) in [(0, 40_000), (0, 1), (0, 0), (900, 600), (usize::MAX, 5)] {
+            let mut output = vec![0xAA; room];
+            let answer = read(&DISK, image, path, offset, &mut output);
+            assert_eq!(answer, Err(Refusal::at(number, place as usize)), "{path:?} from {offset}");
+            assert!(output.iter().all(|&byte| byte == 0xAA), "{path:?}: {number} with an output of {room}");
+        }
+    }
+
+    /// An image made word by word: directory a with file c of 492 bytes, in two blocks out of order.
+    #[test]
+    fn a_file_made_by_hand() {
+        let mut image = vec![0; 901_120];
+        image[..3].copy_from_slice(b"DOS");
+        let root = [(0, 2), (3, 72), (12, 4), (108, 0x0141_0000), (127, 1)];
+        let directory = [(0, 2), (1, 4), (14, 5), (108, 0x0141_0000), (125, 880), (127, 2)];
+        let sizes = [(2, 2), (4, 9), (76, 7), (77, 9), (81, 492)];
+        let header = [(0, 2), (1, 5), (108, 0x0143_0000), (125, 4), (127, 0xFFFF_FFFD)];
+        let first = [(0, 8), (1, 5), (2, 1), (3, 488), (4, 7), (6, 0x6669_7273), (127, 0x656E_6431)];
+        let second = [(0, 8), (1, 5), (2, 2), (3, 4), (6, 0x6C61_7374), (7, 0x4E4F_5045)];
+        let file = [sizes, header].concat();
+        for (key, words) in [(880, &root[..]), (4, &directory), (5, &file), (9, &first), (7, &second)] {
+            image = changed(&image, key, words);
+        }
+        let mut output = [0xAA; 500];
+        assert_eq!(read(&DISK, &image, b"A/c", 0, &mut output), Ok(492));
+        assert_eq!((&output[..4], &output[4..484]), (&b"firs"[..], &[0; 480][..]));
+        assert_eq!(&output[484..], b"end1last\xAA\xAA\xAA\xAA\xAA\xAA\xAA\xAA");
+        assert_eq!(read(&DISK, &image, b"a/C", 486, &mut output[..3]), Ok(3));
+        assert_eq!(&output[..5], b"d1ls\0");
+    }
+
+    /// What a read from this offset on makes of an output of this length.
+    fn got(volume: &Volume, path: &[u8], offset: usize, room: usize) -> (usize, Vec<u8>) {
+        let mut output = vec![0xAA; room];
+        let count = read(&DISK, &volume.image, path, offset, &mut output).expect("a good file");
+        (count, output)
+    }
+
+    #[test]
+    fn pieces_make_the_whole() {
+        let mut rng = Rng::new(131);
+        for size in TELLING_SIZES.into_iter().chain([1_000, 70_273]) {
+            let mut plan = Plan::default();
+            plan.add_named(None, b"file", Kind::File(size));
+            let style = any_style(&mut rng);
+            let volume = Volume::new(&mut rng, &DISK, &plan, style);
+            let (count, whole) = got(&volume, b"file", 0, size as usize + 10);
+            assert_eq!((count, &whole[count..]), (size as usize, &[0xAA; 10][..]));
+            for piece in [1, 3, 487, 488, 489, 976, 5_000, 35_136, 35_137] {
+                // small pieces of a large file would take long
+                let starts = (0..=count).step_by(piece).take(100);
+                for start in starts {
+                    let (part, output) = got(&volume, b"file", start, piece);
+                    let due = &whole[start..count.min(start + piece)];
+                    assert_eq!((part, &output[..part]), (due.len(), due), "{piece} of {size} from {start}");
+                    assert!(output[part..].iter().all(|&byte| byte == 0xAA), "{piece} of {size} from {start}");
+                }
+            }
+            for past in [count, count + 1, u32::MAX as usize, usize::MAX] {
+                assert_eq!(got(&volume, b"file", past, 9), (0, vec![0xAA; 9]), "{size} from {past}");
+            }
+        }
+    }
+
+    #[test]
+    fn a_refused_lookup_is_handed_on() {
+        let volume = volume();
+        hold_refused(&volume.image[1..], b"Mary/box", 1, 0);
+        for (path, number, place) in [
+            (&b"one/"[..], 18, 1),
+            (b"two", 19, 0),
+            (b"Mary/two", 19, 1),
+            (b"one/x", 20, 0),
+            (b"", 20, 0),
+            (b"Mary", 20, 0),
+            (b"Mary/Jane", 20, 1),
+        ] {
+            hold_refused(&volume.image, path, number, place);
+        }
+        let mut image = volume.image.clone();
+        image[2] = 0;
+        hold_refused(&image, b"Mary/box", 3, 0);
+        hold_refused(&image, b":", 18, 0);
+        hold_refused(&changed(&volume.image, 880, &[(3, 71)]), b"Mary/box", 4, 880);
+        let key = entry(&volume, b"Mary").key;
+        hold_refused(&changed(&volume.image, key, &[(125, 0)]), b"Mary/box", 10, key);
+    }
+
+    /// Every rule about a file's blocks, broken far behind what is asked for too.
+    #[test]
+    fn every_block_of_the_file_is_tested() {
+        let volume = volume();
+        let [one, three] = [&b"one"[..], b"three"].map(|name| entry(&volume, name));
+        let (first, middle, last) = (one.data[0], one.data[40], one.data[74]);
+        let (header, list) = (one.key, one.lists[0]);
+        for (path, key, words, number, place) in [
+            (&b"one"[..], header, (81, 75 * 488 + 1), 14, list),
+            (b"one", header, (81, 856_441), 14, header),
+            (b"one", header, (2, 71), 14, header),
+            (b"one", header, (126, 0), 14, header),
+            (b"one", header, (126, 1_760), 5, 1_760),
+            (b"one", header, (4, 0), 15, first),
+            (b"one", header, (77 - 40, 0), 5, 0),
+            (b"one", header, (77 - 40, 880), 8, 880),
+            (b"one", header, (77 - 40, last), 15, last),
+            (b"one", list, (0, 2), 8, list),
+            (b"one", list, (1, header), 10, list),
+            (b"one", list, (2, 4), 14, list),
+            (b"one", list, (126, list), 14, list),
+            (b"one", list, (77, 1), 5, 1),
+            (b"one", middle, (0, 16), 8, middle),
+            (b"one", middle, (1, 0), 15, middle),
+            (b"one", middle, (2, 40), 15, middle),
+            (b"one", middle, (3, 487), 15, middle),
+            (b"one", middle, (4, middle), 15, one.data[41]),
+            (b"one", last, (3, 2), 15, last),
+            (b"one", last, (4, last), 15, last),
+            (b"three", three.lists[0], (126, 0), 14, three.lists[0]),
+            (b"three", three.lists[1], (126, three.lists[1]), 14, three.lists[1]),
+            (b"empty", entry(&volume, b"empty").key, (4, 5), 14, entry(&volume, b"empty").key),
+            (b"empty", entry(&volume, b"empty").key, (2, 1), 14, entry(&volume, b"empty").key),
+        ] {
+            hold_refused(&changed(&volume.image, key, &[words]), path, number, place);
+            let mut unsummed = changed(&volume.image, key, &[words]);
+            unsummed[key as usize * BLOCK_BYTES + 23] ^= 1;
+            hold_refused(&unsummed, path, 7, key);
+        }
+    }
+
+    /// The data of a table come before the next table, whatever is wrong with that.
+    #[test]
+    fn tables_and_data_in_turn() {
+        let volume = volume();
+        let file = entry(&volume, b"three");
+        let harms = [
+            (file.data[71], 15),
+            (file.lists[0], 10),
+            (file.data[72], 15),
+            (file.lists[1], 10),
+            (file.data[150], 15),
+            (file.lists[2], 10),
+            (file.data[287], 15),
+        ];
+        let mut image = volume.image.clone();
+        for &(key, number) in harms.iter().rev() {
+            image = changed(&image, key, &[(1, 0)]);
+            hold_refused(&image, b"three", number, key);
+        }
+        hold_refused(&changed(&image, file.key, &[(2, 0)]), b"three", 14, file.key);
+    }
+
+    /// A list met twice is no fault in itself; its data have other numbers than are due.
+    #[test]
+    fn nothing_is_claimed() {
+        let volume = volume();
+        let file = entry(&volume, b"three");
+        let image = changed(&volume.image, file.lists[0], &[(126, file.lists[0])]);
+        hold_refused(&image, b"three", 15, file.data[72]);
+        let answer = audit(&DISK, &image, &mut [0; 1_760]);
+        assert_eq!(answer, Err(Refusal::at(6, file.lists[0] as usize)));
+    }
+}

@@ -1,0 +1,1059 @@
+//! Holds the program `probe` to the lookup and the reader of this package: 1 takes an image over, 2 changes bytes of
+//! it, 4 finds a path on it, 5 reads a file.
+//!
+//! Where the volume or the harm done to it tells the answer beforehand, this package is held to that as well. Images
+//! are long; most are had by a patch to one that `probe` holds already, which is patched back after.
+
+use std::collections::{BTreeMap, BTreeSet};
+
+use compare::bad_volumes::{apply, causes, harmless, scratch, wrong_lengths, Cause, Harm, Patch};
+use compare::blocks::{DIRECTORY, FILE};
+use compare::disk::Disk;
+use compare::driver::{checksum, Batch};
+use compare::lookup::{find, Found, LONGEST_PATH};
+use compare::names::{name, put_name, same, slot};
+use compare::paths::{bad_forms, telling_offsets, telling_rooms, unfolded, Paths, Question};
+use compare::program::Refusal;
+use compare::reading::read;
+use compare::rng::Rng;
+use compare::volumes::{
+    any_name, any_style, chain, empty, files, full, mixed, nested, shuffle, Entry, Kind, Part, Plan, Volume,
+    TELLING_SIZES,
+};
+use compare::words::{mend, put, slot_word, word, BLOCK_BYTES, BLOCK_WORDS, TABLE};
+
+const IMAGE: u32 = 1;
+const PATCH: u32 = 2;
+const FIND: u32 = 4;
+const READ: u32 = 5;
+
+const BAD: &str = "bad request";
+
+const DISK: Disk = Disk::FLOPPY;
+
+/// What is in the output before a read.
+const BEFORE: u8 = 0xAA;
+
+/// The longest path and the longest output that `probe` has room for.
+const PATH_ROOM: usize = 4_096;
+const OUTPUT_ROOM: usize = 1_048_576;
+
+/// The longest output that is asked for often; checksums of longer ones take their time.
+const SHORT: usize = 2_000;
+
+/// The largest file.
+const LARGEST: u32 = 844_728;
+
+/// Every number that a lookup gives, and those that a read gives besides.
+const OF_FIND: [u32; 14] = [1, 3, 4, 5, 6, 7, 8, 9, 10, 11, 12, 18, 19, 20];
+const OF_READ: [u32; 2] = [14, 15];
+
+/// How often each kind of answer is due.
+#[derive(Default)]
+struct Tally {
+    finds: usize,
+    reads: usize,
+    found: usize,
+    copied: usize,
+    refused_finds: BTreeMap<u32, usize>,
+    refused_reads: BTreeMap<u32, usize>,
+    /// Answers known beforehand, and those of them that a harm told.
+    known: usize,
+    told: usize,
+}
+
+/// Requests for one run of `probe`, with the answers due.
+struct Talk {
+    batch: Batch,
+    tally: Tally,
+    held: Vec<u8>,
+    about: String,
+}
+
+impl Talk {
+    fn new() -> Talk {
+        Talk { batch: Batch::new(), tally: Tally::default(), held: Vec::new(), about: "at first".into() }
+    }
+
+    /// Says what the next requests are about.
+    fn about(&mut self, about: impl Into<String>) {
+        self.about = about.into();
+    }
+
+    fn ask(&mut self, number: u32, body: &[u8], answer: &str) {
+        self.batch.ask_about(&self.about, number, body, answer);
+    }
+
+    fn image(&mut self, image: &[u8]) {
+        self.held = image.to_vec();
+        self.ask(IMAGE, image, &format!("image {}", image.len()));
+    }
+
+    fn patch(&mut self, patches: &[Patch]) {
+        apply(patches, &mut self.held);
+        for (place, bytes) in patches {
+            let body = [&(*place as u32).to_be_bytes(), &bytes[..]].concat();
+            self.ask(PATCH, &body, "patched");
+        }
+    }
+
+    /// Does this with the image patched; it is as before afterwards.
+    fn patched(&mut self, patches: &[Patch], then: impl FnOnce(&mut Talk)) {
+        let old = |(place, bytes): &Patch| (*place, self.held[*place..][..bytes.len()].to_vec());
+        let undo: Vec<Patch> = patches.iter().map(old).collect();
+        self.patch(patches);
+        then(self);
+        self.patch(&undo);
+    }
+
+    fn find(&mut self, path: &[u8]) -> Result<Found, Refusal> {
+        let path = in_room(path);
+        let answer = find(&DISK, &self.held, path);
+        self.tally.finds += 1;
+        let line = match answer {
+            Ok(Found { kind, key, size, compared }) => {
+                self.tally.found += 1;
+                let kind = if kind == DIRECTORY { "directory" } else { "file" };
+                format!("{kind} {key} {size} {compared}")
+            }
+            Err(Refusal { number, place }) => {
+                *self.tally.refused_finds.entry(number).or_default() += 1;
+                format!("refused {number} {place}")
+            }
+        };
+        self.ask(FIND, path, &line);
+        answer
+    }
+
+    /// A read, and the output after it.
+    fn read(&mut self, path: &[u8], offset: u32, room: usize) -> (Result<usize, Refusal>, Vec<u8>) {
+        let (path, mut output) = (in_room(path), vec![BEFORE; room]);
+        let answer = read(&DISK, &self.held, path, offset as usize, &mut output);
+        self.tally.reads += 1;
+        let line = match answer {
+            Ok(count) => {
+                self.tally.copied += 1;
+                format!("bytes {count}")
+            }
+            Err(Refusal { number, place }) => {
+                *self.tally.refused_reads.entry(number).or_default() += 1;
+                format!("refused {number} {place}")
+            }
+        };
+        self.ask(READ, &read_body(offset, room as u32, path), &format!("{line} out {}", checksum(&output)));
+        (answer, output)
+    }
+
+    /// A lookup of which the answer is known beforehand.
+    fn expect_find(&mut self, path: &[u8], due: Result<Found, Refusal>) {
+        self.tally.known += 1;
+        let answer = self.find(path);
+        assert_eq!(answer, due, "{}: {path:?}", self.about);
+    }
+
+    /// A read that is known to give bytes of a file with these contents.
+    fn expect_bytes(&mut self, path: &[u8], offset: u32, room: usize, contents: &[u8]) {
+        let rest: Vec<u8> = contents.iter().copied().skip(offset as usize).take(room).collect();
+        let due = (Ok(rest.len()), [&rest[..], &vec![BEFORE; room - rest.len()]].concat());
+        self.tally.known += 1;
+        let got = self.read(path, offset, room);
+        assert!(got == due, "{}: {path:?} from {offset} into {room}", self.about);
+    }
+
+    /// A read that is known to be refused so.
+    fn expect_refused(&mut self, path: &[u8], offset: u32, room: usize, due: Refusal) {
+        self.tally.known += 1;
+        let got = self.read(path, offset, room);
+        assert!(got == (Err(due), vec![BEFORE; room]), "{}: {path:?}: {:?}, not {due:?}", self.about, got.0);
+    }
+
+    fn run(self) {
+        self.batch.compare("probe");
+    }
+}
+
+/// As much of a path as `probe` has room for; one that is cut is too long before and after.
+fn in_room(path: &[u8]) -> &[u8] {
+    &path[..path.len().min(PATH_ROOM)]
+}
+
+fn read_body(offset: u32, room: u32, path: &[u8]) -> Vec<u8> {
+    [&offset.to_be_bytes(), &room.to_be_bytes(), path].concat()
+}
+
+fn laid_out(rng: &mut Rng, plan: &Plan) -> Volume {
+    let style = any_style(rng);
+    Volume::new(rng, &DISK, plan, style)
+}
+
+/// Where to read in a file of this size, and how much.
+fn spot(rng: &mut Rng, size: u32) -> (u32, usize) {
+    let any = rng.below(u64::from(size) + 1) as u32;
+    let telling = rng.pick(&telling_offsets(&DISK, size));
+    let offset = rng.pick(&[0, any, telling, telling]);
+    let rooms = telling_rooms(&DISK, size.saturating_sub(offset) as usize);
+    let room = rng.pick(&rooms);
+    // few of the long ones
+    (offset, if room > SHORT && rng.below(8) > 0 { rng.below(SHORT as u64) as usize } else { room })
+}
+
+/// The answers to a few paths on the volume without entries, without an opinion of this package.
+#[test]
+fn the_empty_volume() {
+    let volume = laid_out(&mut Rng::new(140), &empty());
+    let mut batch = Batch::new();
+    batch.ask(IMAGE, &volume.image, "image 901120");
+    for (path, answer) in [
+        (&b""[..], "directory 880 0 0"),
+        (b"a", "refused 19 0"),
+        (b"a/b", "refused 19 0"),
+        (b"/", "refused 18 0"),
+        (b"a/", "refused 18 1"),
+    ] {
+        batch.ask(FIND, path, answer);
+        let answer = if path.is_empty() { "refused 20 0" } else { answer };
+        // two bytes AA: 171 * 257 + 171
+        batch.ask(READ, &read_body(0, 2, path), &format!("{answer} out 44118"));
+        batch.ask(READ, &read_body(7, 0, path), &format!("{answer} out 0"));
+    }
+    batch.compare("probe");
+}
+
+#[test]
+fn before_any_image_its_length_is_zero() {
+    let mut talk = Talk::new();
+    for path in [&b""[..], b"a", b":", b"a/"] {
+        talk.expect_find(path, Err(Refusal::at(1, 0)));
+        talk.expect_refused(path, 0, 10, Refusal::at(1, 0));
+    }
+    talk.run();
+}
+
+/// What is no lookup and no read answers so, and the image held stays.
+#[test]
+fn paths_and_outputs_above_their_room_and_short_bodies_are_bad() {
+    let mut rng = Rng::new(141);
+    let plan = files(&mut rng, &[1_000]);
+    let volume = laid_out(&mut rng, &plan);
+    let (paths, path) = (Paths::new(&volume), &volume.entries[0].name);
+    let mut talk = Talk::new();
+    talk.image(&volume.image);
+    for length in [PATH_ROOM + 1, 10_000] {
+        talk.about(format!("a path of {length}"));
+        talk.ask(FIND, &vec![b'x'; length], BAD);
+        talk.ask(READ, &read_body(0, 10, &vec![b'x'; length]), BAD);
+        talk.expect_find(path, Ok(paths.found(0)));
+    }
+    talk.about("a path as long as its room");
+    talk.expect_find(&[b'x'; PATH_ROOM], Err(Refusal::at(18, 0)));
+    talk.expect_refused(&[b'x'; PATH_ROOM], 0, 10, Refusal::at(18, 0));
+    for room in [OUTPUT_ROOM as u32 + 1, 1 << 31, u32::MAX] {
+        talk.about(format!("an output of {room}"));
+        talk.ask(READ, &read_body(0, room, path), BAD);
+        talk.expect_bytes(path, 10, 100, &paths.contents(0));
+    }
+    talk.about("an output as long as its room");
+    talk.expect_bytes(path, 0, OUTPUT_ROOM, &paths.contents(0));
+    for length in 0..8 {
+        talk.about(format!("a body of {length}"));
+        talk.ask(READ, &vec![0; length], BAD);
+        talk.expect_bytes(path, 999, 2, &paths.contents(0));
+    }
+    talk.run();
+}
+
+/// Names of one byte 130 directories deep, and longest names that come to a path of 255 bytes and one of 256.
+fn deep(rng: &mut Rng) -> Volume {
+    let mut plan = empty();
+    let letter = |rng: &mut Rng| [rng.pick(b"abcxyzABC\xC4\xE4")];
+    (0..130).fold(None, |within, _| Some(plan.add_named(within, &letter(rng), Kind::Directory)));
+    let eighth = (0..8u8).fold(None, |within, depth| {
+        Some(plan.add_named(within, &[&[b'L'; 29][..], &[b'q' + depth]].concat(), Kind::Directory))
+    });
+    for (name, kind) in
+        [(&b"sevenEF"[..], Kind::File(490)), (b"seven_D", Kind::Directory), (b"eight__F", Kind::File(1))]
+    {
+        plan.add_named(eighth, name, kind);
+    }
+    laid_out(rng, &plan)
+}
+
+/// Names that lie near one another, in pairs on one chain.
+fn near_names(rng: &mut Rng) -> Volume {
+    let mut plan = empty();
+    let mut pairs = 0;
+    let mut names: Vec<Vec<u8>> = Vec::new();
+    while pairs < 25 {
+        let name = any_name(rng);
+        let Some(near) = unfolded(rng, &name) else { continue };
+        if ![&name, &near].into_iter().any(|new| names.iter().any(|name| same(name, new))) {
+            for name in [&name, &near] {
+                plan.add_named(None, name, rng.pick(&[Kind::Directory, Kind::File(0), Kind::File(490)]));
+            }
+            names.extend([name, near]);
+            pairs += 1;
+        }
+    }
+    laid_out(rng, &plan)
+}
+
+/// Volumes of moderate size, and what they are.
+fn moderate(rng: &mut Rng) -> Vec<(String, Volume)> {
+    let mut volumes = vec![("deep".to_string(), deep(rng)), ("near names".to_string(), near_names(rng))];
+    let plans = [
+        ("telling sizes", files(rng, &TELLING_SIZES)),
+        ("several lists", files(rng, &[105_409, 70_272, 1])),
+        ("30 nested", nested(rng, 30)),
+        ("40 on a chain", chain(rng, 40)),
+    ];
+    volumes.extend(plans.iter().map(|(what, plan)| (what.to_string(), laid_out(rng, plan))));
+    for blocks in [40, 80, 120, 160, 250] {
+        let plan = mixed(rng, &DISK, blocks);
+        volumes.push((format!("mixed, {blocks} blocks"), laid_out(rng, &plan)));
+    }
+    volumes
+}
+
+/// Volumes that fill the disk.
+fn large(rng: &mut Rng) -> Vec<(String, Volume)> {
+    let plans = [
+        ("nested throughout", nested(rng, DISK.chain_limit())),
+        ("one chain", chain(rng, DISK.chain_limit())),
+        ("the largest file", files(rng, &[LARGEST])),
+        ("full", full(rng, &DISK)),
+    ];
+    plans.iter().map(|(what, plan)| (what.to_string(), laid_out(rng, plan))).collect()
+}
+
+/// All entries of all volumes, by their paths.
+#[test]
+fn every_entry_is_found_and_every_file_read() {
+    let mut rng = Rng::new(142);
+    let (mut found, mut out_of_reach, mut bytes) = (0, 0, 0);
+    let volumes = [moderate(&mut rng), large(&mut rng)];
+    for (what, volume) in volumes.iter().flatten() {
+        let paths = Paths::new(volume);
+        for (number, entry) in volume.entries.iter().enumerate() {
+            let Question { path, due, .. } = paths.existing(&mut rng, number);
+            let answer = find(&DISK, &volume.image, &path);
+            assert_eq!(answer, due, "{what}: {path:?}");
+            let Ok(Found { kind, key, size, .. }) = answer else {
+                assert!(path.len() > LONGEST_PATH, "{what}: {path:?}");
+                out_of_reach += 1;
+                continue;
+            };
+            found += 1;
+            let due = if entry.kind == Kind::Directory { (DIRECTORY, 0) } else { (FILE, entry.size()) };
+            assert_eq!(((kind, size), key), (due, entry.key), "{what}: {path:?}");
+            let mut output = vec![BEFORE; size as usize + 3];
+            let answer = read(&DISK, &volume.image, &path, 0, &mut output);
+            if kind == DIRECTORY {
+                let last = paths.components(Some(number)).len() - 1;
+                assert_eq!(answer, Err(Refusal::at(20, last)), "{what}: {path:?}");
+                continue;
+            }
+            assert_eq!(answer, Ok(size as usize), "{what}: {path:?}");
+            assert!(output == [&paths.contents(number)[..], &[BEFORE; 3]].concat(), "{what}: {path:?}");
+            bytes += size;
+        }
+    }
+    assert!(found > 2_000 && out_of_reach > 1_000 && bytes > 2_000_000, "{found} {out_of_reach} {bytes}");
+}
+
+/// Images of a wrong length, and good ones with other tags, asked for paths of all forms.
+fn lengths(rng: &mut Rng) -> Talk {
+    let mut talk = Talk::new();
+    let plan = mixed(rng, &DISK, 30);
+    let volume = laid_out(rng, &plan);
+    let path = Paths::new(&volume).path(0);
+    let all = [&b""[..], &path, b"nobody", b"a//b", &[b'x'; 256]];
+    for length in wrong_lengths(&DISK) {
+        let mut image = volume.image.clone();
+        image.resize(length, 0);
+        talk.about(format!("{length} bytes"));
+        talk.image(&image);
+        for path in all {
+            talk.expect_find(path, Err(Refusal::at(1, 0)));
+            talk.expect_refused(path, 0, 9, Refusal::at(1, 0));
+        }
+    }
+    talk.image(&volume.image);
+    for tag in [*b"KICK", *b"DOS\x01", *b"dos\0", [0; 4]] {
+        talk.about(format!("the boot tag {tag:?}"));
+        talk.patched(&[(0, tag.to_vec())], |talk| {
+            for (path, due) in all.into_iter().zip([(3, 0), (3, 0), (3, 0), (18, 1), (18, 0)]) {
+                talk.expect_find(path, Err(Refusal::at(due.0, due.1)));
+                talk.expect_refused(path, 0, 9, Refusal::at(due.0, due.1));
+            }
+        });
+    }
+    talk
+}
+
+/// Asks questions, most often as lookups.
+fn ask(talk: &mut Talk, rng: &mut Rng, what: &str, questions: &[Question]) {
+    for question in questions {
+        talk.about(format!("{what}: {}", question.what));
+        match question.due {
+            Err(due) if rng.below(3) == 0 => {
+                let (offset, room) = spot(rng, 600);
+                talk.expect_refused(&question.path, offset, room, due);
+            }
+            due => talk.expect_find(&question.path, due),
+        }
+    }
+}
+
+/// Reads in a file, if the entry is one in reach, else what is due for it.
+fn reads(talk: &mut Talk, rng: &mut Rng, paths: &Paths, number: usize, times: usize) {
+    let Question { path, due, .. } = paths.existing(rng, number);
+    let last = paths.components(Some(number)).len() - 1;
+    let contents = paths.contents(number);
+    for _ in 0..times {
+        let (offset, room) = spot(rng, contents.len() as u32);
+        match due {
+            Ok(found) if found.kind == FILE => talk.expect_bytes(&path, offset, room, &contents),
+            Ok(_) => talk.expect_refused(&path, offset, room, Refusal::at(20, last)),
+            Err(due) => talk.expect_refused(&path, offset, room, due),
+        }
+    }
+}
+
+/// Questions about these entries, and about some of them that are directories.
+fn questions(rng: &mut Rng, paths: &Paths, numbers: &[usize]) -> Vec<Question> {
+    let is_directory = |number: &usize| paths.volume.entries[*number].kind == Kind::Directory;
+    let (directories, files): (Vec<usize>, Vec<usize>) = numbers.iter().partition(|number| is_directory(number));
+    let mut questions = vec![paths.root()];
+    questions.extend(numbers.iter().map(|&number| paths.existing(rng, number)));
+    questions.extend(files.iter().map(|&number| paths.past_file(rng, number)));
+    for within in directories.into_iter().take(8).map(Some).chain([None, None]) {
+        questions.extend(paths.missing(rng, within));
+    }
+    for number in numbers.iter().take(3).copied().map(Some).chain([None]) {
+        questions.extend(bad_forms(rng, &paths.components(number)));
+    }
+    let lengths = [LONGEST_PATH - 1, LONGEST_PATH, LONGEST_PATH + 1, 300];
+    questions.extend(lengths.map(|length| paths.of_length(rng, None, length)));
+    questions
+}
+
+/// Paths on a volume as it is: to so many of its entries, and to where nothing is.
+fn as_is(talk: &mut Talk, rng: &mut Rng, what: &str, volume: &Volume, times: usize) {
+    let paths = Paths::new(volume);
+    talk.about(what);
+    talk.image(&volume.image);
+    talk.expect_refused(b"", 0, 5, Refusal::at(20, 0));
+    let mut numbers: Vec<usize> = (0..volume.entries.len()).collect();
+    shuffle(rng, &mut numbers);
+    numbers.truncate(times);
+    let questions = questions(rng, &paths, &numbers);
+    ask(talk, rng, what, &questions);
+    numbers.iter().for_each(|&number| reads(talk, rng, &paths, number, 2));
+}
+
+/// The volume with long paths: those of 255 bytes, of 256, and of 128 components.
+fn long_paths(rng: &mut Rng) -> Talk {
+    let mut talk = Talk::new();
+    let volume = deep(rng);
+    let paths = Paths::new(&volume);
+    talk.about("long paths");
+    talk.image(&volume.image);
+    let lengths: BTreeSet<usize> = (0..volume.entries.len()).map(|number| paths.path(number).len()).collect();
+    assert!(lengths.contains(&255) && lengths.contains(&256), "{lengths:?}");
+    for number in 0..volume.entries.len() {
+        let question = paths.existing(rng, number);
+        talk.expect_find(&question.path, question.due);
+        reads(&mut talk, rng, &paths, number, 1);
+        let components = paths.components(Some(number));
+        if components.len() > 125 && components.len() < 130 {
+            let questions = [bad_forms(rng, &components), paths.missing(rng, Some(number))].concat();
+            ask(&mut talk, rng, "long paths", &questions);
+        }
+    }
+    talk
+}
+
+/// Files of telling sizes, read from every telling offset into every telling room.
+fn ends(rng: &mut Rng) -> Talk {
+    let mut talk = Talk::new();
+    let sizes = [&TELLING_SIZES[..], &[976, 70_272, 70_273]].concat();
+    let plan = files(rng, &sizes);
+    let volume = laid_out(rng, &plan);
+    let paths = Paths::new(&volume);
+    talk.image(&volume.image);
+    for (number, entry) in volume.entries.iter().enumerate() {
+        talk.about(format!("a file of {} bytes", entry.size()));
+        let (path, contents) = (paths.path(number), paths.contents(number));
+        for offset in telling_offsets(&DISK, entry.size()) {
+            let left = contents.len().saturating_sub(offset as usize);
+            for room in telling_rooms(&DISK, left) {
+                if room < SHORT || rng.below(4) == 0 {
+                    talk.expect_bytes(&path, offset, room, &contents);
+                }
+            }
+        }
+    }
+    talk
+}
+
+/// The key of the block that a patch changes.
+fn patched_key((place, _): &Patch) -> u32 {
+    (place / BLOCK_BYTES) as u32
+}
+
+fn part(volume: &Volume, key: u32) -> Option<Part> {
+    volume.position(key).map(|position| volume.order[position].part)
+}
+
+/// The entry that a block belongs to.
+fn owner(volume: &Volume, key: u32) -> Option<usize> {
+    match part(volume, key)? {
+        Part::Root | Part::Bitmap => None,
+        Part::Directory(number) | Part::File(number) => Some(number),
+        Part::List(number, _) | Part::Data(number, _) => Some(number),
+    }
+}
+
+/// The words that a patch of a whole block changes.
+fn changed_words(volume: &Volume, patch: &Patch) -> Vec<usize> {
+    let old = volume.block(patched_key(patch));
+    (0..BLOCK_WORDS).filter(|&index| word(old, index) != word(&patch.1, index)).collect()
+}
+
+/// The path of no entry, for which the chain of this slot in a directory is gone through.
+fn lacking(rng: &mut Rng, paths: &Paths, within: Option<usize>, hangs: u32) -> Vec<u8> {
+    let mut components = paths.components(within);
+    components.push(paths.new_name(rng, within, |name| slot(name) == hangs));
+    components.join(&b'/')
+}
+
+/// Paths to the chain of this slot in a directory: to some entry that hangs in it, and to one that does not.
+fn to_slot(rng: &mut Rng, paths: &Paths, within: Option<usize>, hangs: u32) -> Vec<Vec<u8>> {
+    let volume = paths.volume;
+    let key = within.map_or(DISK.root(), |number| volume.entries[number].key);
+    let on_chain = |entry: &Entry| entry.directory == key && entry.slot == hangs;
+    let all: Vec<usize> = (0..volume.entries.len()).filter(|&n| on_chain(&volume.entries[n])).collect();
+    let some = (!all.is_empty()).then(|| paths.path(rng.pick(&all)));
+    some.into_iter().chain([lacking(rng, paths, within, hangs)]).collect()
+}
+
+/// Paths that lead to what patches change, and past it.
+fn concerned(rng: &mut Rng, paths: &Paths, patches: &[Patch]) -> Vec<Vec<u8>> {
+    let volume = paths.volume;
+    let mut all = Vec::new();
+    for patch in patches {
+        let key = patched_key(patch);
+        let Some(part) = part(volume, key) else { continue };
+        let mut words = changed_words(volume, patch);
+        shuffle(rng, &mut words);
+        all.extend(owner(volume, key).map(|number| paths.path(number)));
+        if let Part::Directory(number) | Part::File(number) = part {
+            if words.contains(&124) {
+                let entry = &volume.entries[number];
+                let within = owner(volume, entry.directory);
+                all.extend(to_slot(rng, paths, within, entry.slot));
+            }
+        }
+        if let Part::Directory(_) | Part::Root = part {
+            let slots = words.iter().filter_map(|&index| (0..TABLE).find(|&slot| slot_word(slot) == index));
+            for slot in slots.chain([rng.below(72) as u32]).take(2) {
+                all.extend(to_slot(rng, paths, owner(volume, key), slot));
+            }
+        }
+    }
+    if !volume.entries.is_empty() {
+        all.push(paths.path(rng.below(volume.entries.len() as u64) as usize));
+    }
+    shuffle(rng, &mut all);
+    all.truncate(5);
+    all
+}
+
+/// Asks for paths on whatever is held: both calls, or one of them.
+fn look(talk: &mut Talk, rng: &mut Rng, all: &[Vec<u8>]) {
+    for path in all {
+        let (finds, reads) = rng.pick(&[(true, true), (true, true), (true, false), (false, true)]);
+        let found = find(&DISK, &talk.held, path);
+        if finds {
+            let _ = talk.find(path);
+        }
+        if reads {
+            let (offset, room) = spot(rng, found.map_or(500, |found| found.size.min(LARGEST)));
+            let (answer, output) = talk.read(path, offset, room);
+            let untouched = output.iter().all(|&byte| byte == BEFORE);
+            assert!(answer.is_ok() || untouched, "{}: {path:?}", talk.about);
+            assert!(found.is_ok() || answer.err() == found.err(), "{}: {path:?}", talk.about);
+        }
+    }
+}
+
+/// The entry whose path is due for the refusal that an audit gives: all harm lies in its blocks, and is of a kind
+/// that lookups and reads ask for too.
+fn bearer(volume: &Volume, harm: &Harm, patches: &[Patch]) -> Option<usize> {
+    let owners: BTreeSet<Option<usize>> = patches.iter().map(|p| owner(volume, patched_key(p))).collect();
+    let number = owners.first().copied().flatten().filter(|_| owners.len() == 1)?;
+    let (due, entry) = (harm.due(), &volume.entries[number]);
+    let is_asked = ![6, 13, 16, 17].contains(&due.number);
+    let in_link = |patch: &Patch| patched_key(patch) == entry.key && changed_words(volume, patch).contains(&124);
+    let in_file = entry.kind != Kind::Directory && !patches.iter().any(in_link);
+    let is_own = owner(volume, due.place as u32) == Some(number);
+    (is_asked && (is_own || in_file)).then_some(number)
+}
+
+/// The entry that is found first where a patch gives its name to a later one.
+fn earlier_namesake(volume: &Volume, patches: &[Patch]) -> Option<usize> {
+    let changed = &volume.entries[owner(volume, patched_key(&patches[0]))?];
+    let new = name(&patches[0].1)?;
+    volume.entries.iter().position(|entry| entry.directory == changed.directory && same(&entry.name, new))
+}
+
+/// A harm, and what is known of it.
+fn harmed(talk: &mut Talk, rng: &mut Rng, paths: &Paths, harm: &Harm) {
+    let (patches, due) = (harm.patches(), harm.due());
+    let all = concerned(rng, paths, &patches);
+    let in_root = due.number == 3 || due.place == DISK.root() as usize && [4, 7, 8, 11].contains(&due.number);
+    let bearer = bearer(paths.volume, harm, &patches).filter(|&number| paths.is_within_reach(number));
+    let namesake = (due.number == 13).then(|| earlier_namesake(paths.volume, &patches)).flatten();
+    talk.patched(&patches, |talk| {
+        look(talk, rng, &all);
+        let (offset, room) = spot(rng, 1_000);
+        if let Some(number) = bearer {
+            talk.tally.told += 1;
+            talk.expect_refused(&paths.existing(rng, number).path, offset, room, due);
+        }
+        if let Some(number) = namesake {
+            talk.tally.told += 1;
+            let Question { path, due, .. } = paths.existing(rng, number);
+            talk.expect_find(&path, due);
+        }
+        if in_root {
+            talk.expect_find(b"", Err(due));
+            talk.expect_refused(b"nobody/at/all", offset, room, due);
+            talk.expect_find(b"no//body", Err(Refusal::at(18, 1)));
+        }
+    });
+}
+
+/// Some of the harms that an audit finds: of each cause with this chance in a hundred.
+fn harms(talk: &mut Talk, rng: &mut Rng, what: &str, volume: &Volume, chance: u64) {
+    let paths = Paths::new(volume);
+    let chosen: Vec<&Cause> = causes().filter(|_| rng.below(100) < chance).collect();
+    for cause in chosen {
+        let Some(harm) = cause.harm(rng, volume) else { continue };
+        talk.about(format!("{what}: {} by {}", cause.number, cause.what));
+        harmed(talk, rng, &paths, &harm);
+        if rng.below(4) == 0 {
+            talk.about(format!("{what}: {} by {}, sums not mended", cause.number, cause.what));
+            if let Some(harm) = harm.unmended() {
+                harmed(talk, rng, &paths, &harm);
+            }
+        }
+    }
+}
+
+/// Scratches of which nothing is known beforehand, one at a time and many together, and what harms no one.
+fn scratches(talk: &mut Talk, rng: &mut Rng, what: &str, volume: &Volume, times: usize) {
+    let paths = Paths::new(volume);
+    for number in 0..times {
+        talk.about(format!("{what}: scratch {number}"));
+        let patches = scratch(rng, volume);
+        let all = concerned(rng, &paths, &patches);
+        talk.patched(&patches, |talk| look(talk, rng, &all));
+    }
+    for number in 0..times / 10 {
+        talk.about(format!("{what}: harmless {number}"));
+        talk.patched(&harmless(rng, volume), |talk| {
+            let questions = (0..volume.entries.len().min(4)).map(|_| rng.below(volume.entries.len() as u64));
+            let questions: Vec<usize> = questions.map(|number| number as usize).collect();
+            for number in questions {
+                let Question { path, due, .. } = paths.existing(rng, number);
+                talk.expect_find(&path, due);
+            }
+        });
+    }
+    for number in 0..times / 20 {
+        talk.about(format!("{what}: wreck {number}"));
+        let wrecks: Vec<Patch> = (0..8).flat_map(|_| scratch(rng, volume)).collect();
+        // the boot tag and the root would hide the rest
+        let is_hiding = |patch: &Patch| [0, DISK.root()].contains(&patched_key(patch));
+        let wrecks: BTreeMap<usize, Vec<u8>> = wrecks.into_iter().filter(|patch| !is_hiding(patch)).collect();
+        let patches: Vec<Patch> = wrecks.into_iter().collect();
+        let numbers = (0..12).map(|_| rng.below(volume.entries.len() as u64 + 1) as usize).collect::<Vec<_>>();
+        let in_reach = numbers.into_iter().filter(|&number| number < volume.entries.len());
+        let all: Vec<Vec<u8>> = in_reach.map(|number| paths.path(number)).collect();
+        talk.patched(&patches, |talk| look(talk, rng, &all));
+    }
+}
+
+/// A patch that puts words into a block and mends its sum.
+fn put_words(volume: &Volume, key: u32, words: &[(usize, u32)]) -> Patch {
+    let mut block = volume.block(key).to_vec();
+    words.iter().for_each(|&(index, value)| put(&mut block, index, value));
+    mend(&mut block, if key == volume.bitmap { 0 } else { 5 });
+    (key as usize * BLOCK_BYTES, block)
+}
+
+/// A patch that makes the bitmap block an empty file of the root or of a directory, the last on its chain.
+fn bitmap_as_file(volume: &Volume, directory: u32, name: &[u8]) -> Patch {
+    let key = volume.bitmap;
+    let words = [(0, 2), (1, key), (2, 0), (4, 0), (81, 0), (124, 0), (125, directory), (126, 0), (127, FILE)];
+    let mut block = volume.block(key).to_vec();
+    words.iter().for_each(|&(index, value)| put(&mut block, index, value));
+    put_name(&mut block, name);
+    mend(&mut block, 5);
+    (key as usize * BLOCK_BYTES, block)
+}
+
+/// Another value for a word.
+fn other(rng: &mut Rng, value: u32) -> u32 {
+    let near = [value.wrapping_add(1), value.wrapping_sub(1), value ^ 1 << rng.below(32), rng.draw() as u32];
+    let all: Vec<u32> = near.into_iter().chain([0, 1, 880, u32::MAX]).filter(|&other| other != value).collect();
+    rng.pick(&all)
+}
+
+/// A directory with a file in it, and one path to both: what is found, and what is read.
+struct Target {
+    volume: Volume,
+    path: Vec<u8>,
+    found: Found,
+    contents: Vec<u8>,
+    file: Entry,
+    /// The slots of the directory and of the file.
+    slots: [u32; 2],
+}
+
+/// A target of this size, behind and before others on its chains.
+fn target(rng: &mut Rng, size: u32) -> Target {
+    let mut plan = empty();
+    plan.add(rng, None, Some(30), Kind::File(3));
+    let within = Some(plan.add(rng, None, Some(30), Kind::Directory));
+    plan.add(rng, None, Some(30), Kind::Directory);
+    plan.add(rng, within, Some(41), Kind::Directory);
+    plan.add(rng, within, Some(41), Kind::File(size));
+    plan.add(rng, within, Some(41), Kind::File(488));
+    let volume = laid_out(rng, &plan);
+    let number = volume.entries.iter().position(|entry| entry.size() == size).expect("the file");
+    let paths = Paths::new(&volume);
+    let (path, found, contents) = (paths.path(number), paths.found(number), paths.contents(number));
+    let file = volume.entries[number].clone();
+    Target { volume, path, found, contents, file, slots: [30, 41] }
+}
+
+impl Target {
+    /// Whether a word of such a block plays no part in finding and reading the target.
+    fn is_unread(&self, part: Part, index: usize) -> bool {
+        let is_slot_of = |slot: u32| index == slot_word(slot);
+        let is_slot = (0..TABLE).any(is_slot_of);
+        let here = match part {
+            Part::Bitmap => true,
+            Part::Root => (78..=104).contains(&index) || is_slot && !is_slot_of(self.slots[0]),
+            Part::Directory(_) => index == 124 || is_slot && !is_slot_of(self.slots[1]),
+            Part::File(_) => index == 124,
+            _ => false,
+        };
+        here || self.volume.spare(part).contains(&index)
+    }
+
+    /// Asks for the target with this word changed.
+    fn ask(&self, talk: &mut Talk, rng: &mut Rng, key: u32, index: usize, mended: bool) {
+        let part = part(&self.volume, key).expect("a block of the volume");
+        let value = other(rng, word(self.volume.block(key), index));
+        let (place, block) = put_words(&self.volume, key, &[(index, value)]);
+        let unmended = (place + 4 * index, value.to_be_bytes().to_vec());
+        let patch = if mended { (place, block) } else { unmended };
+        let is_header = matches!(part, Part::Root | Part::Directory(_) | Part::File(_));
+        let due = Refusal::at(7, key as usize);
+        let (offset, room) = spot(rng, self.contents.len() as u32);
+        talk.about(format!("{part:?}: w{index} is {value:X}, sum mended: {mended}"));
+        talk.patched(&[patch], |talk| {
+            if !mended && part != Part::Bitmap {
+                talk.expect_find(&self.path, if is_header { Err(due) } else { Ok(self.found) });
+                talk.expect_refused(&self.path, offset, room, due);
+            } else if self.is_unread(part, index) {
+                talk.expect_find(&self.path, Ok(self.found));
+                let (answer, _) = talk.read(&self.path, offset, room);
+                assert!(answer.is_ok(), "{}", talk.about);
+            } else {
+                look(talk, rng, &[self.path.clone()]);
+            }
+        });
+    }
+}
+
+/// Every word of every kind of block, changed with the sum mended and without.
+fn every_word(rng: &mut Rng) -> Talk {
+    let mut talk = Talk::new();
+    let target = target(rng, 73 * 488 + 5);
+    talk.image(&target.volume.image);
+    let headers =
+        [DISK.root(), target.volume.bitmap, target.file.directory, target.file.key, target.file.lists[0]];
+    let data = [0, 30, 71, 72, 73].map(|index| target.file.data[index]);
+    for index in 0..BLOCK_WORDS {
+        let some_data = data.iter().filter(|_| index < 7 || rng.below(20) == 0).copied().collect::<Vec<_>>();
+        for key in headers.into_iter().chain(some_data) {
+            for mended in [true, true, false] {
+                target.ask(&mut talk, rng, key, index, mended);
+            }
+        }
+    }
+    talk
+}
+
+/// Damage to each block of a file in turn, with reads of what lies before it, in it and behind it.
+fn in_the_middle(rng: &mut Rng) -> Talk {
+    let mut talk = Talk::new();
+    let Target { volume, path, file, found, .. } = target(rng, 150 * 488 - 7);
+    talk.image(&volume.image);
+    let mut harms = Vec::new();
+    for (index, &key) in file.data.iter().enumerate() {
+        let next = file.data.get(index + 1).copied().unwrap_or(key);
+        let index = rng.pick(&[1, 2, 3]);
+        harms.extend([(key, 0, 8, key), (key, index, 15, key), (key, 4, 15, next)]);
+    }
+    for &key in &file.lists {
+        let [types, keys] = [rng.pick(&[0, 127]), rng.pick(&[1, 125])];
+        harms.extend([(key, types, 8, key), (key, keys, 10, key), (key, 2, 14, key)]);
+    }
+    for (key, index, number, place) in harms {
+        talk.about(format!("block {key}, w{index}"));
+        let value = other(rng, word(volume.block(key), index));
+        let start = file.data.iter().position(|&data| data == key).unwrap_or(72) * 488;
+        let spots = [(0, 1), (0, start.min(SHORT)), (start as u32, 488), (start as u32 + 488, 700), (u32::MAX, 3)];
+        talk.patched(&[put_words(&volume, key, &[(index, value)])], |talk| {
+            let (offset, room) = rng.pick(&spots);
+            talk.expect_refused(&path, offset, room, Refusal::at(number, place as usize));
+            if index == 0 {
+                talk.expect_find(&path, Ok(found));
+            }
+        });
+        let flipped = volume.block(key)[BLOCK_BYTES - 1] ^ 1;
+        talk.patched(&[(key as usize * BLOCK_BYTES + BLOCK_BYTES - 1, vec![flipped])], |talk| {
+            let (offset, room) = rng.pick(&spots);
+            talk.expect_refused(&path, offset, room, Refusal::at(7, key as usize));
+        });
+    }
+    talk
+}
+
+/// A word of a block, and the number due at the block if another value stands there.
+type Step = (u32, usize, u32);
+
+/// Steps on the way to the target, in the order in which a read takes them, and how many of them a lookup takes.
+fn steps(target: &Target) -> (Vec<Step>, usize) {
+    let Target { volume, file, slots, .. } = target;
+    let outer = on_chain(volume, DISK.root(), slots[0]);
+    let inner = on_chain(volume, file.directory, slots[1]);
+    let mut steps = vec![(DISK.root(), 4, 4)];
+    steps.extend([outer[0], outer[1], inner[0], inner[1]].map(|entry| (entry.key, 1, 10)));
+    let in_lookup = steps.len();
+    steps.push((file.key, 2, 14));
+    for (index, &key) in file.data.iter().enumerate() {
+        if index > 0 && index % TABLE as usize == 0 {
+            steps.push((file.lists[index / TABLE as usize - 1], 1, 10));
+        }
+        steps.push((key, 1, 15));
+    }
+    (steps, in_lookup)
+}
+
+/// Two faults on the way to a file and through its blocks: the one that is met first is due.
+fn two_faults(rng: &mut Rng) -> Talk {
+    let mut talk = Talk::new();
+    let target = target(rng, 150 * 488 - 7);
+    let (steps, in_lookup) = steps(&target);
+    let Target { volume, path, found, .. } = target;
+    talk.image(&volume.image);
+    for _ in 0..200 {
+        let bound = rng.pick(&[12, steps.len() as u64 - 1]);
+        let second = 1 + rng.below(bound) as usize;
+        let first = rng.below(second as u64) as usize;
+        let mut faults: BTreeMap<u32, Vec<(usize, u32)>> = BTreeMap::new();
+        for (key, index, _) in [steps[first], steps[second]] {
+            let value = other(rng, word(volume.block(key), index));
+            faults.entry(key).or_default().push((index, value));
+        }
+        let patches: Vec<Patch> = faults.iter().map(|(&key, words)| put_words(&volume, key, words)).collect();
+        let (key, _, number) = steps[first];
+        let due = Refusal::at(number, key as usize);
+        talk.about(format!("{:?} and then {:?}", steps[first], steps[second]));
+        talk.patched(&patches, |talk| {
+            let (offset, room) = spot(rng, found.size);
+            talk.expect_find(&path, if first < in_lookup { Err(due) } else { Ok(found) });
+            talk.expect_refused(&path, offset, room, due);
+        });
+    }
+    talk
+}
+
+/// The place of the key with this number, both counted from 0, on a chain of so many entries that leads from its
+/// last entry back to place `to`.
+fn around(length: usize, to: usize, number: usize) -> usize {
+    if number < length {
+        number
+    } else {
+        to + (number - to) % (length - to)
+    }
+}
+
+/// The chain of a directory's slot.
+fn on_chain(volume: &Volume, directory: u32, slot: u32) -> Vec<&Entry> {
+    let mut all: Vec<&Entry> =
+        volume.entries.iter().filter(|entry| entry.directory == directory && entry.slot == slot).collect();
+    all.sort_by_key(|entry| entry.place());
+    all
+}
+
+/// Chains of a volume, led back to one of their entries: whoever is not on them is looked for up to the limit.
+fn loops(talk: &mut Talk, rng: &mut Rng, what: &str, volume: &Volume, times: usize) {
+    let paths = Paths::new(volume);
+    for _ in 0..times {
+        let entry = &volume.entries[rng.below(volume.entries.len() as u64) as usize];
+        let (within, chain) = (owner(volume, entry.directory), on_chain(volume, entry.directory, entry.slot));
+        let last = rng.below(chain.len() as u64) as usize;
+        let to = rng.below(last as u64 + 1) as usize;
+        let missing = lacking(rng, &paths, within, entry.slot);
+        let on_it = volume.entries.iter().position(|entry| entry.key == chain[last].key).expect("an entry");
+        let Question { path, due, .. } = paths.existing(rng, on_it);
+        talk.about(format!("{what}: from place {last} back to {to}"));
+        talk.patched(&[put_words(volume, chain[last].key, &[(124, chain[to].key)])], |talk| {
+            let key = chain[around(last + 1, to, DISK.chain_limit() as usize)].key;
+            let is_too_long = missing.len() > LONGEST_PATH;
+            let refusal = if is_too_long { Refusal::at(18, 0) } else { Refusal::at(6, key as usize) };
+            talk.expect_find(&missing, Err(refusal));
+            talk.expect_refused(&missing, 0, 20, refusal);
+            talk.expect_find(&path, due);
+        });
+    }
+}
+
+/// The longest chain, and one more on it.
+fn longest_chain(rng: &mut Rng) -> Talk {
+    let mut talk = Talk::new();
+    let plan = chain(rng, DISK.chain_limit());
+    let volume = laid_out(rng, &plan);
+    let paths = Paths::new(&volume);
+    let [first, middle, before, last] = [0, 800, 1_754, 1_755].map(|number| &volume.entries[number]);
+    let missing = lacking(rng, &paths, None, first.slot);
+    talk.about("the longest chain");
+    talk.image(&volume.image);
+    talk.expect_find(&missing, Err(Refusal::at(19, 0)));
+    talk.expect_find(&last.name, Ok(Found { compared: 1_756, ..paths.found(1_755) }));
+    let links = [(first.key, 6), (middle.key, 6), (last.key, 6), (volume.bitmap, 6), (880, 6), (2, 6), (1_759, 6)];
+    for (link, number) in links.into_iter().chain([(1, 5), (1_760, 5), (u32::MAX, 5)]) {
+        talk.about(format!("the longest chain goes on to {link}"));
+        talk.patched(&[put_words(&volume, last.key, &[(124, link)])], |talk| {
+            talk.expect_find(&missing, Err(Refusal::at(number, link as usize)));
+            talk.expect_refused(&missing, 0, 3, Refusal::at(number, link as usize));
+        });
+    }
+    let more = bitmap_as_file(&volume, DISK.root(), &missing);
+    talk.about("a chain of 1,757");
+    talk.patched(&[put_words(&volume, last.key, &[(124, volume.bitmap)]), more.clone()], |talk| {
+        talk.expect_find(&missing, Err(Refusal::at(6, volume.bitmap as usize)));
+        talk.expect_find(&last.name, Ok(paths.found(1_755)));
+    });
+    talk.about("a chain of 1,756, with the bitmap block");
+    talk.patched(&[put_words(&volume, before.key, &[(124, volume.bitmap)]), more], |talk| {
+        talk.expect_find(&missing, Ok(Found { kind: FILE, key: volume.bitmap, size: 0, compared: 1_756 }));
+        talk.expect_bytes(&missing, 0, 5, b"");
+        talk.expect_find(&last.name, Err(Refusal::at(19, 0)));
+    });
+    loops(&mut talk, rng, "the longest chain", &volume, 10);
+    talk
+}
+
+/// Two long chains, one in the other's last directory: the limit is for each, the count for both.
+fn two_long_chains(rng: &mut Rng) -> Talk {
+    let mut talk = Talk::new();
+    let mut plan = empty();
+    (0..999).for_each(|_| _ = plan.add(rng, None, Some(7), Kind::File(0)));
+    let within = Some(plan.add(rng, None, Some(7), Kind::Directory));
+    (0..756).for_each(|_| _ = plan.add(rng, within, Some(70), Kind::File(0)));
+    let volume = laid_out(rng, &plan);
+    let paths = Paths::new(&volume);
+    let directory = volume.entries.iter().position(|entry| entry.kind == Kind::Directory).expect("the directory");
+    let inner = on_chain(&volume, volume.entries[directory].key, 70);
+    let name = paths.new_name(rng, Some(directory), |name| slot(name) == 70);
+    let path = [&volume.entries[directory].name[..], &name].join(&b'/');
+    talk.about("two long chains");
+    talk.image(&volume.image);
+    talk.expect_find(&path, Err(Refusal::at(19, 1)));
+    let last = paths.existing(rng, volume.entries.iter().position(|entry| entry.key == inner[755].key).unwrap());
+    assert_eq!(last.due.map(|found| found.compared), Ok(1_756));
+    talk.expect_find(&last.path, last.due);
+    talk.about("two long chains of 1,757 entries together");
+    let more = bitmap_as_file(&volume, volume.entries[directory].key, &name);
+    talk.patched(&[put_words(&volume, inner[755].key, &[(124, volume.bitmap)]), more], |talk| {
+        talk.expect_find(&path, Ok(Found { kind: FILE, key: volume.bitmap, size: 0, compared: 1_757 }));
+    });
+    for to in [0, 1, 400, 754, 755] {
+        talk.about(format!("two long chains, the second back to {to}"));
+        talk.patched(&[put_words(&volume, inner[755].key, &[(124, inner[to].key)])], |talk| {
+            let key = inner[around(756, to, 1_756)].key;
+            talk.expect_find(&path, Err(Refusal::at(6, key as usize)));
+        });
+    }
+    talk
+}
+
+/// All requests of the great comparison.
+fn talks() -> Vec<Talk> {
+    let mut rng = Rng::new(143);
+    let apart = [lengths, long_paths, ends, every_word, in_the_middle, two_faults, longest_chain, two_long_chains];
+    let mut talks: Vec<Talk> = apart.iter().map(|make| make(&mut rng)).collect();
+    for _ in 0..2 {
+        let mut talk = Talk::new();
+        for (what, volume) in moderate(&mut rng) {
+            as_is(&mut talk, &mut rng, &what, &volume, 30);
+            harms(&mut talk, &mut rng, &what, &volume, 100);
+            scratches(&mut talk, &mut rng, &what, &volume, 60);
+            loops(&mut talk, &mut rng, &what, &volume, 2);
+        }
+        talks.push(talk);
+    }
+    let mut talk = Talk::new();
+    for (what, volume) in large(&mut rng) {
+        as_is(&mut talk, &mut rng, &what, &volume, 8);
+        harms(&mut talk, &mut rng, &what, &volume, 8);
+        scratches(&mut talk, &mut rng, &what, &volume, 5);
+    }
+    talks.push(talk);
+    talks
+}
+
+/// Enough of everything is asked: at least 20,000 calls, each number at least 20 times of each call that gives it.
+fn are_enough(talks: &[Talk]) {
+    let sum = |of: &dyn Fn(&Tally) -> usize| talks.iter().map(|talk| of(&talk.tally)).sum::<usize>();
+    let times = |map: &BTreeMap<u32, usize>, number: u32| map.get(&number).copied().unwrap_or(0);
+    let count = |of: fn(&Tally) -> &BTreeMap<u32, usize>, number| sum(&|tally| times(of(tally), number));
+    let of_find: BTreeMap<u32, usize> = OF_FIND.map(|number| (number, count(|t| &t.refused_finds, number))).into();
+    let all = OF_FIND.iter().chain(&OF_READ);
+    let of_read: BTreeMap<u32, usize> = all.map(|&number| (number, count(|t| &t.refused_reads, number))).collect();
+    let [finds, reads] = [sum(&|tally| tally.finds), sum(&|tally| tally.reads)];
+    let [found, copied] = [sum(&|tally| tally.found), sum(&|tally| tally.copied)];
+    println!("{finds} lookups, {found} found, refused by number: {of_find:?}");
+    println!("{reads} reads, {copied} copied, refused by number: {of_read:?}");
+    let [known, told] = [sum(&|tally| tally.known), sum(&|tally| tally.told)];
+    println!("{known} answers known beforehand, {told} of them told by a harm");
+    assert!(known >= 10_000 && told >= 1_000, "{known} known, {told} told");
+    assert!(finds + reads >= 20_000, "{finds} lookups, {reads} reads");
+    assert!(found >= 2_000 && copied >= 2_000, "{found} found, {copied} copied");
+    assert_eq!(found + of_find.values().sum::<usize>(), finds, "an answer of another number");
+    assert_eq!(copied + of_read.values().sum::<usize>(), reads, "an answer of another number");
+    let rare: Vec<_> = of_find.iter().chain(&of_read).filter(|(_, &times)| times < 20).collect();
+    assert!(rare.is_empty(), "too few of {rare:?}");
+}
+
+/// All that is known beforehand is answered so; `probe` is not needed for that.
+#[test]
+fn answers_known_beforehand() {
+    are_enough(&talks());
+}
+
+/// `probe` agrees.
+#[test]
+fn paths_and_files_good_and_bad() {
+    let talks = talks();
+    are_enough(&talks);
+    talks.into_iter().for_each(Talk::run);
+}
