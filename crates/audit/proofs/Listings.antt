@@ -26,6 +26,7 @@ use Rattle.audit.specs.declared.claims.Walked.the-variants.{Done, Stoppe
 use Rattle.walk.specs.declared.Lister.{Lister}
 use Rattle.walk.specs.Listings.{Listing, keysIn, nextList, Listed}
 use Rattle.walk.proofs.Links.{linked-next, is-listed}
+use Rattle.walk.proofs.Loops.{in-image, nodes, next, Turn, turn-few, turn-next, turn-again, turn-all, headerOf, header-next, Link, link-start, link-more, link-last, link-again}
 use Rattle.audit.specs.Walks.{Claims, Met, Walks, Ready, KeysWalked, ListWalked}
 use Rattle.audit.proofs.Meeting.{claims-holds}
 use Rattle.audit.proofs.Walking.{not-both, walks-none, walks-stopped, walks-then, walks-part, met-free, met-inside, met-passed, met-stops, met-goes, ready-met, ready-walked}
@@ -33,96 +34,55 @@ use Rattle.audit.proofs.Walking.{not-both, walks-none, walks-stopped, w
 -- ---- what callees ask
 
 pub ready-holds : (d : Disk) (s cl : List ℕ) (n : Counts) (k : ℕ) → Ready d s cl n → k < d .blocks → Holds s k
-ready-holds d s cl n k h l = omega (arith, h .image)
-
-pub size-asks : (d : Disk) (s cl : List ℕ) (n : Counts) (h z : ℕ) → Ready d s cl n → sizeOf s h ≤ fileLimit d → z ≡ sizeOf s h → Sized d × (z ≤ fileLimit d)
-size-asks d s cl n h z r l e = (r .sized, rw e l)
-
-pub data-asks : (d : Disk) (s cl cl′ : List ℕ) (c : Counts) (k h n z f : ℕ) → Ready d s cl c → sizeOf s h ≤ fileLimit d → 1 ≤ n → n ≤ blocksOf d s h → Claims d cl k f cl′ → f ≡ 0 → z ≡ sizeOf s h
-    → Sized d × (z ≤ fileLimit d) × (Holds s k × ((1 ≤ n) × (n ≤ mostBlocks)))
-data-asks d s cl cl′ c k h n z f r l low up p e q = (r .sized, rw q l, (claims-holds d s cl cl′ k f p e (r .image), (low, omega (arith, up, blocks-most d (sizeOf s h) l, r .sized .most))))
-
-pub within : (d : Disk) (s : List ℕ) (h m z n : ℕ) → m ≤ blocksOf d s h → z ≡ sizeOf s h → n ≡ dataBlocks d z → m ≤ n
-within d s h m z n l e f = rw (f, e) l
+ready-holds d s cl n k h l = in-image d s k (h .image) l
 
 -- ---- the data blocks that one block lists
 
 module _ (d : Disk) (s : List ℕ) (b : Lister) where
-  abbrev nodes : ℕ → ℕ → List Node
-  nodes i n = keyNodes s (b .header) (b .key) (b .done) (b .last) i n
-
-  abbrev next : ℕ → ℕ → Node
-  next i l = datum (keyWord s (b .key) i) (b .header) (b .done + i + 1) l
-
   pub record KeysInv (cl₀ : List ℕ) (c₀ : Counts) (count : ℕ) (cl : List ℕ) (c : Counts) (last i : ℕ) : Type 0 where
-    pub lister : Listing d s b
-    pub counted : count ≡ keysIn d s b
+    pub turn : Turn d s b count last i
     pub ready : Ready d s cl c
     pub long : length cl ≡ length cl₀
-    pub upto : i ≤ count
-    pub walked : Walks d s (nodes 0 count) (nodes i (count - i)) c₀ cl₀ (Done c) cl
-    pub behind : last ≡ before s (b .key) (b .last) i
-    pub inside : last < d .blocks
-    pub keys : (q : ℕ) → q < i → keyWord s (b .key) q < d .blocks
+    pub walked : Walks d s (nodes d s b 0 count) (nodes d s b i (count - i)) c₀ cl₀ (Done c) cl
 
-  pub keys-start : (cl : List ℕ) (c : Counts) (z n count : ℕ) → Ready d s cl c → Listing d s b → z ≡ sizeOf s (b .header) → n ≡ dataBlocks d z → count ≡ keysHere (n - b .done) → KeysInv cl c count cl c (b .last) 0
-  keys-start cl c z n count r l e f g =
+  pub keys-start : (cl : List ℕ) (c : Counts) (count : ℕ) → Ready d s cl c → Turn d s b count (b .last) 0 → KeysInv cl c count cl c (b .last) 0
+  keys-start cl c count r v =
       let y : count - 0 ≡ count = omega arith in
-      record { lister = l; counted = g ∙ rw (f, e) refl; ready = r; long = refl; upto = omega arith; walked = rw y (walks-none d s (nodes 0 count) c cl); behind = refl; inside = l .last; keys = λ q h. absurd (omega arith) }
+      record { turn = v; ready = r; long = refl; walked = rw y (walks-none d s (nodes d s b 0 count) c cl) }
 
   module _ (cl₀ : List ℕ) (c₀ : Counts) (count : ℕ) (cl : List ℕ) (c : Counts) (last i : ℕ) (v : KeysInv cl₀ c₀ count cl c last i) where
-    pub keys-few : i < count → (i < slots) × (b .done + i + 1 ≤ blocksOf d s (b .header)) × (b .done + i + 1 ≤ mostBlocks)
-    keys-few h =
-        let m = blocks-most d (sizeOf s (b .header)) (v .lister .size) in
-        let e = v .counted in
-        (omega arith, omega (arith, v .lister .done), omega (arith, v .lister .done, v .ready .sized .most))
-
-    pub keys-key : i < count → (i < slots) × Holds s (b .key)
-    keys-key h = (keys-few h .0, ready-holds d s cl c (b .key) (v .ready) (v .lister .key))
-
     pub keys-asks : i < count → (n : ℕ) → n ≡ b .done + i + 1 → (Ready d s cl c) × (b .header < d .blocks) × (last < d .blocks) × (sizeOf s (b .header) ≤ fileLimit d) × (1 ≤ n) × (n ≤ blocksOf d s (b .header))
-    keys-asks h n e = (v .ready, v .lister .header, v .inside, v .lister .size, omega arith, rw e (keys-few h .1))
+    keys-asks h n e = (v .ready, v .turn .lister .header, v .turn .inside, v .turn .lister .size, omega arith, rw e (turn-few d s b count last i (v .turn) h (v .ready .sized) .1))
 
-    -- the next of them
-    one-more : i < count → nodes i (count - i) ≡ (next i last ∷ []) ++ nodes (i + 1) (count - (i + 1))
-    unfolding keyNodes
-    one-more h =
-        let e : count - i ≡ suc (count - (i + 1)) = omega arith in
-        let n : b .done + i + 1 ≡ suc (b .done + i) = omega arith in
-        rw (e, n, add-one i, v .behind) refl
+    keys-on : (cl′ : List ℕ) (r : Walked) → i < count → Walks d s (next d s b i last ∷ []) [] c cl r cl′ → Walks d s (nodes d s b 0 count) (nodes d s b (i + 1) (count - (i + 1))) c₀ cl₀ r cl′
+    keys-on cl′ r h w = walks-then d s (nodes d s b 0 count) _ (next d s b i last ∷ []) [] (nodes d s b (i + 1) (count - (i + 1))) c₀ c cl₀ cl cl′ (Done c) r (v .walked) refl (turn-next d s b count last i (v .turn) h) w
 
-    pub keys-out : (k f : ℕ) (cl′ : List ℕ) (r : Walked) → i < count → k ≡ keyWord s (b .key) i → Met d s (datum k (b .header) (b .done + i + 1) last) cl f cl′ → (f ≡ 0 → ⊥) → r ≡ Stopped (refusal f k) → KeysWalked d s b c₀ cl₀ r cl′
-    keys-out k f cl′ r h e m t q =
-        record {
-          walks = rw (← v .counted) (walks-stopped d s (nodes 0 count) _ [] c₀ cl₀ cl′ r _ (walks-then d s (nodes 0 count) _ (next i last ∷ []) [] _ c₀ c cl₀ cl cl′ (Done c) r (v .walked) refl (one-more h) (met-stops d s (next i last) cl cl′ f (rw e at m) [] c cl′ r t (rw e at q))) q);
-          keys = λ x p. not-both _ x (sym q ∙ p);
-        }
+    module _ (k f : ℕ) (cl′ : List ℕ) (h : i < count) (e : k ≡ keyWord s (b .key) i) (m : Met d s (datum k (b .header) (b .done + i + 1) last) cl f cl′) where
+      abbrev met : Met d s (next d s b i last) cl f cl′
+      met = rw e at m
 
-    pub keys-step : (k f : ℕ) (cl′ : List ℕ) (c′ : Counts) → i < count → k ≡ keyWord s (b .key) i → Met d s (datum k (b .header) (b .done + i + 1) last) cl f cl′ → f ≡ 0 → length cl′ ≡ length cl → c′ ≡ withBlock c → KeysInv cl₀ c₀ count cl′ c′ k (i + 1)
-    unfolding noted leadsTo
-    keys-step k f cl′ c′ h e m z l q =
-        let m′ : Met d s (next i last) cl f cl′ = rw e at m in
-        record {
-          lister = v .lister;
-          counted = v .counted;
-          ready = ready-met d s (next i last) c cl cl′ f (v .ready) m′ z l c′ q;
-          long = l ∙ v .long;
-          upto = omega arith;
-          walked = rw q (walks-then d s (nodes 0 count) _ (next i last ∷ []) [] (nodes (i + 1) (count - (i + 1))) c₀ c cl₀ cl cl′ (Done c) (Done (withBlock c)) (v .walked) refl (one-more h) (met-goes d s (next i last) cl cl′ f m′ [] c cl′ (Done (withBlock c)) z (walks-none d s [] (withBlock c) cl′)));
-          behind = rw (add-one i) e;
-          inside = rw e (met-inside d s (next i last) cl cl′ f m′ z);
-          keys = λ x p. go x p (decLt x i);
-        }
-      where
-        go : (x : ℕ) → x < i + 1 → Dec (x < i) → keyWord s (b .key) x < d .blocks
-        go x p (yes y) = v .keys x y
-        go x p (no y) = let w : x ≡ i = omega arith in rw w (met-inside d s (next i last) cl cl′ f (rw e at m) z)
+      pub keys-out : (r : Walked) → (f ≡ 0 → ⊥) → r ≡ Stopped (refusal f k) → KeysWalked d s b c₀ cl₀ r cl′
+      keys-out r t q =
+          record {
+            walks = rw (← v .turn .counted) (walks-stopped d s (nodes d s b 0 count) _ [] c₀ cl₀ cl′ r _ (keys-on cl′ r h (met-stops d s (next d s b i last) cl cl′ f met [] c cl′ r t (rw e at q))) q);
+            keys = λ x p. not-both _ x (sym q ∙ p);
+          }
+
+      pub keys-step : (c′ : Counts) → f ≡ 0 → length cl′ ≡ length cl → c′ ≡ withBlock c → KeysInv cl₀ c₀ count cl′ c′ k (i + 1)
+      unfolding noted leadsTo
+      keys-step c′ z l q =
+          record {
+            turn = turn-again d s b count last i (v .turn) h k e (rw e (met-inside d s (next d s b i last) cl cl′ f met z));
+            ready = ready-met d s (next d s b i last) c cl cl′ f (v .ready) met z l c′ q;
+            long = l ∙ v .long;
+            walked = rw q (keys-on cl′ (Done (withBlock c)) h (met-goes d s (next d s b i last) cl cl′ f met [] c cl′ (Done (withBlock c)) z (walks-none d s [] (withBlock c) cl′)));
+          }
 
     pub keys-end : count ≤ i → KeysWalked d s b c₀ cl₀ (Done c) cl
     unfolding keyNodes
     keys-end h =
         let e : count - i ≡ 0 = omega arith in
-        record { walks = rw (← v .counted) (rw e at (v .walked)); keys = λ x p j l. v .keys j (omega (arith, v .counted)) }
+        record { walks = rw (← v .turn .counted) (rw e at (v .walked)); keys = λ x p. turn-all d s b count last i (v .turn) h }
 
 -- ---- a list block
 
@@ -154,59 +114,39 @@ module _ (d : Disk) (s : List ℕ) (b : Lister) (n : Counts) (cl cl₁ : List �
 
 -- ---- a file
 
-abbrev pub header : ℕ → Lister
-header h = record { header = h; key = h; done = 0; last = h }
-
 module _ (d : Disk) (s : List ℕ) (h : ℕ) where
-  pub file-asks : (cl : List ℕ) (n : Counts) → Ready d s cl n → h < d .blocks → fileFault d s h ≡ 0 → Ready d s cl n × Listing d s (header h)
-  file-asks cl n r l e = (r, record { size = file-passed d s h e .0; header = l; key = l; last = l; done = omega arith })
-
-  pub file-stops : (cl : List ℕ) (n : Counts) (w : Walked) (x : Refusal) (cl₁ : List ℕ) → KeysWalked d s (header h) n cl w cl₁ → w ≡ Stopped x → Walks d s (listed d s h h 0 h) [] n cl w cl₁
+  pub file-stops : (cl : List ℕ) (n : Counts) (w : Walked) (x : Refusal) (cl₁ : List ℕ) → KeysWalked d s (headerOf h) n cl w cl₁ → w ≡ Stopped x → Walks d s (listed d s h h 0 h) [] n cl w cl₁
   file-stops cl n w x cl₁ k e = walks-stopped d s _ _ [] n cl cl₁ w x (walks-part d s _ [] _ n cl cl₁ w (k .walks)) e
 
   pub record FileInv (m₀ : Counts) (cl₀ cl : List ℕ) (m : Counts) (lister done next : ℕ) : Type 0 where
+    pub link : Link d s h lister done next
     pub ready : Ready d s cl m
     pub long : length cl ≡ length cl₀
-    pub size : sizeOf s h ≤ fileLimit d
-    pub inside : h < d .blocks
-    pub link : next ≡ wordOf s lister 126
-    pub known : Listed d s h lister done
     pub walked : Walks d s (nextList s h h 0) (nextList s h lister done) m₀ cl₀ (Done m) cl
 
-  module _ (cl : List ℕ) (n : Counts) (w : Walked) (c : Counts) (cl₁ : List ℕ) (e : fileFault d s h ≡ 0) (k : KeysWalked d s (header h) n cl w cl₁) (q : w ≡ Done c) where
-    first-lists : Lists s h (blocksOf d s h - 0)
-    first-lists = let y : blocksOf d s h - 0 ≡ blocksOf d s h = omega arith in rw y (file-passed d s h e .1)
-
+  module _ (cl : List ℕ) (n : Counts) (w : Walked) (c : Counts) (cl₁ : List ℕ) (e : fileFault d s h ≡ 0) (k : KeysWalked d s (headerOf h) n cl w cl₁) (q : w ≡ Done c) where
     pub file-start : (x : ℕ) → Ready d s cl n → h < d .blocks → length cl₁ ≡ length cl → x ≡ wordOf s h 126 → FileInv c cl₁ cl₁ c h 0 x
     file-start x r l y f =
-        record {
-          ready = ready-walked d s _ [] n c cl cl₁ w r (k .walks) q y;
-          long = refl;
-          size = file-passed d s h e .0;
-          inside = l;
-          link = f;
-          known = is-listed d s h h 0 h first-lists l (k .keys c q);
-          walked = walks-none d s (nextList s h h 0) c cl₁;
-        }
+        record { link = link-start d s h x e l (k .keys c q) f; ready = ready-walked d s _ [] n c cl cl₁ w r (k .walks) q y; long = refl; walked = walks-none d s (nextList s h h 0) c cl₁ }
 
     -- the header's own data blocks, and then list blocks
     pub file-joins : (r : Walked) (cl₂ : List ℕ) → Walks d s (nextList s h h 0) [] c cl₁ r cl₂ → Walks d s (listed d s h h 0 h) [] n cl r cl₂
     file-joins r cl₂ v =
-        rw (linked-next d s h h 0 h first-lists)
+        rw (header-next d s h e)
         (walks-then d s _ (nextList s h h 0) (nextList s h h 0) [] [] n c cl cl₁ cl₂ w r (walks-part d s _ [] (nextList s h h 0) n cl cl₁ w (k .walks)) q (sym (append-nil _)) v)
 
   -- ---- the list blocks
 
   module _ (m₀ : Counts) (cl₀ cl : List ℕ) (m : Counts) (lister done next : ℕ) (i : FileInv m₀ cl₀ cl m lister done next) where
     pub lists-end : next ≡ 0 → Walks d s (nextList s h h 0) [] m₀ cl₀ (Done m) cl
-    lists-end z = let y : wordOf s lister 126 ≡ 0 = sym (i .link) ∙ z in rw y at (i .walked)
+    lists-end z = let y : wordOf s lister 126 ≡ 0 = sym (i .link .word) ∙ z in rw y at (i .walked)
 
     module _ (l : ℕ) (v : Walked) (cl′ : List ℕ) (t : next ≡ 0 → ⊥) (g : l ≡ keyWord s lister 71) where
       abbrev block : Lister
       block = record { header = h; key = next; done = done + slots; last = l }
 
       lists-on : ListWalked d s block m cl v cl′ → Walks d s (nextList s h h 0) (nextList s h next (done + slots)) m₀ cl₀ v cl′
-      lists-on u = rw (append-nil _) at (walks-then d s _ _ (list next h (done + slots) l ∷ []) _ [] m₀ m cl₀ cl cl′ (Done m) v (i .walked) refl (is-link next (i .link) t) (u .walks))
+      lists-on u = rw (append-nil _) at (walks-then d s _ _ (list next h (done + slots) l ∷ []) _ [] m₀ m cl₀ cl cl′ (Done m) v (i .walked) refl (is-link next (i .link .word) t) (u .walks))
         where
           is-link : (x : ℕ) → x ≡ wordOf s lister 126 → (x ≡ 0 → ⊥) → nextList s h lister done ≡ (list x h (done + slots) l ∷ []) ++ []
           is-link zero e t = absurd (t refl)
@@ -218,19 +158,11 @@ module _ (d : Disk) (s : List ℕ) (h : ℕ) where
       pub lists-again : (m′ : Counts) (y : ℕ) → ListWalked d s block m cl v cl′ → v ≡ Done m′ → length cl′ ≡ length cl → y ≡ wordOf s next 126 → FileInv m₀ cl₀ cl′ m′ next (done + slots) y
       lists-again m′ y u o e f =
           record {
+            link = link-again d s h lister done next (i .link) t y (u .known m′ o) f;
             ready = ready-walked d s _ _ m m′ cl cl′ v (i .ready) (u .walks) o e;
             long = e ∙ i .long;
-            size = i .size;
-            inside = i .inside;
-            link = f;
-            known = u .known m′ o;
             walked = rw o at (lists-on u);
           }
 
-    pub lists-more : (next ≡ 0 → ⊥) → done + slots ≤ mostBlocks
-    lists-more t = omega (arith, i .known .more (λ z. t (i .link ∙ z)), blocks-most d (sizeOf s h) (i .size), i .ready .sized .most)
-
     pub lists-next : (l : ℕ) → (next ≡ 0 → ⊥) → l ≡ keyWord s lister 71 → (Ready d s cl m) × (h < d .blocks) × (l < d .blocks) × (sizeOf s h ≤ fileLimit d) × (done + slots ≤ blocksOf d s h)
-    lists-next l t g =
-        let y : wordOf s lister 126 ≢ 0 = λ z. t (i .link ∙ z) in
-        (i .ready, i .inside, rw g (i .known .last y), i .size, omega (arith, i .known .more y))
+    lists-next l t g = (i .ready, i .link .inside, link-last d s h lister done next (i .link) t l g, i .link .size, omega (arith, link-more d s h lister done next (i .link) t))

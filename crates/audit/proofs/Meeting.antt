@@ -41,17 +41,17 @@ module _ (d : Disk) (cl : List ℕ) (k : ℕ) where
   pub claim-room : (b : Bool) → b ≡ inRange d k → b ≡ true → length cl ≡ claimBytes d → k < length cl
   claim-room b e h l = omega (arith, range-is d k (sym e ∙ h))
 
-  pub claim-out : (b : Bool) → b ≡ inRange d k → b ≡ false → (cl′ : List ℕ) → Claims d cl k 5 cl′
+  pub claim-out : (b : Bool) → b ≡ inRange d k → b ≡ false → Claims d cl k 5 cl
   unfolding first must
-  claim-out b e h cl′ = record { told = rw (sym e ∙ h); claims = λ z. absurd (omega (arith, z)) }
+  claim-out b e h = record { told = rw (sym e ∙ h); claims = λ z. absurd (omega (arith, z)); keeps = λ t. refl }
 
-  pub claim-taken : (b : Bool) → b ≡ inRange d k → b ≡ true → k < length cl → (getD cl k 0 ≡ 0 → ⊥) → (cl′ : List ℕ) → Claims d cl k 6 cl′
+  pub claim-taken : (b : Bool) → b ≡ inRange d k → b ≡ true → k < length cl → (getD cl k 0 ≡ 0 → ⊥) → Claims d cl k 6 cl
   unfolding first must
-  claim-taken b e h l t cl′ = record { told = rw (sym e ∙ h, byte-any cl k 1 0 l, claimed-taken 6 (getD cl k 0) t); claims = λ z. absurd (omega (arith, z)) }
+  claim-taken b e h l t = record { told = rw (sym e ∙ h, byte-any cl k 1 0 l, claimed-taken 6 (getD cl k 0) t); claims = λ z. absurd (omega (arith, z)); keeps = λ t. refl }
 
   pub claim-new : (b : Bool) → b ≡ inRange d k → b ≡ true → k < length cl → getD cl k 0 ≡ 0 → Claims d cl k 0 (set cl k 1)
   unfolding first must
-  claim-new b e h l z = record { told = rw (sym e ∙ h, byte-any cl k 1 0 l, z); claims = λ _. refl }
+  claim-new b e h l z = record { told = rw (sym e ∙ h, byte-any cl k 1 0 l, z); claims = λ _. refl; keeps = λ t. absurd (t refl) }
 
 -- a key that is claimed lies in the image
 pub claims-holds : (d : Disk) (s cl cl′ : List ℕ) (k r : ℕ) → Claims d cl k r cl′ → r ≡ 0 → length s ≡ imageBytes d → Holds s k

@@ -23,6 +23,7 @@ use Rattle.audit.specs.declared.claims.Walked.the-variants.{Done, Stoppe
 pub record Claims (d : Disk) (cl : List ℕ) (k r : ℕ) (cl′ : List ℕ) : Type 0 where
   pub told : r ≡ first (keyFault d k) (claimed 6 (getD cl k 1))
   pub claims : r ≡ 0 → cl′ ≡ set cl k 1
+  pub keeps : (r ≡ 0 → ⊥) → cl′ ≡ cl
 
 -- a block is met: r is what its tests say, and a block that passes is claimed
 pub record Met (d : Disk) (s : List ℕ) (n : Node) (cl : List ℕ) (r : ℕ) (cl′ : List ℕ) : Type 0 where

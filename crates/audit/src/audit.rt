@@ -17,13 +17,12 @@ ghost use mathlib.Core.Path.{_≡_};
 ghost use mathlib.Core.List.{[], _∷_};
 ghost use Prim.Native.Nat.{_+_, _≤_};
 ghost use lib.ListN.{length, replicate};
-ghost use Rattle.words.specs.Word.{wordAt};
-ghost use Rattle.volume.specs.Disks.{Sized, mostBlocks, floppy, imageBytes, claimBytes, tagOf};
+ghost use Rattle.volume.specs.Disks.{Sized, mostBlocks, floppy, imageBytes, claimBytes};
 ghost use Rattle.walk.specs.Nodes.{root, nothing};
 ghost use Rattle.audit.specs.Walks.{total, Walks};
 ghost use Rattle.audit.specs.Audits.{refuse, reportOf, Within, Tagged, Audits};
 
-// Directories below the root, files, list blocks, data blocks; the blocks in use, the root and the bitmap block among them; and the free.
+// How much there is of what: directories without the root, files, list blocks, data blocks; then all blocks in use, and those that are free.
 pub struct Report {
     pub directories: u32,
     pub files: u32,

@@ -1,4 +1,4 @@
-// The walk through a directory: its slots upward, each chain from its head, and what an entry holds before the next on its chain.
+// The walk through a directory, slot by slot and along each chain; what is in an entry is walked before its link is followed.
 use crate::claims::Walked;
 use crate::claims::claim_key;
 use crate::claims::stopped;
@@ -17,12 +17,20 @@ ghost use mathlib.Core.List.{[]};
 ghost use Prim.Native.Nat.{ℕ, _≤_, _<_};
 ghost use lib.ListN.{length};
 ghost use Rattle.volume.specs.Disks.{Sized, firstKey, imageBytes};
-ghost use Rattle.volume.specs.Blocks.{slots, slotWord};
+ghost use Rattle.volume.specs.Blocks.{slots, Holds, wordOf};
 ghost use Rattle.volume.specs.Law.{chainKey};
 ghost use Rattle.walk.specs.Nodes.{entry, slotNodes, twin, hangsFault, withEntry};
 ghost use Rattle.audit.specs.Walks.{Met, Ready, Walks, Known, Chain, EntryWalked};
 
 const SLOTS: u32 = Block::SLOTS as u32;
+
+// The key behind an entry on its chain.
+fn next_entry(image: &[u8], key: u32) -> u32
+    requires { ⌜ Holds (now image) key ⌝ }
+    ensures { λ r. ⌜ r ≡ wordOf (now (image .entry)) key 124 ⌝ }
+{
+    word_of(image, key, Block::NEXT)
+}
 
 // Whether one of the first `place` entries of the chain from `head` has the name of an entry.
 fn is_twin(disk: Disk, image: &[u8], key: u32, head: u32, place: u32) -> bool
@@ -35,7 +43,7 @@ fn is_twin(disk: Disk, image: &[u8], key: u32, head: u32, place: u32) -> bool
         if same_names(disk, image, e, key) {
             return true;
         }
-        e = word_of(image, e, Block::NEXT);
+        e = next_entry(image, e);
         i += 1;
     }
     false
@@ -131,7 +139,7 @@ fn walk_entry(
     walk_file(disk, image, claim, key, with_file(n))
 }
 
-// What is in a directory: slots upward, each chain from its head.
+// What is in a directory, slot by slot.
 pub fn walk_directory(disk: Disk, image: &[u8], claim: &mut [u8], key: u32, n: Counts) -> Walked
     requires { ⌜ (Ready disk (now image) (now claim) n) × (key < disk .blocks) ⌝ }
     ensures { λ r. ⌜ Walks disk (now (image .entry)) (slotNodes (now (image .entry)) key 0 slots) [] n (now (claim .entry)) r (now (claim .exit)) ⌝ }
@@ -147,7 +155,7 @@ pub fn walk_directory(disk: Disk, image: &[u8], claim: &mut [u8], key: u32, n: C
                 return w;
             };
             m = c;
-            entry = word_of(image, entry, Block::NEXT);
+            entry = next_entry(image, entry);
             place += 1;
         }
         slot += 1;

@@ -10,10 +10,10 @@ use lib.Seq.{drop-drop, drop-nil, drop-append-add}
 use Rattle.reach.specs.References.{_∈_}
 use Rattle.volume.specs.declared.disk.Disk.{Disk}
 use Rattle.volume.specs.Blocks.{blockBytes, slots, wordOf}
-use Rattle.volume.specs.Disks.{dataBytes, imageBytes}
+use Rattle.volume.specs.Disks.{dataBytes, imageBytes, dataStart}
 use Rattle.volume.specs.Files.{keysDown, listsFrom, keysFrom, listBlocks, sizeOf, blocksOf, listsOf, keysOf}
 use Rattle.volume.proofs.Sizes.{data-is, blocks-hold}
-use Rattle.reading.specs.Bytes.{dataStart, dataOf, dataIn, fileBytes, part, Followed}
+use Rattle.reading.specs.Bytes.{dataOf, dataIn, fileBytes, part, Followed}
 use Rattle.reading.proofs.Parts.{drop-take, take-least, getD-in, leads-first, leads-next}
 
 -- ---- the numbers of a data block

@@ -28,6 +28,7 @@ use Rattle.walk.specs.declared.Lister.{Lister}
 use Rattle.walk.specs.Nodes.{Node, list, datum, before, keyNodes, keyOf, keyFault, faultOf}
 use Rattle.walk.specs.Listings.{Listing, keysIn, Listed}
 use Rattle.walk.proofs.Links.{is-listed}
+use Rattle.walk.proofs.Loops.{nodes, next, Turn, turn-few, turn-next, turn-again, turn-all, headerOf, Link, link-start, link-none, link-more, link-last, link-again}
 use Rattle.reading.specs.FileTests.{nodeFault, firstFault, blocksFrom, fileNodes, blocksFault, KeysTested, ListTested}
 
 -- ---- one block
@@ -92,92 +93,45 @@ module _ (d : Disk) (s : List ℕ) where
 
 -- ---- the data blocks that one block lists
 
-pub data-asks : (d : Disk) (s : List ℕ) (k h n z : ℕ) (b : Bool) → Sized d → length s ≡ imageBytes d → sizeOf s h ≤ fileLimit d → 1 ≤ n → n ≤ blocksOf d s h → b ≡ inRange d k → b ≡ true → z ≡ sizeOf s h
-    → Sized d × (z ≤ fileLimit d) × (Holds s k × ((1 ≤ n) × (n ≤ mostBlocks)))
-data-asks d s k h n z b y i l low up e t q = (y, rw q l, (range-holds d k b e s t i, (low, omega (arith, up, blocks-most d (sizeOf s h) l, y .most))))
-
-pub size-asks : (d : Disk) (s : List ℕ) (h z : ℕ) → Sized d → sizeOf s h ≤ fileLimit d → z ≡ sizeOf s h → Sized d × (z ≤ fileLimit d)
-size-asks d s h z y l e = (y, rw e l)
-
-pub within : (d : Disk) (s : List ℕ) (h m z n : ℕ) → m ≤ blocksOf d s h → z ≡ sizeOf s h → n ≡ dataBlocks d z → m ≤ n
-within d s h m z n l e f = rw (f, e) l
-
-pub in-image : (d : Disk) (s : List ℕ) (k : ℕ) → length s ≡ imageBytes d → k < d .blocks → Holds s k
-in-image d s k l h = omega arith
-
 module _ (d : Disk) (s : List ℕ) (b : Lister) where
-  abbrev nodes : ℕ → ℕ → List Node
-  nodes i n = keyNodes s (b .header) (b .key) (b .done) (b .last) i n
-
-  abbrev next : ℕ → ℕ → Node
-  next i l = datum (keyWord s (b .key) i) (b .header) (b .done + i + 1) l
-
   pub record KeysInv (count last i : ℕ) : Type 0 where
-    pub lister : Listing d s b
-    pub counted : count ≡ keysIn d s b
-    pub upto : i ≤ count
-    pub tested : firstFault d s (nodes 0 count) ≡ firstFault d s (nodes i (count - i))
-    pub behind : last ≡ before s (b .key) (b .last) i
-    pub inside : last < d .blocks
-    pub keys : (q : ℕ) → q < i → keyWord s (b .key) q < d .blocks
+    pub turn : Turn d s b count last i
+    pub tested : firstFault d s (nodes d s b 0 count) ≡ firstFault d s (nodes d s b i (count - i))
 
-  pub keys-start : (z n count : ℕ) → Listing d s b → z ≡ sizeOf s (b .header) → n ≡ dataBlocks d z → count ≡ keysHere (n - b .done) → KeysInv count (b .last) 0
-  keys-start z n count l e f g =
-      let y : count - 0 ≡ count = omega arith in
-      record { lister = l; counted = g ∙ rw (f, e) refl; upto = omega arith; tested = rw y refl; behind = refl; inside = l .last; keys = λ q h. absurd (omega arith) }
+  pub keys-start : (count : ℕ) → Turn d s b count (b .last) 0 → KeysInv count (b .last) 0
+  keys-start count v = let y : count - 0 ≡ count = omega arith in record { turn = v; tested = rw y refl }
 
   module _ (count last i : ℕ) (v : KeysInv count last i) where
-    pub keys-few : Sized d → i < count → (i < slots) × (b .done + i + 1 ≤ blocksOf d s (b .header)) × (b .done + i + 1 ≤ mostBlocks)
-    keys-few y h =
-        let m = blocks-most d (sizeOf s (b .header)) (v .lister .size) in
-        let e = v .counted in
-        (omega arith, omega (arith, v .lister .done), omega (arith, v .lister .done, y .most))
-
-    pub keys-key : Sized d → length s ≡ imageBytes d → i < count → (i < slots) × Holds s (b .key)
-    keys-key y l h = (keys-few y h .0, in-image d s (b .key) l (v .lister .key))
-
     pub keys-asks : Sized d → length s ≡ imageBytes d → i < count → (n : ℕ) → n ≡ b .done + i + 1
         → (Sized d) × (length s ≡ imageBytes d) × (b .header < d .blocks) × (last < d .blocks) × (sizeOf s (b .header) ≤ fileLimit d) × (1 ≤ n) × (n ≤ blocksOf d s (b .header))
-    keys-asks y l h n e = (y, l, v .lister .header, v .inside, v .lister .size, omega arith, rw e (keys-few y h .1))
+    keys-asks y l h n e = (y, l, v .turn .lister .header, v .turn .inside, v .turn .lister .size, omega arith, rw e (turn-few d s b count last i (v .turn) h y .1))
 
-    one-more : i < count → nodes i (count - i) ≡ next i last ∷ nodes (i + 1) (count - (i + 1))
-    unfolding keyNodes
-    one-more h =
-        let e : count - i ≡ suc (count - (i + 1)) = omega arith in
-        let n : b .done + i + 1 ≡ suc (b .done + i) = omega arith in
-        rw (e, n, add-one i, v .behind) refl
+    module _ (k f : ℕ) (h : i < count) (e : k ≡ keyWord s (b .key) i) (g : f ≡ nodeFault d s (datum k (b .header) (b .done + i + 1) last)) where
+      abbrev fault : f ≡ nodeFault d s (next d s b i last)
+      fault = rw e at g
 
-    pub keys-out : (k f : ℕ) (r : Tested) → i < count → k ≡ keyWord s (b .key) i → f ≡ nodeFault d s (datum k (b .header) (b .done + i + 1) last) → (f ≡ 0 → ⊥) → r ≡ Failed (refusal f k) → KeysTested d s b r
-    keys-out k f r h e g t q =
-        record {
-          told = q ∙ rw e (fault-stops d s (next i last) (nodes (i + 1) (count - (i + 1))) f (rw e at g) t) ∙ ap (firstFault d s) (sym (one-more h)) ∙ sym (v .tested) ∙ ap (λ (j : ℕ). firstFault d s (nodes 0 j)) (v .counted);
-          keys = λ p. absurd (let z : _≡_ {A = ℕ} 0 1 = cc in omega arith);
-        }
+      on : firstFault d s (nodes d s b 0 count) ≡ firstFault d s (next d s b i last ∷ nodes d s b (i + 1) (count - (i + 1)))
+      on = v .tested ∙ ap (firstFault d s) (turn-next d s b count last i (v .turn) h)
 
-    pub keys-step : (k f : ℕ) → i < count → k ≡ keyWord s (b .key) i → f ≡ nodeFault d s (datum k (b .header) (b .done + i + 1) last) → f ≡ 0 → KeysInv count k (i + 1)
-    keys-step k f h e g z =
-        record {
-          lister = v .lister;
-          counted = v .counted;
-          upto = omega arith;
-          tested = v .tested ∙ ap (firstFault d s) (one-more h) ∙ fault-goes d s (next i last) (nodes (i + 1) (count - (i + 1))) f (rw e at g) z;
-          behind = rw (add-one i) e;
-          inside = rw e here;
-          keys = λ x p. go x p (decLt x i);
-        }
-      where
-        here : keyWord s (b .key) i < d .blocks
-        here = node-inside d s (next i last) (sym (rw e at g) ∙ z)
+      pub keys-out : (r : Tested) → (f ≡ 0 → ⊥) → r ≡ Failed (refusal f k) → KeysTested d s b r
+      keys-out r t q =
+          record {
+            told = q ∙ rw e (fault-stops d s (next d s b i last) _ f fault t) ∙ sym on ∙ ap (λ (j : ℕ). firstFault d s (nodes d s b 0 j)) (v .turn .counted);
+            keys = λ p. absurd (let z : _≡_ {A = ℕ} 0 1 = cc in omega arith);
+          }
 
-        go : (x : ℕ) → x < i + 1 → Dec (x < i) → keyWord s (b .key) x < d .blocks
-        go x p (yes y) = v .keys x y
-        go x p (no y) = let w : x ≡ i = omega arith in rw w here
+      pub keys-step : f ≡ 0 → KeysInv count k (i + 1)
+      keys-step z =
+          record {
+            turn = turn-again d s b count last i (v .turn) h k e (rw e (node-inside d s (next d s b i last) (sym fault ∙ z)));
+            tested = on ∙ fault-goes d s (next d s b i last) (nodes d s b (i + 1) (count - (i + 1))) f fault z;
+          }
 
     pub keys-end : count ≤ i → KeysTested d s b Passed
     unfolding keyNodes firstFault
     keys-end h =
         let e : count - i ≡ 0 = omega arith in
-        record { told = sym (rw (v .counted) at (rw e at (v .tested))); keys = λ p j l. v .keys j (omega (arith, v .counted)) }
+        record { told = sym (rw (v .turn .counted) at (rw e at (v .tested))); keys = λ p. turn-all d s b count last i (v .turn) h }
 
 -- ---- a list block and its data blocks
 
@@ -202,9 +156,6 @@ module _ (d : Disk) (s : List ℕ) (b : Lister) (f : ℕ) (g : f ≡ nodeFault d
 
 -- ---- a file
 
-abbrev pub headerOf : ℕ → Lister
-headerOf h = record { header = h; key = h; done = 0; last = h }
-
 module _ (d : Disk) (s : List ℕ) (h : ℕ) where
   -- the q list blocks behind block b, and what they list
   abbrev behind : ℕ → ℕ → ℕ → List Node
@@ -219,75 +170,52 @@ module _ (d : Disk) (s : List ℕ) (h : ℕ) where
   abbrev left : ℕ → ℕ → List Node
   left b m = behind b m (listBlocks (blocksOf d s h - m))
 
-  pub header-lists : h < d .blocks → fileFault d s h ≡ 0 → Listing d s (headerOf h)
-  header-lists l e = record { size = file-passed d s h e .0; header = l; key = l; last = l; done = omega arith }
-
   pub record BlocksInv (lister done next : ℕ) : Type 0 where
-    pub size : sizeOf s h ≤ fileLimit d
-    pub inside : h < d .blocks
-    pub link : next ≡ wordOf s lister 126
-    pub known : Listed d s h lister done
+    pub link : Link d s h lister done next
     pub tested : firstFault d s (fileNodes d s h) ≡ firstFault d s (left lister done)
 
   module _ (e : fileFault d s h ≡ 0) (t : Tested) (k : KeysTested d s (headerOf h) t) where
-    nothing-done : blocksOf d s h - 0 ≡ blocksOf d s h
-    nothing-done = omega arith
-
     first-part : firstFault d s (fileNodes d s h) ≡ and t (firstFault d s (left h 0))
     first-part =
+        let n : blocksOf d s h ≡ blocksOf d s h - 0 = omega arith in
         ap (firstFault d s) (keys-then h 0 h (listBlocks (blocksOf d s h))) ∙ fault-append d s _ _ ∙ ap (λ (x : Tested). and x (firstFault d s (behind h 0 (listBlocks (blocksOf d s h))))) (sym (k .told))
-        ∙ ap (λ (j : ℕ). and t (firstFault d s (behind h 0 (listBlocks j)))) (sym nothing-done)
+        ∙ ap (λ (j : ℕ). and t (firstFault d s (behind h 0 (listBlocks j)))) n
 
     pub blocks-first : (x : Refusal) → t ≡ Failed x → t ≡ firstFault d s (fileNodes d s h)
     blocks-first x q = q ∙ sym (first-part ∙ rw q refl)
 
     pub blocks-start : (y : ℕ) → h < d .blocks → t ≡ Passed → y ≡ wordOf s h 126 → BlocksInv h 0 y
-    blocks-start y l q f =
-        record {
-          size = file-passed d s h e .0;
-          inside = l;
-          link = f;
-          known = is-listed d s h h 0 h (rw nothing-done (file-passed d s h e .1)) l (k .keys q);
-          tested = first-part ∙ rw q refl;
-        }
+    blocks-start y l q f = record { link = link-start d s h y e l (k .keys q) f; tested = first-part ∙ rw q refl }
 
   module _ (lister done next : ℕ) (v : BlocksInv lister done next) where
     pub blocks-end : next ≡ 0 → Passed ≡ firstFault d s (fileNodes d s h)
     unfolding firstFault
     blocks-end z =
-        let l = v .known .ends (sym (v .link) ∙ z) in
+        let l = link-none d s h lister done next (v .link) z in
         let q : listBlocks (blocksOf d s h - done) ≡ 0 = omega arith in
         sym (rw q at (v .tested))
 
-    module _ (t : next ≡ 0 → ⊥) where
-      more : done + slots < blocksOf d s h
-      more = v .known .more (λ z. t (v .link ∙ z))
+    module _ (t : next ≡ 0 → ⊥) (l : ℕ) (g : l ≡ keyWord s lister 71) where
+      abbrev block : Lister
+      block = record { header = h; key = next; done = done + slots; last = l }
 
-      pub blocks-more : Sized d → done + slots ≤ mostBlocks
-      blocks-more y = omega (arith, more, blocks-most d (sizeOf s h) (v .size), y .most)
+      pub blocks-asks : Sized d → length s ≡ imageBytes d
+          → (Sized d) × (length s ≡ imageBytes d) × (h < d .blocks) × (l < d .blocks) × (sizeOf s h ≤ fileLimit d) × (done + slots ≤ blocksOf d s h)
+      blocks-asks y i = (y, i, v .link .inside, link-last d s h lister done next (v .link) t l g, v .link .size, omega (arith, link-more d s h lister done next (v .link) t))
 
-      pub blocks-less : done + slots ≤ blocksOf d s h
-      blocks-less = omega (arith, more)
+      next-part : (u : Tested) → ListTested d s block u → firstFault d s (fileNodes d s h) ≡ and u (firstFault d s (left next (done + slots)))
+      next-part u w =
+          let m = link-more d s h lister done next (v .link) t in
+          let q : listBlocks (blocksOf d s h - done) ≡ suc (listBlocks (blocksOf d s h - (done + slots))) = omega arith in
+          v .tested ∙ ap (λ (j : ℕ). firstFault d s (behind lister done j)) q
+          ∙ rw (← v .link .word, ← g) (ap (λ (x : List Node). firstFault d s (list next h (done + slots) l ∷ x)) (keys-then next (done + slots) l _) ∙ fault-append d s (list next h (done + slots) l ∷ keyNodes s h next (done + slots) l 0 (keysHere (blocksOf d s h - (done + slots)))) _)
+          ∙ ap (λ (x : Tested). and x (firstFault d s (left next (done + slots)))) (sym (w .told))
 
-      module _ (l : ℕ) (g : l ≡ keyWord s lister 71) where
-        abbrev block : Lister
-        block = record { header = h; key = next; done = done + slots; last = l }
+      pub blocks-out : (u : Tested) (x : Refusal) → ListTested d s block u → u ≡ Failed x → u ≡ firstFault d s (fileNodes d s h)
+      blocks-out u x w q = q ∙ sym (next-part u w ∙ rw q refl)
 
-        pub blocks-asks : Sized d → length s ≡ imageBytes d
-            → (Sized d) × (length s ≡ imageBytes d) × (h < d .blocks) × (l < d .blocks) × (sizeOf s h ≤ fileLimit d) × (done + slots ≤ blocksOf d s h)
-        blocks-asks y i = (y, i, v .inside, rw g (v .known .last (λ z. t (v .link ∙ z))), v .size, blocks-less)
-
-        next-part : (u : Tested) → ListTested d s block u → firstFault d s (fileNodes d s h) ≡ and u (firstFault d s (left next (done + slots)))
-        next-part u w =
-            let m = more in
-            let q : listBlocks (blocksOf d s h - done) ≡ suc (listBlocks (blocksOf d s h - (done + slots))) = omega arith in
-            v .tested ∙ ap (λ (j : ℕ). firstFault d s (behind lister done j)) q ∙ rw (← v .link, ← g) (ap (λ (x : List Node). firstFault d s (list next h (done + slots) l ∷ x)) (keys-then next (done + slots) l _) ∙ fault-append d s (list next h (done + slots) l ∷ keyNodes s h next (done + slots) l 0 (keysHere (blocksOf d s h - (done + slots)))) _) ∙ ap (λ (x : Tested). and x (firstFault d s (left next (done + slots)))) (sym (w .told))
-
-        pub blocks-out : (u : Tested) (x : Refusal) → ListTested d s block u → u ≡ Failed x → u ≡ firstFault d s (fileNodes d s h)
-        blocks-out u x w q = q ∙ sym (next-part u w ∙ rw q refl)
-
-        pub blocks-again : (u : Tested) (y : ℕ) → ListTested d s block u → u ≡ Passed → y ≡ wordOf s next 126 → BlocksInv next (done + slots) y
-        blocks-again u y w q f = record { size = v .size; inside = v .inside; link = f; known = w .known q; tested = next-part u w ∙ rw q refl }
+      pub blocks-again : (u : Tested) (y : ℕ) → ListTested d s block u → u ≡ Passed → y ≡ wordOf s next 126 → BlocksInv next (done + slots) y
+      blocks-again u y w q f = record { link = link-again d s h lister done next (v .link) t y (w .known q) f; tested = next-part u w ∙ rw q refl }
 
 -- ---- the header's own tests first
 

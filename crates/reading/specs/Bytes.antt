@@ -1,5 +1,5 @@
--- A file's bytes are those of its data blocks in order, as many as its size says. A read copies them from an offset on until the output or the
--- file ends; the rest of the output stays (the build paper, "Blocks of a volume", File and Data block, and "Paths and reads").
+-- A file's bytes are those of its data blocks one behind the other, as many as its size. A read takes those behind its offset, as many as
+-- there are and have room, and leaves what room is over as it was (the build paper, "Blocks of a volume", File and Data block, and "Paths and reads").
 use Prim.Native.Nat.{ℕ, _+_, _*_, _≤_, _<_}
 use mathlib.Core.Path.{_≡_}
 use mathlib.Core.List.{List, [], _∷_, _++_, map}
@@ -7,12 +7,8 @@ use lib.ListN.{length, take, drop}
 use Rattle.reach.specs.References.{_∈_}
 use Rattle.volume.specs.declared.disk.Disk.{Disk}
 use Rattle.volume.specs.Blocks.{blockBytes, wordOf}
-use Rattle.volume.specs.Disks.{dataBytes, fileLimit}
+use Rattle.volume.specs.Disks.{dataBytes, dataStart, fileLimit}
 use Rattle.volume.specs.Files.{sizeOf, keysOf}
-
--- the byte of a data block at which its data begin
-unfoldable pub dataStart : Disk → ℕ
-dataStart d = 24
 
 -- the first byte of the data of block k
 abbrev pub dataPlace : Disk → ℕ → ℕ

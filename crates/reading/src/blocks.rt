@@ -129,9 +129,9 @@ pub fn test_file(disk: Disk, image: &[u8], header: u32) -> Tested
     requires { ⌜ (Sized disk) × (length (now image) ≡ imageBytes disk) × (header < disk .blocks) ⌝ }
     ensures { λ r. ⌜ r ≡ blocksFault disk (now (image .entry)) header ⌝ }
 {
-    let f = file_fault(disk, image, header);
-    if f != 0 {
-        return failed(f, header);
+    let own = file_fault(disk, image, header);
+    if own != 0 {
+        return failed(own, header);
     }
     test_blocks(disk, image, header)
 }

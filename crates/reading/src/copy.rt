@@ -10,14 +10,11 @@ ghost use Rattle.volume.specs.Disks.{Sized, imageBytes, dataBytes};
 ghost use Rattle.volume.specs.Files.{sizeOf, keysOf};
 ghost use Rattle.reading.specs.Bytes.{dataPlace, fileBytes, Followed, Copied};
 
-// The byte of a data block at which its data begin.
-const DATA_START: usize = 24;
-
 // The first byte of a data block's data.
 fn data_place(disk: Disk, key: u32) -> usize
     ensures { λ r. ⌜ r ≡ dataPlace disk key ⌝ }
 {
-    Block::place(key, 0) + DATA_START
+    Block::place(key, 0) + Block::DATA_START
 }
 
 fn least(a: usize, b: usize) -> usize
@@ -63,7 +60,7 @@ fn seek(disk: Disk, image: &[u8], header: u32, offset: usize) -> u32
     key
 }
 
-// Copies the bytes of a tested file from `offset` on until the output or the file ends, and gives their number.
+// Copies what a tested file has behind `offset`, as much as there is room for, and gives the number of bytes.
 pub fn copy_file(
     disk: Disk,
     image: &[u8],

@@ -9,7 +9,6 @@ use volume::disk::Disk;
 ghost use mathlib.Core.Path.{_≡_};
 ghost use Prim.Native.Nat.{_+_, _<_};
 ghost use lib.Dec.{eqb};
-ghost use lib.ListN.{length};
 ghost use Rattle.answers.specs.Tests.{pick};
 ghost use Rattle.lookup.specs.Paths.{slash};
 ghost use Rattle.volume.specs.Disks.{Sized, floppy};
@@ -58,8 +57,8 @@ fn handed_back(found: Found, path: &[u8]) -> Reading
     Reading::Refused(r)
 }
 
-// Reads a file of a disk's image: its bytes from `offset` on until the output or the file ends. The rest of the output stays, and all of it
-// where the read is refused.
+// Reads a file of a disk's image from `offset` on, as much as there is room for. Output behind what was read stays, and all of it where the
+// read is refused.
 pub fn read_on(disk: Disk, image: &[u8], path: &[u8], offset: usize, output: &mut [u8]) -> Reading
     requires { ⌜ Sized disk ⌝ }
     ensures { λ r. ⌜ Reads disk (now (image .entry)) (now (path .entry)) offset (now (output .entry)) r (now (output .exit)) ⌝ }

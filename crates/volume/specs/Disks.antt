@@ -54,6 +54,10 @@ chainLimit d = d .blocks - 4
 unfoldable pub dataBytes : Disk → ℕ
 dataBytes d = dataRoom
 
+-- the byte of a data block at which they begin
+unfoldable pub dataStart : Disk → ℕ
+dataStart d = blockBytes - dataRoom
+
 -- a file has at most a data block for each block but these and its header
 abbrev pub fileLimit : Disk → ℕ
 fileLimit d = (d .blocks - 5) * dataBytes d

@@ -20,7 +20,7 @@ pub record Ref : Type 0 where
 abbrev pub to : Kind → ℕ → Ref
 to a k = record { kind = a; key = k }
 
--- a zero slot or link is none
+-- 0 in a slot or a link refers to nothing
 abbrev pub link : Kind → ℕ → List Ref
 link a zero = []
 link a (suc k) = to a (suc k) ∷ []

@@ -15,8 +15,10 @@ impl Block {
     // Hash slots of a directory, and data keys of a header or a list block.
     pub const SLOTS: usize = 72;
 
-    // Bytes of a file in a data block, which begin at byte 24.
+    // Bytes of a file in a data block, and the byte at which they begin.
     pub const DATA: usize = 488;
+
+    pub const DATA_START: usize = Block::BYTES - Block::DATA;
 
     // The words that have a meaning, by their numbers.
     pub const TYPE: usize = 0;

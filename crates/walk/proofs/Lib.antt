@@ -16,6 +16,8 @@ pub mod Spreads
 pub mod Listed
 -- the link to the next list block
 pub mod Links
+-- the loops over a file's keys and list blocks
+pub mod Loops
 -- a directory whose chains are reached, and pass, is as the law says
 pub mod Directories
 -- `fine-volume`: if every node passes, the volume is as its law says

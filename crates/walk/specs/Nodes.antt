@@ -44,7 +44,7 @@ bare d (datum k h n b) = to Kind.datum k
 
 -- ---- what a node leads to, in order
 
--- a zero slot or link is none
+-- 0 leads nowhere
 abbrev pub linked : ℕ → (ℕ → Node) → List Node
 linked zero f = []
 linked (suc k) f = f (suc k) ∷ []

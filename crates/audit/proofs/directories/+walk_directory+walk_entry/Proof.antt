@@ -20,6 +20,7 @@ use Rattle.audit.proofs.directories.walk_entry.Kinds as walk-entry-kind
 use Rattle.audit.proofs.directories.+walk_directory+walk_entry.Lts-walk_entry as walk-entry-lts
 use Rattle.audit.proofs.claims.stopped.Reads as stopped-reads
 use Rattle.audit.proofs.directories.meet_entry.Reads as meet-entry-reads
+use Rattle.audit.proofs.directories.next_entry.Reads as next-entry-reads
 use Rattle.audit.proofs.directories.with_directory.Reads as with-directory-reads
 use Rattle.audit.proofs.directories.with_file.Reads as with-file-reads
 use Rattle.audit.proofs.files.walk_file.Reads as walk-file-reads
@@ -48,7 +49,7 @@ walk-entry-below t = and 2 walk-entry-kinds.ps (falls 2 walk-entry-kinds.ps _<_ 
 
 -- what the callees ask and tell
 abbrev D : ℕ → walk-directory-lts.Claims
-D t = (word-of-reads.Asked, word-of-reads.Learnt, walk-entry-below t, walk-entry.Post)
+D t = (word-of-reads.Asked, word-of-reads.Learnt, walk-entry-below t, walk-entry.Post, next-entry-reads.Asked, next-entry-reads.Learnt)
 
 abbrev E : ℕ → walk-entry-lts.Claims
 E t = (meet-entry-reads.Asked, meet-entry-reads.Learnt, stopped-reads.Asked, stopped-reads.Learnt, is-directory-reads.Asked, is-directory-reads.Learnt, with-directory-reads.Asked, with-directory-reads.Learnt, walk-directory-below t, walk-directory.Post, with-file-reads.Asked, with-file-reads.Learnt, walk-file-reads.Asked, walk-file-reads.Learnt)
@@ -95,8 +96,8 @@ walk-directory-same-length t c = cc
 walk-directory-returns : (t : ℕ) → walk-directory-lts.Need-returns (D t) (walk-directory-at t) walk-directory.Post Ic Mc Is Ms
 walk-directory-returns t c = slots-out _ _ _ _ _ _ _ _ (c .before .before .before .before .before .before .before .before .before .before .slots .inv) _ _ _ (c .before .before .before .before .before .before .before .before .before .slots-test .taken) (chain-out _ _ _ _ _ _ _ _ _ _ (c .before .before .before .before .before .before .before .chain .inv) _ _ (c .before .before .before .before .before .before .chain-test .taken) (c .before .before .before .before .walk-entry .ensures) _ (c .enum-told .given .1)) (c .enum-told .given .1)
 
-walk-directory-word-of-requires-2 : (t : ℕ) → walk-directory-lts.Need-word-of-requires-2 (D t) (walk-directory-at t) walk-directory.Post Ic Mc Is Ms
-walk-directory-word-of-requires-2 t c κs = (omega arith, ready-holds _ _ _ _ _ (c .before .before .before .before .before .before .before .before .chain .inv .ready) (c .before .before .before .before .before .walk-entry .ensures .known _ (c .before .w .given .1) .high))
+walk-directory-next-entry-requires : (t : ℕ) → walk-directory-lts.Need-next-entry-requires (D t) (walk-directory-at t) walk-directory.Post Ic Mc Is Ms
+walk-directory-next-entry-requires t c κs = ready-holds _ _ _ _ _ (c .before .before .before .before .before .before .before .before .chain .inv .ready) (c .before .before .before .before .before .walk-entry .ensures .known _ (c .before .w .given .1) .high)
 
 walk-directory-add-place : (t : ℕ) → walk-directory-lts.Need-add-place (D t) (walk-directory-at t) walk-directory.Post Ic Mc Is Ms
 walk-directory-add-place t c = omega (arith, chain-few _ _ _ _ _ _ _ _ _ _ (c .before .before .before .before .before .before .before .before .before .chain .inv))
@@ -105,7 +106,7 @@ walk-directory-chain-less : (t : ℕ) → walk-directory-lts.Need-chain-less (D 
 walk-directory-chain-less t c = c .before .before .before .before .before .before .walk-entry .ensures .less _ (c .before .before .w .given .1)
 
 walk-directory-chain-again : (t : ℕ) → walk-directory-lts.Need-chain-again (D t) (walk-directory-at t) walk-directory.Post Ic Mc Is Ms
-walk-directory-chain-again t c = chain-again _ _ _ _ _ _ _ _ _ _ (c .before .before .before .before .before .before .before .before .before .chain .inv) _ _ (c .before .before .before .before .before .before .before .before .chain-test .taken) (c .before .before .before .before .before .before .walk-entry .ensures) _ _ (c .before .before .w .given .1) (c .before .before .before .before .before .before .walk-entry .kept .1 .1 .0) (c .word-of2 .ensures)
+walk-directory-chain-again t c = chain-again _ _ _ _ _ _ _ _ _ _ (c .before .before .before .before .before .before .before .before .before .chain .inv) _ _ (c .before .before .before .before .before .before .before .before .chain-test .taken) (c .before .before .before .before .before .before .walk-entry .ensures) _ _ (c .before .before .w .given .1) (c .before .before .before .before .before .before .walk-entry .kept .1 .1 .0) (c .next-entry .ensures)
 
 walk-directory-add-slot : (t : ℕ) → walk-directory-lts.Need-add-slot (D t) (walk-directory-at t) walk-directory.Post Ic Mc Is Ms
 walk-directory-add-slot t c = omega arith
@@ -164,5 +165,5 @@ walk-entry-returns-3 t c = entry-goes _ _ _ _ _ _ _ _ _ (c .before .before .befo
 pub +walk-directory+walk-entry-spec : {M : Type 1} → statement M
 +walk-directory+walk-entry-spec =
     close μ-walk-directory μ-walk-entry
-    (λ t. walk-directory-lts.spec (D t) (walk-directory-at t) walk-directory.Post Ic Mc Is Ms (walk-directory-slots-holds t) (walk-directory-cast-word-of t) (walk-directory-add-word-of t) (walk-directory-word-of-requires t) (walk-directory-chain-holds t) (walk-directory-walk-entry-requires t) (walk-directory-enum-known-w t) (walk-directory-enum-told t) (walk-directory-same-length t) (walk-directory-returns t) (walk-directory-word-of-requires-2 t) (walk-directory-add-place t) (walk-directory-chain-less t) (walk-directory-chain-again t) (walk-directory-add-slot t) (walk-directory-slots-less t) (walk-directory-slots-again t) (walk-directory-same-length-2 t) (walk-directory-returns-2 t))
+    (λ t. walk-directory-lts.spec (D t) (walk-directory-at t) walk-directory.Post Ic Mc Is Ms (walk-directory-slots-holds t) (walk-directory-cast-word-of t) (walk-directory-add-word-of t) (walk-directory-word-of-requires t) (walk-directory-chain-holds t) (walk-directory-walk-entry-requires t) (walk-directory-enum-known-w t) (walk-directory-enum-told t) (walk-directory-same-length t) (walk-directory-returns t) (walk-directory-next-entry-requires t) (walk-directory-add-place t) (walk-directory-chain-less t) (walk-directory-chain-again t) (walk-directory-add-slot t) (walk-directory-slots-less t) (walk-directory-slots-again t) (walk-directory-same-length-2 t) (walk-directory-returns-2 t))
     (λ t. walk-entry-lts.spec (E t) (walk-entry-at t) walk-entry.Post (walk-entry-meet-entry-requires t) (walk-entry-stopped-requires t) (walk-entry-same-length t) (walk-entry-returns t) (walk-entry-is-directory-requires t) (walk-entry-with-directory-requires t) (walk-entry-walk-directory-requires t) (walk-entry-same-length-2 t) (walk-entry-returns-2 t) (walk-entry-with-file-requires t) (walk-entry-walk-file-requires t) (walk-entry-same-length-3 t) (walk-entry-returns-3 t))

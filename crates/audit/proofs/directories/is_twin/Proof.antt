@@ -20,8 +20,8 @@ same-names-requires c κs = let k = twin-known _ _ _ _ _ _ _ (c .before .loop .i
 returns : tie.Need-returns Inv-loop μ-loop
 returns c = twin-yes _ _ _ _ _ _ _ (c .before .before .before .loop .inv) (c .before .before .loop-test .taken) (c .before .before .before .before .before .pre .2) _ (c .before .same-names .ensures) (c .if1 .taken)
 
-word-of-requires : tie.Need-word-of-requires Inv-loop μ-loop
-word-of-requires c κs = (search needs, known-holds _ _ _ (c .before .before .before .before .before .pre .0) (twin-known _ _ _ _ _ _ _ (c .before .before .before .loop .inv) (c .before .before .loop-test .taken) (c .before .before .before .before .before .pre .2)))
+next-entry-requires : tie.Need-next-entry-requires Inv-loop μ-loop
+next-entry-requires c κs = (known-holds _ _ _ (c .before .before .before .before .before .pre .0) (twin-known _ _ _ _ _ _ _ (c .before .before .before .loop .inv) (c .before .before .loop-test .taken) (c .before .before .before .before .before .pre .2)))
 
 add-i : tie.Need-add-i Inv-loop μ-loop
 add-i c = search needs
@@ -30,7 +30,7 @@ loop-less : tie.Need-loop-less Inv-loop μ-loop
 loop-less c = search needs
 
 loop-again : tie.Need-loop-again Inv-loop μ-loop
-loop-again c = twin-again _ _ _ _ _ _ _ (c .before .before .before .before .loop .inv) (c .before .before .before .loop-test .taken) (c .before .before .before .before .before .before .pre .2) _ _ (c .before .before .same-names .ensures) (c .before .if1 .left) (c .word-of .ensures)
+loop-again c = twin-again _ _ _ _ _ _ _ (c .before .before .before .before .loop .inv) (c .before .before .before .loop-test .taken) (c .before .before .before .before .before .before .pre .2) _ _ (c .before .before .same-names .ensures) (c .before .if1 .left) (c .next-entry .ensures)
 
 returns-2 : tie.Need-returns-2 Inv-loop μ-loop
 returns-2 c = search twin-no depth 7
@@ -44,7 +44,7 @@ is-twin-spec =
     loop-holds
     same-names-requires
     returns
-    word-of-requires
+    next-entry-requires
     add-i
     loop-less
     loop-again

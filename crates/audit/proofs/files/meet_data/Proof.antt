@@ -1,6 +1,8 @@
 -- `audit::files::meet_data` meets its contract. Assumes nothing.
-use Rattle.audit.proofs.Listings.{data-asks}
-use Rattle.audit.proofs.Meeting.{met-claim, met-datum}
+use Rattle.audit.proofs.Meeting.{claims-holds, met-claim, met-datum}
+use Rattle.walk.proofs.Loops.{data-asks}
+-- `audit::files::meet_data` meets its contract. Assumes nothing.
+-- `audit::files::meet_data` meets its contract. Assumes nothing.
 use borrow.Author.Needs.{needs}
 use Rattle.audit.proofs.files.meet_data.Statement.{statement}
 use Rattle.audit.proofs.files.meet_data.Tie as tie
@@ -21,7 +23,7 @@ word-of-requires-2 : tie.Need-word-of-requires-2
 word-of-requires-2 c κs = search needs
 
 data-fault-requires : tie.Need-data-fault-requires
-data-fault-requires c κs = data-asks _ _ _ _ _ _ _ _ _ _ (c .before .before .before .before .before .before .before .before .before .pre .0) (c .before .before .before .before .before .before .before .before .before .pre .3) (c .before .before .before .before .before .before .before .before .before .pre .4) (c .before .before .before .before .before .before .before .before .before .pre .5) (c .before .before .before .before .before .claim-key .ensures) (c .before .before .if1 .left) (c .before .word-of .ensures)
+data-fault-requires c κs = data-asks _ _ _ _ (c .before .word-of .ensures) _ _ (c .before .before .before .before .before .before .before .before .before .pre .0 .sized) (c .before .before .before .before .before .before .before .before .before .pre .3) (c .before .before .before .before .before .before .before .before .before .pre .4) (c .before .before .before .before .before .before .before .before .before .pre .5) (claims-holds _ (c .before .before .before .before .before .before .before .before .before .args .image .now) _ _ _ _ (c .before .before .before .before .before .claim-key .ensures) (c .before .before .if1 .left) (c .before .before .before .before .before .before .before .before .before .pre .0 .image))
 
 same-length-2 : tie.Need-same-length-2
 same-length-2 c = search needs

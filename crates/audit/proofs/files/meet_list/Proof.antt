@@ -1,5 +1,7 @@
-use Rattle.audit.proofs.Listings.{within}
+-- `audit::files::meet_list` meets its contract. Assumes nothing.
 use Rattle.audit.proofs.Meeting.{claims-holds, met-claim, met-list}
+use Rattle.walk.proofs.Loops.{within}
+-- `audit::files::meet_list` meets its contract. Assumes nothing.
 use borrow.Author.Needs.{needs}
 use Rattle.audit.proofs.files.meet_list.Statement.{statement}
 use Rattle.audit.proofs.files.meet_list.Tie as tie
@@ -20,7 +22,7 @@ data-blocks-requires : tie.Need-data-blocks-requires
 data-blocks-requires c κs = search needs
 
 sub-list-fault : tie.Need-sub-list-fault
-sub-list-fault c = search within depth 7
+sub-list-fault c = within _ _ _ _ (c .before .before .word-of .ensures) _ _ (c .before .before .before .before .before .before .before .before .before .before .pre .3) (c .before .data-blocks .ensures)
 
 list-fault-requires : tie.Need-list-fault-requires
 list-fault-requires c κs = search claims-holds depth 7

@@ -1,6 +1,9 @@
 -- `audit::files::walk_file` meets its contract. Assumes nothing.
+use Rattle.audit.proofs.Listings.{FileInv, ready-holds, file-stops, file-start, file-joins, lists-end, lists-out, lists-again, lists-next}
+use Rattle.walk.proofs.Loops.{header-lists, link-few}
+-- `audit::files::walk_file` meets its contract. Assumes nothing.
+-- `audit::files::walk_file` meets its contract. Assumes nothing.
 use native.Mathlib.Omega.{arith}
-use Rattle.audit.proofs.Listings.{FileInv, ready-holds, file-asks, file-stops, file-start, file-joins, lists-end, lists-out, lists-again, lists-more, lists-next}
 -- `audit::files::walk_file` meets its contract. Assumes nothing.
 use Rattle.reach.specs.Walk.{free}
 use borrow.Author.Needs.{needs}
@@ -14,7 +17,7 @@ abbrev μ-loop : tie.MeasureT-loop
 μ-loop disk image claim₀ header m₀ lister₀ done₀ next₀ claim m lister done next = free claim
 
 walk-keys-requires : tie.Need-walk-keys-requires Inv-loop μ-loop
-walk-keys-requires c κs = file-asks _ _ _ _ _ (c .before .before .before .pre .0) (c .before .before .before .pre .1) (c .before .before .before .pre .2)
+walk-keys-requires c κs = (c .before .before .before .pre .0, header-lists _ _ _ (c .before .before .before .pre .1) (c .before .before .before .pre .2))
 
 enum-known-w : tie.Need-enum-known-w Inv-loop μ-loop
 enum-known-w c = search needs
@@ -38,7 +41,7 @@ cast-t19 : tie.Need-cast-t19 Inv-loop μ-loop
 cast-t19 c = search needs
 
 add-t20 : tie.Need-add-t20 Inv-loop μ-loop
-add-t20 c = omega (arith, lists-more _ _ _ _ _ _ _ _ _ _ (c .before .loop .inv) (c .loop-test .taken))
+add-t20 c = omega (arith, link-few _ _ _ _ _ _ (c .before .loop .inv .link) (c .loop-test .taken) (c .before .loop .inv .ready .sized))
 
 sub-key-of : tie.Need-sub-key-of Inv-loop μ-loop
 sub-key-of c = search needs
@@ -65,7 +68,7 @@ cast-done : tie.Need-cast-done Inv-loop μ-loop
 cast-done c = search needs
 
 add-done : tie.Need-add-done Inv-loop μ-loop
-add-done c = omega (arith, lists-more _ _ _ _ _ _ _ _ _ _ (c .before .before .before .before .before .before .before .before .before .loop .inv) (c .before .before .before .before .before .before .before .before .loop-test .taken))
+add-done c = omega (arith, link-few _ _ _ _ _ _ (c .before .before .before .before .before .before .before .before .before .loop .inv .link) (c .before .before .before .before .before .before .before .before .loop-test .taken) (c .before .before .before .before .before .before .before .before .before .loop .inv .ready .sized))
 
 word-of-requires-2 : tie.Need-word-of-requires-2 Inv-loop μ-loop
 word-of-requires-2 c κs = (search needs, ready-holds _ _ _ _ _ (c .before .before .before .before .before .before .before .before .before .loop .inv .ready) (c .before .before .before .before .before .walk-list .ensures .known _ (c .before .v .given .1) .key))

@@ -1,5 +1,7 @@
 -- `audit::files::walk_list` meets its contract. Assumes nothing.
 use Rattle.audit.proofs.Listings.{list-stops, list-asks, list-goes}
+-- `audit::files::walk_list` meets its contract. Assumes nothing.
+-- `audit::files::walk_list` meets its contract. Assumes nothing.
 use borrow.Author.Needs.{needs}
 use Rattle.audit.proofs.files.walk_list.Statement.{statement}
 use Rattle.audit.proofs.files.walk_list.Tie as tie

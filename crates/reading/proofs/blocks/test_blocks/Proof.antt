@@ -1,9 +1,11 @@
 -- `reading::blocks::test_blocks` meets its contract. Assumes nothing.
+use Rattle.reading.proofs.Testing.{BlocksInv, blocks-first, blocks-start, blocks-asks, blocks-out, blocks-again, blocks-end}
+use Rattle.walk.proofs.Loops.{in-image, header-lists, link-more, link-few}
+-- `reading::blocks::test_blocks` meets its contract. Assumes nothing.
 use Rattle.volume.specs.Files.{blocksOf}
 use Prim.Native.Nat.{_-_}
 use native.Mathlib.Omega.{arith}
 use borrow.Author.Needs.{needs}
-use Rattle.reading.proofs.Testing.{BlocksInv, in-image, header-lists, blocks-first, blocks-start, blocks-more, blocks-less, blocks-asks, blocks-out, blocks-again, blocks-end}
 use Rattle.reading.proofs.blocks.test_blocks.Statement.{statement}
 use Rattle.reading.proofs.blocks.test_blocks.Tie as tie
 
@@ -35,13 +37,13 @@ cast-t12 : tie.Need-cast-t12 Inv-loop μ-loop
 cast-t12 c = search needs
 
 add-t13 : tie.Need-add-t13 Inv-loop μ-loop
-add-t13 c = omega (arith, blocks-more _ _ _ _ _ _ (c .before .loop .inv) (c .loop-test .taken) (c .before .before .before .before .before .before .before .pre .0))
+add-t13 c = omega (arith, link-few _ _ _ _ _ _ (c .before .loop .inv .link) (c .loop-test .taken) (c .before .before .before .before .before .before .before .pre .0))
 
 sub-key-of : tie.Need-sub-key-of Inv-loop μ-loop
 sub-key-of c = search needs
 
 key-of-requires : tie.Need-key-of-requires Inv-loop μ-loop
-key-of-requires c κs = (search needs, in-image (c .before .before .before .before .before .before .before .args .disk) (c .before .before .before .before .before .before .before .args .image .now) _ (c .before .before .before .before .before .before .before .pre .1) (c .before .loop .inv .known .key))
+key-of-requires c κs = (search needs, in-image (c .before .before .before .before .before .before .before .args .disk) (c .before .before .before .before .before .before .before .args .image .now) _ (c .before .before .before .before .before .before .before .pre .1) (c .before .loop .inv .link .known .key))
 
 test-listed-requires : tie.Need-test-listed-requires Inv-loop μ-loop
 test-listed-requires c κs = blocks-asks _ _ _ _ _ _ (c .before .before .loop .inv) (c .before .loop-test .taken) _ (c .key-of .ensures) (c .before .before .before .before .before .before .before .before .pre .0) (c .before .before .before .before .before .before .before .before .pre .1)
@@ -59,13 +61,13 @@ cast-done : tie.Need-cast-done Inv-loop μ-loop
 cast-done c = search needs
 
 add-done : tie.Need-add-done Inv-loop μ-loop
-add-done c = omega (arith, blocks-more _ _ _ _ _ _ (c .before .before .before .before .before .loop .inv) (c .before .before .before .before .loop-test .taken) (c .before .before .before .before .before .before .before .before .before .before .before .pre .0))
+add-done c = omega (arith, link-few _ _ _ _ _ _ (c .before .before .before .before .before .loop .inv .link) (c .before .before .before .before .loop-test .taken) (c .before .before .before .before .before .before .before .before .before .before .before .pre .0))
 
 word-of-requires-2 : tie.Need-word-of-requires-2 Inv-loop μ-loop
 word-of-requires-2 c κs = (search needs, in-image (c .before .before .before .before .before .before .before .before .before .before .before .args .disk) (c .before .before .before .before .before .before .before .before .before .before .before .args .image .now) _ (c .before .before .before .before .before .before .before .before .before .before .before .pre .1) (c .before .before .test-listed .ensures .known (c .enum-told3 .given .1) .key))
 
 loop-less : tie.Need-loop-less Inv-loop μ-loop
-loop-less c = omega (arith, blocks-less _ _ _ _ _ _ (c .before .before .before .before .before .before .loop .inv) (c .before .before .before .before .before .loop-test .taken))
+loop-less c = omega (arith, link-more _ _ _ _ _ _ (c .before .before .before .before .before .before .loop .inv .link) (c .before .before .before .before .before .loop-test .taken))
 
 loop-again : tie.Need-loop-again Inv-loop μ-loop
 loop-again c = blocks-again _ _ _ _ _ _ (c .before .before .before .before .before .before .loop .inv) (c .before .before .before .before .before .loop-test .taken) _ (c .before .before .before .before .key-of .ensures) _ _ (c .before .before .before .test-listed .ensures) (c .before .enum-told3 .given .1) (c .word-of2 .ensures)

@@ -1,5 +1,7 @@
 -- `reading::blocks::test_data` meets its contract. Assumes nothing.
-use Rattle.reading.proofs.Testing.{data-asks, datum-is, datum-out}
+use Rattle.reading.proofs.Testing.{range-holds, datum-is, datum-out}
+use Rattle.walk.proofs.Loops.{data-asks}
+-- `reading::blocks::test_data` meets its contract. Assumes nothing.
 use borrow.Author.Needs.{needs}
 use Rattle.reading.proofs.blocks.test_data.Statement.{statement}
 use Rattle.reading.proofs.blocks.test_data.Tie as tie
@@ -14,7 +16,7 @@ word-of-requires-2 : tie.Need-word-of-requires-2
 word-of-requires-2 c κs = search needs
 
 data-fault-requires : tie.Need-data-fault-requires
-data-fault-requires c κs = data-asks _ _ _ _ _ _ _ (c .before .before .before .before .before .pre .0) (c .before .before .before .before .before .pre .1) (c .before .before .before .before .before .pre .4) (c .before .before .before .before .before .pre .5) (c .before .before .before .before .before .pre .6) (c .before .before .before .in-range .ensures) (c .before .before .if1 .taken) (c .before .word-of .ensures)
+data-fault-requires c κs = data-asks _ _ _ _ (c .before .word-of .ensures) _ _ (c .before .before .before .before .before .pre .0) (c .before .before .before .before .before .pre .4) (c .before .before .before .before .before .pre .5) (c .before .before .before .before .before .pre .6) (range-holds _ _ _ (c .before .before .before .in-range .ensures) (c .before .before .before .before .before .args .image .now) (c .before .before .if1 .taken) (c .before .before .before .before .before .pre .1))
 
 returns : tie.Need-returns
 returns c = datum-is _ _ _ (c .before .before .before .before .in-range .ensures) _ _ _ _ _ _ _ (c .before .before .before .if1 .taken) (c .before .before .word-of .ensures) (c .before .word-of2 .ensures) (c .data-fault .ensures)

@@ -1,6 +1,7 @@
 -- `reading::blocks::test_file` meets its contract. Assumes nothing.
-use mathlib.Core.Path.{sym, _∙_}
 use Rattle.reading.proofs.Testing.{header-stops, header-goes}
+-- `reading::blocks::test_file` meets its contract. Assumes nothing.
+use mathlib.Core.Path.{sym, _∙_}
 use borrow.Author.Needs.{needs}
 use Rattle.reading.proofs.blocks.test_file.Statement.{statement}
 use Rattle.reading.proofs.blocks.test_file.Tie as tie

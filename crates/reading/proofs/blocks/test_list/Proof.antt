@@ -1,5 +1,7 @@
 -- `reading::blocks::test_list` meets its contract. Assumes nothing.
-use Rattle.reading.proofs.Testing.{within, range-holds, list-is, list-out}
+use Rattle.reading.proofs.Testing.{range-holds, list-is, list-out}
+use Rattle.walk.proofs.Loops.{within}
+-- `reading::blocks::test_list` meets its contract. Assumes nothing.
 use borrow.Author.Needs.{needs}
 use Rattle.reading.proofs.blocks.test_list.Statement.{statement}
 use Rattle.reading.proofs.blocks.test_list.Tie as tie
@@ -14,7 +16,7 @@ data-blocks-requires : tie.Need-data-blocks-requires
 data-blocks-requires c κs = search needs
 
 sub-list-fault : tie.Need-sub-list-fault
-sub-list-fault c = within _ _ _ _ _ _ (c .before .before .before .before .before .before .pre .4) (c .before .before .word-of .ensures) (c .before .data-blocks .ensures)
+sub-list-fault c = within _ _ _ _ (c .before .before .word-of .ensures) _ _ (c .before .before .before .before .before .before .pre .4) (c .before .data-blocks .ensures)
 
 list-fault-requires : tie.Need-list-fault-requires
 list-fault-requires c κs = range-holds _ _ _ (c .before .before .before .before .in-range .ensures) (c .before .before .before .before .before .before .args .image .now) (c .before .before .before .if1 .taken) (c .before .before .before .before .before .before .pre .1)

@@ -1,5 +1,6 @@
 -- `reading::blocks::test_listed` meets its contract. Assumes nothing.
 use Rattle.reading.proofs.Testing.{list-stops, list-asks, list-goes}
+-- `reading::blocks::test_listed` meets its contract. Assumes nothing.
 use borrow.Author.Needs.{needs}
 use Rattle.reading.proofs.blocks.test_listed.Statement.{statement}
 use Rattle.reading.proofs.blocks.test_listed.Tie as tie

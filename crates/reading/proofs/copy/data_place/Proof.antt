@@ -1,7 +1,7 @@
 -- `reading::copy::data_place` meets its contract. Assumes nothing.
 use native.Mathlib.Omega.{arith}
 use borrow.Author.Needs.{needs}
-use Rattle.reading.specs.Bytes.{dataStart}
+use Rattle.volume.specs.Disks.{dataStart}
 use Rattle.reading.proofs.copy.data_place.Statement.{statement}
 use Rattle.reading.proofs.copy.data_place.Tie as tie
 
