@@ -11,3 +11,5 @@ pub mod Contents
 pub mod Turns
 -- a read, and that outcomes are determined
 pub mod Readings
+-- `read-exactly`, `read-output`: what it says that a read gives bytes
+pub mod Answers
