@@ -2,7 +2,7 @@
 use Prim.Native.Nat.{ℕ, _+_, _-_, _≤_, _<_, min}
 use mathlib.Core.Path.{_≡_, refl, sym, ap, _∙_}
 use mathlib.Core.Logic.{_↔_}
-use mathlib.Core.List.{List, _++_}
+use mathlib.Core.List.{List, [], _++_}
 use native.Mathlib.Omega.{arith}
 use lib.ListN.{length, getD, take, drop, length-append, length-take, length-drop}
 use lib.Seq.{take-append-seam, getD-take, getD-drop, getD-append-add}
@@ -14,14 +14,13 @@ use Rattle.volume.specs.Files.{sizeOf}
 use Rattle.lookup.specs.declared.find.Found.{Found}
 use Rattle.lookup.specs.declared.find.Found.the-variants as found
 use Rattle.lookup.specs.Lookup.{findOf}
-use Rattle.lookup.proofs.Refusing.{file-exactly}
 use Rattle.reading.specs.declared.read.Reading.the-variants.{Bytes, Refused}
 use Rattle.reading.specs.FileTests.{blocksFault}
 use Rattle.reading.specs.Bytes.{fileBytes, part, filledBy, Copied}
 use Rattle.reading.specs.Reads.{tested, reads, readOf, Reads}
 use Rattle.reading.specs.Outcomes.{Gives, Holds}
 use Rattle.reading.proofs.Contents.{file-long, part-long}
-use Rattle.reading.proofs.Readings.{followed}
+use Rattle.reading.proofs.Readings.{followed, file-long as image-long, file-size}
 
 -- ---- a copy, byte by byte
 
@@ -76,10 +75,10 @@ module _ (d : Disk) (s path : List ℕ) where
 
   module _ (k z c : ℕ) (e : findOf d s path ≡ found.File k z c) where
     pub found-long : length s ≡ imageBytes d
-    found-long = file-exactly d s path k z c .0 e .opened .long
+    found-long = image-long d s path 0 [] (findOf d s path) refl k z c e
 
     pub found-size : z ≡ sizeOf s k
-    found-size = let h = file-exactly d s path k z c .0 e in sym (h .size) ∙ ap (sizeOf s) (h .key)
+    found-size = file-size d s path 0 [] (findOf d s path) refl k z c e
 
     pub count-found : blocksFault d s k ≡ Passed → (o n : ℕ) → length (part (fileBytes d s k) o n) ≡ min n (z - o)
     count-found p o n = rw found-size (count-is d s k found-long p o n)

@@ -13,3 +13,5 @@ pub mod Turns
 pub mod Readings
 -- `read-exactly`, `read-output`: what it says that a read gives bytes
 pub mod Answers
+-- `passes-tested`: a file as the law says, with its blocks in range and sums 0, passes
+pub mod Passing

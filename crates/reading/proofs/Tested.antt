@@ -28,7 +28,7 @@ use Rattle.walk.proofs.Links.{some-more}
 use Rattle.reading.specs.FileTests.{nodeFault, firstFault, blocksFrom, fileNodes, blocksFault}
 
 module _ (d : Disk) (s : List ℕ) where
-  abbrev Pass : List Node → Type 0
+  abbrev pub Pass : List Node → Type 0
   Pass ns = (x : Node) → x ∈ ns → nodeFault d s x ≡ 0
 
   all-pass : (ns : List Node) → firstFault d s ns ≡ Passed → Pass ns

@@ -41,8 +41,8 @@ pub record Holds (bytes : List ℕ) (o : ℕ) (before : List ℕ) (m : ℕ) (aft
 
 -- ---- a file whose blocks pass
 
--- a block of the file lies behind the boot blocks, in the volume, and its sum is 0
-pub record Sound (d : Disk) (s : List ℕ) (k : ℕ) : Type 0 where
+-- a block that lies behind the boot blocks, in the volume, and whose sum is 0
+pub record Intact (d : Disk) (s : List ℕ) (k : ℕ) : Type 0 where
   pub low : firstKey ≤ k
   pub inside : k < d .blocks
   pub sum : sumOf s k ≡ 0
@@ -50,8 +50,8 @@ pub record Sound (d : Disk) (s : List ℕ) (k : ℕ) : Type 0 where
 -- it is as the law says, with all of its blocks
 pub record Whole (d : Disk) (s : List ℕ) (h : ℕ) : Type 0 where
   pub file : File d s h
-  pub lists : (k : ℕ) → k ∈ listsOf d s h → Sound d s k
-  pub keys : (k : ℕ) → k ∈ keysOf d s h → Sound d s k
+  pub lists : (k : ℕ) → k ∈ listsOf d s h → Intact d s k
+  pub keys : (k : ℕ) → k ∈ keysOf d s h → Intact d s k
 
 -- ---- a refusal
 
