@@ -15,3 +15,5 @@ pub mod Readings
 pub mod Answers
 -- `passes-tested`: a file as the law says, with its blocks in range and sums 0, passes
 pub mod Passing
+-- `refused-exactly`: each refusal exactly then
+pub mod Refusing
