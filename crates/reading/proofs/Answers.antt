@@ -4,7 +4,7 @@ use mathlib.Core.Path.{_≡_, refl, sym, ap, _∙_}
 use mathlib.Core.Logic.{_↔_}
 use mathlib.Core.List.{List, [], _++_}
 use native.Mathlib.Omega.{arith}
-use lib.ListN.{length, getD, take, drop, length-append, length-take, length-drop}
+use lib.ListN.{length, getD, drop, length-append, length-take, length-drop}
 use lib.Seq.{take-append-seam, getD-take, getD-drop, getD-append-add}
 use Rattle.answers.specs.declared.Tested.{Tested}
 use Rattle.answers.specs.declared.Tested.the-variants.{Passed, Failed}
@@ -18,7 +18,7 @@ use Rattle.reading.specs.declared.read.Reading.the-variants.{Bytes, Refu
 use Rattle.reading.specs.FileTests.{blocksFault}
 use Rattle.reading.specs.Bytes.{fileBytes, part, filledBy, Copied}
 use Rattle.reading.specs.Reads.{tested, reads, readOf, Reads}
-use Rattle.reading.specs.Outcomes.{Gives, Holds}
+use Rattle.reading.specs.Outcomes.{Gives, Filled}
 use Rattle.reading.proofs.Contents.{file-long, part-long}
 use Rattle.reading.proofs.Readings.{followed, file-long as image-long, file-size}
 
@@ -51,8 +51,8 @@ module _ (bytes : List ℕ) (o : ℕ) (before : List ℕ) (m : ℕ) (after : Lis
       let f : m + (i - m) ≡ i = omega arith in
       rw parts (ap (λ (j : ℕ). getD (p ++ drop m before) j 0) (sym e) ∙ getD-append-add p (drop m before) (i - m) 0 ∙ getD-drop m before (i - m) 0 ∙ ap (λ (j : ℕ). getD before j 0) f)
 
-  pub copied-holds : Holds bytes o before m after
-  copied-holds =
+  pub copied-filled : Filled bytes o before m after
+  copied-filled =
       record {
         kept = rw (parts, length-append p (drop m before), length-drop m before) (omega (arith, long, c .count));
         room = omega (arith, long);
@@ -105,11 +105,11 @@ module _ (d : Disk) (s path : List ℕ) where
   -- ---- the output
 
   -- It holds the file's bytes from the offset on, and behind them what it held.
-  pub read-output : (o m k z c : ℕ) (output output′ : List ℕ) → Reads d s path o output (Bytes m) output′ → findOf d s path ≡ found.File k z c → Holds (fileBytes d s k) o output m output′
+  pub read-output : (o m k z c : ℕ) (output output′ : List ℕ) → Reads d s path o output (Bytes m) output′ → findOf d s path ≡ found.File k z c → Filled (fileBytes d s k) o output m output′
   read-output o m k z c output output′ r e =
       let g = read-exactly o (length output) m .0 (sym (r .answer)) in
       let a : g .key ≡ k = cc in
       let b : g .size ≡ z = cc in
       let p : blocksFault d s k ≡ Passed = rw a at (g .passed) in
       let l : m ≡ length (part (fileBytes d s k) o (length output)) = g .count ∙ rw b (sym (count-found k z c e p o (length output))) in
-      copied-holds (fileBytes d s k) o output m output′ (record { count = l; output = rw e at (r .left) })
+      copied-filled (fileBytes d s k) o output m output′ (record { count = l; output = rw e at (r .left) })

@@ -13,7 +13,7 @@ pub mod Turns
 pub mod Readings
 -- `read-exactly`, `read-output`: what it says that a read gives bytes
 pub mod Answers
--- `passes-tested`: a file as the law says, with its blocks in range and sums 0, passes
+-- `passes-tested`, `tested-exactly`: a file passes exactly if it is as the law says, its blocks in range with sum 0
 pub mod Passing
 -- `refused-exactly`: each refusal exactly then
 pub mod Refusing

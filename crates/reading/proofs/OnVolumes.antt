@@ -1,33 +1,36 @@
 -- On a volume the blocks of every reached file are reached, so that they pass (`volume-file-passes`); a read gives the file's bytes, or 18, 19
--- or 20 (`volume-reads`, `volume-read-whole`, `volume-read-answers`). Assumes nothing.
+-- or 20 (`volume-reads`, `volume-read-whole`, `reached-read`, `volume-read-answers`). Assumes nothing.
 use Prim.Native.Nat.{ℕ, zero, suc, _+_, _-_, _≤_, min}
 use mathlib.Core.Path.{_≡_, refl, sym, ap, _∙_}
 use mathlib.Core.Logic.{_≢_, _⊎_, inl, inr}
 use mathlib.Core.Bool.{false}
 use mathlib.Core.List.{List, [], _∷_, _++_, map}
 use native.Mathlib.Omega.{arith}
-use lib.ListN.{length, take, drop}
+use lib.ListN.{length, drop}
 use lib.Seq.{take-all}
 use Rattle.answers.specs.Tests.{pick}
 use Rattle.answers.specs.declared.Tested.the-variants.{Passed}
 use Rattle.reach.specs.References.{_∈_, Reached, ref}
 use Rattle.reach.proofs.Lists.{in-left, in-right, in-either, in-at, in-map}
 use Rattle.volume.specs.declared.disk.Disk.{Disk}
-use Rattle.volume.specs.Blocks.{slots, wordOf, keyWord, directory}
+use Rattle.volume.specs.Disks.{rootOf}
+use Rattle.volume.specs.Blocks.{slots, wordOf, directory}
 use Rattle.volume.specs.Files.{keysHere, listBlocks, keysDown, listsFrom, keysFrom, sizeOf, blocksOf, listsOf, keysOf}
 use Rattle.volume.specs.References.{Kind, Ref, to, link, listed, slotRefs, refersTo, references}
 use Rattle.volume.specs.Law.{Lists, File, Volume}
 use Rattle.walk.specs.Nodes.{before}
 use Rattle.walk.proofs.Spreads.{Spread, here, file-spreads}
 use Rattle.lookup.specs.declared.find.Found.the-variants as found
+use Rattle.lookup.specs.Paths.{longestPath}
 use Rattle.lookup.specs.Lookup.{findOf}
 use Rattle.lookup.proofs.Refusing.{file-exactly}
 use Rattle.lookup.proofs.OnVolumes.{volume-answers, found-file}
+use Rattle.lookup.proofs.Bridge.{Lies, pathOf, reached-found}
 use Rattle.reading.specs.declared.read.Reading.{Reading}
 use Rattle.reading.specs.declared.read.Reading.the-variants.{Bytes}
 use Rattle.reading.specs.FileTests.{blocksFault}
 use Rattle.reading.specs.Bytes.{fileBytes, part, filledBy}
-use Rattle.reading.specs.Reads.{refuse, readOf, Reads, leaves}
+use Rattle.reading.specs.Reads.{refuse, readOf, Reads}
 use Rattle.reading.specs.Outcomes.{Intact, Whole, Refuses, of-lookup, of-directory, of-header, of-block}
 use Rattle.reading.proofs.Answers.{bytes-long, found-size, read-exactly}
 use Rattle.reading.proofs.Passing.{passes-tested}
@@ -100,7 +103,8 @@ module _ (d : Disk) (s : List ℕ) where
 
 -- ---- a volume
 
-pub filled-whole : (bytes output : List ℕ) → length bytes ≤ length output → filledBy bytes 0 output ≡ bytes ++ drop (length bytes) output
+-- an output with room for all bytes
+filled-whole : (bytes output : List ℕ) → length bytes ≤ length output → filledBy bytes 0 output ≡ bytes ++ drop (length bytes) output
 unfolding filledBy part
 filled-whole bytes output h = rw (take-all (length output) bytes h) refl
 
@@ -146,3 +150,8 @@ module _ (d : Disk) (s : List ℕ) (v : Volume d s) where
         go (of-directory t c e a b) = inr (inr a)
         go (of-header z c e f u) = absurd (none i z c e)
         go (of-block h z c e f u) = absurd (none h z c e)
+
+  -- Every reached file is read whole by its path, if that is not too long.
+  pub reached-read : (k : ℕ) (h : Lies s (rootOf d) k) → directory s k ≡ false → length (pathOf s (rootOf d) k h) ≤ longestPath → (output output′ : List ℕ) (r : Reading) → sizeOf s k ≤ length output → Reads d s (pathOf s (rootOf d) k h) 0 output r output′ → (r ≡ Bytes (sizeOf s k)) × (length (fileBytes d s k) ≡ sizeOf s k) × (output′ ≡ fileBytes d s k ++ drop (sizeOf s k) output)
+  unfolding pick
+  reached-read k h e l output output′ r m q = let w = reached-found d s v k h l in volume-read-whole (pathOf s (rootOf d) k h) k (sizeOf s k) (w .0) (rw e at (w .1)) output output′ r m q

@@ -1,11 +1,11 @@
--- A file that is as the law says, its blocks in range with sum 0, passes its tests (`passes-tested`). Assumes nothing.
+-- A file that is as the law says, its blocks in range with sum 0, passes its tests (`passes-tested`), and no other does (`tested-exactly`).
+-- Assumes nothing.
 use Prim.Native.Nat.{ℕ, zero, suc, _+_, _-_}
-use mathlib.Core.Path.{_≡_, refl, sym, ap, _∙_, subst}
-use mathlib.Core.Logic.{_⊎_, inl, inr}
+use mathlib.Core.Path.{_≡_, refl, sym, ap, subst}
+use mathlib.Core.Logic.{_⊎_, inl, inr, _↔_}
 use mathlib.Core.List.{List, [], _∷_, _++_}
 use native.Mathlib.Nat.{sub-zero}
 use native.Mathlib.Omega.{arith}
-use lib.Dec.{eqb}
 use borrow.Author.Tests.{eq-eqb}
 use Rattle.answers.specs.Tests.{pick}
 use Rattle.answers.specs.declared.Tested.the-variants.{Passed}
@@ -16,14 +16,14 @@ use Rattle.volume.specs.Blocks.{slots, wordOf, keyWord}
 use Rattle.volume.specs.Files.{keysHere, listBlocks, keysDown, listsFrom, keysFrom, blocksOf}
 use Rattle.volume.specs.Law.{ListBlock, Lists}
 use Rattle.volume.proofs.Passes.{_&_, file-passes, list-passes, data-passes}
-use Rattle.walk.specs.Nodes.{Node, list, datum, before, keyNodes, keyOf, faultOf}
+use Rattle.walk.specs.Nodes.{Node, list, datum, keyNodes, keyOf, faultOf}
 use Rattle.walk.proofs.Nodes.{in-keys}
 use Rattle.walk.proofs.Passes.{key-passes}
 use Rattle.walk.proofs.Spreads.{Follows, Run, Spread, here, spread-first, file-spreads}
 use Rattle.walk.proofs.Listed.{Sound, run-listed}
 use Rattle.reading.specs.FileTests.{nodeFault, firstFault, blocksFrom, fileNodes, blocksFault}
 use Rattle.reading.specs.Outcomes.{Intact, Whole}
-use Rattle.reading.proofs.Tested.{Pass}
+use Rattle.reading.proofs.Tested.{Pass, tested-whole}
 
 module _ (d : Disk) (s : List ℕ) where
   pass-all : (ns : List Node) → Pass d s ns → firstFault d s ns ≡ Passed
@@ -98,3 +98,7 @@ module _ (d : Disk) (s : List ℕ) where
         let z : blocksOf d s h ≡ blocksOf d s h - 0 = omega arith in
         let e = file-passes d s h (p .0, rw sub-zero at (spread-first d s h q h 0 h (p .2) .0), p .1) in
         rw (eq-eqb _ 0 e) (pass-all (fileNodes d s h) (spread-passes q h 0 h (blocksOf d s h) (ap listBlocks z) z (p .2) (w .lists) (w .keys)))
+
+    -- The blocks of a file pass exactly if it is whole.
+    pub tested-exactly : (blocksFault d s h ≡ Passed) ↔ Whole d s h
+    tested-exactly = (tested-whole d s h, passes-tested)

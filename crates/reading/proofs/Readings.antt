@@ -32,7 +32,7 @@ use Rattle.reading.specs.FileTests.{blocksFault}
 use Rattle.reading.specs.Bytes.{fileBytes, Followed, Copied}
 use Rattle.lookup.proofs.find.Found.{the-type}
 use Rattle.reading.specs.Reads.{numbersOf, refuse, lastComponent, handed, readOf, leaves, Reads}
-use Rattle.reading.proofs.Tested.{tested-file, tested-keys}
+use Rattle.reading.proofs.Tested.{tested-whole}
 
 -- ---- the last component
 
@@ -104,8 +104,8 @@ module _ (n b : ℕ) where
 pub followed : (d : Disk) (s : List ℕ) (k : ℕ) (t : Tested) → t ≡ blocksFault d s k → t ≡ Passed → Followed d s k
 followed d s k t e q =
     let p : blocksFault d s k ≡ Passed = sym e ∙ q in
-    let f = tested-file d s k p in
-    record { size = f .size; keys = tested-keys d s k p; following = f .following }
+    let w = tested-whole d s k p in
+    record { size = w .file .size; keys = λ b a. w .keys b a .inside; following = w .file .following }
 
 module _ (d : Disk) (s path : List ℕ) (o : ℕ) (output : List ℕ) (f : Found) (e : f ≡ findOf d s path) where
   -- what is found is a file with a key in the volume

@@ -1,31 +1,31 @@
--- What it says of a file that its blocks pass their tests: it is as the law says, and its data blocks lie in the volume (`tested-file`,
--- `tested-keys`). Assumes nothing.
-use Prim.Native.Nat.{ℕ, zero, suc, _+_, _-_, _<_}
-use mathlib.Core.Path.{_≡_, refl, sym, ap, _∙_, subst}
+-- What it says of a file that its blocks pass their tests: it is as the law says, and its blocks are in range with sum 0 (`tested-file`,
+-- `tested-whole`). Assumes nothing.
+use Prim.Native.Nat.{ℕ, zero, suc, _+_, _-_}
+use mathlib.Core.Path.{_≡_, refl, ap, subst}
 use mathlib.Core.Logic.{inl, inr, _⊎_}
 use mathlib.Core.Bool.{Bool, true, false}
-use mathlib.Core.List.{List, [], _∷_, _++_}
+use mathlib.Core.List.{List, [], _∷_}
 use native.Mathlib.Omega.{arith}
 use lib.Dec.{eqb}
 use borrow.Author.Tests.{eqb-true}
-use Rattle.answers.specs.Tests.{pick, first}
+use Rattle.answers.specs.Tests.{pick}
 use Rattle.answers.specs.Refusals.{refusal}
 use Rattle.answers.specs.declared.Tested.the-variants.{Passed, Failed}
-use Rattle.answers.proofs.Tests.{first-zero, must-passed}
+use Rattle.answers.proofs.Tests.{first-zero}
 use Rattle.reach.specs.References.{_∈_}
 use Rattle.reach.proofs.Lists.{in-left, in-right, in-either}
 use Rattle.volume.specs.declared.disk.Disk.{Disk}
 use Rattle.volume.specs.Blocks.{slots, wordOf, keyWord}
-use Rattle.volume.specs.Files.{keysHere, listBlocks, keysDown, listsFrom, keysFrom, blocksOf, keysOf}
+use Rattle.volume.specs.Files.{keysHere, listBlocks, keysDown, listsFrom, keysFrom, blocksOf}
 use Rattle.volume.specs.Law.{Lists, File}
 use Rattle.volume.specs.Rules.{fileFault}
-use Rattle.volume.proofs.Sizes.{range-is}
 use Rattle.volume.proofs.Passes.{file-passed, list-passed, data-passed}
 use Rattle.walk.specs.Nodes.{Node, root, bitmap, entry, list, datum, before, keyNodes, keyOf, keyFault, faultOf}
+use Rattle.walk.proofs.Passes.{key-passed, sum-passed}
 use Rattle.walk.proofs.Spreads.{Run, Spread, here, file-spreads}
 use Rattle.walk.proofs.Listed.{Sound, run-listed}
-use Rattle.walk.proofs.Links.{some-more}
 use Rattle.reading.specs.FileTests.{nodeFault, firstFault, blocksFrom, fileNodes, blocksFault}
+use Rattle.reading.specs.Outcomes.{Intact, Whole}
 
 module _ (d : Disk) (s : List ℕ) where
   abbrev pub Pass : List Node → Type 0
@@ -41,11 +41,13 @@ module _ (d : Disk) (s : List ℕ) where
       go true q e (inr a) f = f e x a
       go false q e a f = let z : _≡_ {A = ℕ} 0 1 = cc in absurd (omega arith)
 
-  inside : (x : Node) → nodeFault d s x ≡ 0 → keyOf d x < d .blocks
-  inside x e = range-is d (keyOf d x) (must-passed _ 4 (first-zero (keyFault d (keyOf d x)) _ e .0)) .1
-
   own : (x : Node) → nodeFault d s x ≡ 0 → faultOf d s x ≡ 0
   own x e = first-zero (keyFault d (keyOf d x)) _ e .1
+
+  intact : (x : Node) → nodeFault d s x ≡ 0 → Intact d s (keyOf d x)
+  intact x e =
+      let r = key-passed d (keyOf d x) (first-zero (keyFault d (keyOf d x)) _ e .0) in
+      record { low = r .0; inside = r .1; sum = sum-passed d s x (own x e) }
 
   -- a data block that passes is as the law says
   sound : (x : Node) → faultOf d s x ≡ 0 → Sound d s x
@@ -82,27 +84,33 @@ module _ (d : Disk) (s : List ℕ) where
         let t = spread-tested q (wordOf s b 126) (m + slots) (keyWord s b 71) (omega (arith, e)) (p .2) (λ x a. g x (inr a)) in
         (l, runs (suc q) b m c f, p .1, rw n t)
 
-    -- ---- the keys
+    -- ---- the keys of its data blocks, and of its list blocks
 
-    down-inside : (b m c i n : ℕ) → Pass (keyNodes s h b m c i n) → (k : ℕ) → k ∈ keysDown s b i n → k < d .blocks
+    down-intact : (b m c i n : ℕ) → Pass (keyNodes s h b m c i n) → (k : ℕ) → k ∈ keysDown s b i n → Intact d s k
     unfolding keyNodes keysDown
-    down-inside b m c i zero f k a = absurd a
-    down-inside b m c i (suc n) f k (inl a) = rw a (inside (datum (keyWord s b i) h (suc (m + i)) (before s b c i)) (f _ (inl refl)))
-    down-inside b m c i (suc n) f k (inr a) = down-inside b m c (suc i) n (λ x p. f x (inr p)) k a
+    down-intact b m c i zero f k a = absurd a
+    down-intact b m c i (suc n) f k (inl a) = rw a (intact (datum (keyWord s b i) h (suc (m + i)) (before s b c i)) (f _ (inl refl)))
+    down-intact b m c i (suc n) f k (inr a) = down-intact b m c (suc i) n (λ x p. f x (inr p)) k a
 
     -- those of one block, and those behind
-    keys-split : (q b m c r k : ℕ) → r ≡ blocksOf d s h - m → Pass (blocksFrom d s h b m c q) → (k ∈ keysFrom s (r - slots) (listsFrom s b q) → k < d .blocks) → k ∈ keysFrom s r (b ∷ listsFrom s b q) → k < d .blocks
+    keys-split : (q b m c r k : ℕ) → r ≡ blocksOf d s h - m → Pass (blocksFrom d s h b m c q) → (k ∈ keysFrom s (r - slots) (listsFrom s b q) → Intact d s k) → k ∈ keysFrom s r (b ∷ listsFrom s b q) → Intact d s k
     unfolding keysFrom
     keys-split q b m c r k e f g a = go (in-either k (keysDown s b 0 (keysHere r)) _ a)
       where
-        go : (k ∈ keysDown s b 0 (keysHere r)) ⊎ (k ∈ keysFrom s (r - slots) (listsFrom s b q)) → k < d .blocks
-        go (inl p) = down-inside b m c 0 (keysHere (blocksOf d s h - m)) (keysPart q b m c f) k (rw e at p)
+        go : (k ∈ keysDown s b 0 (keysHere r)) ⊎ (k ∈ keysFrom s (r - slots) (listsFrom s b q)) → Intact d s k
+        go (inl p) = down-intact b m c 0 (keysHere (blocksOf d s h - m)) (keysPart q b m c f) k (rw e at p)
         go (inr p) = g p
 
-    keys-inside : (q b m c r k : ℕ) → r ≡ blocksOf d s h - m → Pass (blocksFrom d s h b m c q) → k ∈ keysFrom s r (b ∷ listsFrom s b q) → k < d .blocks
+    keys-intact : (q b m c r k : ℕ) → r ≡ blocksOf d s h - m → Pass (blocksFrom d s h b m c q) → k ∈ keysFrom s r (b ∷ listsFrom s b q) → Intact d s k
     unfolding keysFrom listsFrom
-    keys-inside zero b m c r k e f a = keys-split zero b m c r k e f (λ p. absurd p) a
-    keys-inside (suc q) b m c r k e f a = keys-split (suc q) b m c r k e f (λ p. keys-inside q (wordOf s b 126) (m + slots) (keyWord s b 71) (r - slots) k (omega arith) (λ x y. rest q b m c f x (inr y)) p) a
+    keys-intact zero b m c r k e f a = keys-split zero b m c r k e f (λ p. absurd p) a
+    keys-intact (suc q) b m c r k e f a = keys-split (suc q) b m c r k e f (λ p. keys-intact q (wordOf s b 126) (m + slots) (keyWord s b 71) (r - slots) k (omega arith) (λ x y. rest q b m c f x (inr y)) p) a
+
+    lists-intact : (q b m c k : ℕ) → Pass (blocksFrom d s h b m c q) → k ∈ listsFrom s b q → Intact d s k
+    unfolding listsFrom
+    lists-intact zero b m c k f a = absurd a
+    lists-intact (suc q) b m c k f (inl a) = rw a (intact (next b m) (rest q b m c f (next b m) (inl refl)))
+    lists-intact (suc q) b m c k f (inr a) = lists-intact q (wordOf s b 126) (m + slots) (keyWord s b 71) k (λ x y. rest q b m c f x (inr y)) a
 
     -- ---- the whole file
 
@@ -128,5 +136,8 @@ module _ (d : Disk) (s : List ℕ) where
           let p = file-passed d s h header-passes in
           file-spreads d s h .1 (p .0, p .2, spread-tested (listBlocks (blocksOf d s h)) h 0 h (ap listBlocks nothing-done) (subst (Lists s h) nothing-done (p .1)) blocks-pass)
 
-      pub tested-keys : (k : ℕ) → k ∈ keysOf d s h → k < d .blocks
-      tested-keys k a = keys-inside (listBlocks (blocksOf d s h)) h 0 h (blocksOf d s h) k nothing-done blocks-pass a
+      -- and whole
+      pub tested-whole : Whole d s h
+      tested-whole =
+          let q = listBlocks (blocksOf d s h) in
+          record { file = tested-file; lists = λ k a. lists-intact q h 0 h k blocks-pass a; keys = λ k a. keys-intact q h 0 h (blocksOf d s h) k nothing-done blocks-pass a }

@@ -32,7 +32,7 @@ pub record Gives (d : Disk) (s path : List ℕ) (o n m : ℕ) : Type 0 where
   pub count : m ≡ min n (size - o)
 
 -- the first m bytes of the output are those from o on, the rest are as before
-pub record Holds (bytes : List ℕ) (o : ℕ) (before : List ℕ) (m : ℕ) (after : List ℕ) : Type 0 where
+pub record Filled (bytes : List ℕ) (o : ℕ) (before : List ℕ) (m : ℕ) (after : List ℕ) : Type 0 where
   pub kept : length after ≡ length before
   pub room : m ≤ length before
   pub there : (i : ℕ) → i < m → o + i < length bytes
