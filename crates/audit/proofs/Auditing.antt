@@ -14,7 +14,7 @@ use Rattle.answers.specs.Tests.{pick}
 use Rattle.answers.proofs.Tests.{must-passed}
 use Rattle.words.specs.Word.{wordAt}
 use Rattle.reach.specs.References.{top, ref}
-use Rattle.reach.specs.Walk.{Outcome, done, refused, audit, free, Accepted as Through}
+use Rattle.reach.specs.Walk.{done, refused, audit, free, Accepted as Through}
 use Rattle.reach.proofs.Claims.{free-all}
 use Rattle.reach.proofs.Runs.{run-end}
 use Rattle.volume.specs.declared.disk.Disk.{Disk}
@@ -33,7 +33,7 @@ use Rattle.audit.specs.declared.audit.Audited.{Audited}
 use Rattle.audit.specs.declared.audit.Audited.the-variants.{Accepted, Refused}
 use Rattle.audit.specs.Walks.{Met, Walks, Ready, total, goesOn}
 use Rattle.audit.specs.Bits.{bitsOf}
-use Rattle.audit.specs.Audits.{refuse, reportOf, walked, mapped, claimsOf, leaves, auditOf, Within, Tagged, Audits}
+use Rattle.audit.specs.Audits.{refuse, reportOf, auditOf, Within, Tagged, Audits}
 use Rattle.audit.proofs.Walking.{walks-none, walks-stopped, walks-then, walks-part, met-inside, met-stops, met-goes, ready-met}
 
 -- ---- the root and the bitmap block

@@ -1,7 +1,6 @@
 -- The walk through a directory: entries, chains and slots. Assumes nothing.
-use Prim.Native.Nat.{ℕ, zero, suc, _+_, _-_, _*_, _≤_, _<_}
-use mathlib.Core.Path.{_≡_, refl, sym, ap, _∙_}
-use mathlib.Core.Logic.{_≢_}
+use Prim.Native.Nat.{ℕ, zero, suc, _+_, _-_, _≤_, _<_}
+use mathlib.Core.Path.{_≡_, refl, sym, _∙_}
 use mathlib.Core.Bool.{Bool, true, false}
 use mathlib.Core.List.{List, [], _∷_, _++_, append-nil}
 use native.Mathlib.Omega.{arith}
@@ -12,12 +11,12 @@ use lib.ListN.{length}
 use Rattle.answers.specs.declared.Refusal.{Refusal}
 use Rattle.answers.specs.Refusals.{refusal}
 use Rattle.answers.specs.Tests.{pick, never, first}
-use Rattle.answers.proofs.Tests.{first-zero, never-passed, must-passed}
+use Rattle.answers.proofs.Tests.{first-zero, must-passed}
 use Rattle.reach.specs.Walk.{free}
 use Rattle.volume.specs.declared.disk.Disk.{Disk}
 use Rattle.volume.specs.Disks.{firstKey, mostBlocks, imageBytes}
 use Rattle.volume.specs.Blocks.{slots, Holds, wordOf, slotWord, directory}
-use Rattle.volume.specs.Names.{nameOf, same, nameLength, longest}
+use Rattle.volume.specs.Names.{nameOf, same}
 use Rattle.volume.specs.Law.{after, chainKey}
 use Rattle.volume.specs.Rules.{entryFault, fileFault}
 use Rattle.volume.proofs.Sizes.{range-is}

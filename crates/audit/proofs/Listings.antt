@@ -1,34 +1,27 @@
 -- The walk through a file: what each turn and each return of its loops says. Assumes nothing.
 use Prim.Native.Nat.{ℕ, zero, suc, _+_, _-_, _≤_, _<_}
-use mathlib.Core.Path.{_≡_, refl, sym, ap, _∙_}
-use mathlib.Core.Logic.{_≢_}
+use mathlib.Core.Path.{_≡_, refl, sym, _∙_}
 use mathlib.Core.List.{List, [], _∷_, _++_, append-nil}
 use native.Mathlib.Omega.{arith}
-use native.Mathlib.Nat.{le-refl}
-use native.Mathlib.Numerals.{add-one}
-use native.Mathlib.Decide.{decLt}
 use lib.ListN.{length}
 use Rattle.answers.specs.declared.Refusal.{Refusal}
 use Rattle.answers.specs.Refusals.{refusal}
-use Rattle.reach.specs.Walk.{free}
 use Rattle.volume.specs.declared.disk.Disk.{Disk}
-use Rattle.volume.specs.Disks.{Sized, mostBlocks, fileLimit}
+use Rattle.volume.specs.Disks.{fileLimit}
 use Rattle.volume.specs.Blocks.{slots, Holds, wordOf, keyWord}
-use Rattle.volume.specs.Files.{dataBlocks, sizeOf, blocksOf, keysHere}
+use Rattle.volume.specs.Files.{sizeOf, blocksOf}
 use Rattle.volume.specs.Law.{Lists}
 use Rattle.volume.specs.Rules.{fileFault}
-use Rattle.volume.proofs.Sizes.{blocks-most}
-use Rattle.volume.proofs.Passes.{file-passed, list-passed}
+use Rattle.volume.proofs.Passes.{list-passed}
 use Rattle.walk.specs.declared.Counts.{Counts}
-use Rattle.walk.specs.Nodes.{Node, list, datum, before, keyNodes, listing, listed, leadsTo, noted, withList, withBlock, faultOf}
+use Rattle.walk.specs.Nodes.{Node, list, datum, keyNodes, listed, leadsTo, noted, withList, withBlock, faultOf}
 use Rattle.audit.specs.declared.claims.Walked.{Walked}
 use Rattle.audit.specs.declared.claims.Walked.the-variants.{Done, Stopped}
 use Rattle.walk.specs.declared.Lister.{Lister}
-use Rattle.walk.specs.Listings.{Listing, keysIn, nextList, Listed}
+use Rattle.walk.specs.Listings.{Listing, nextList}
 use Rattle.walk.proofs.Links.{linked-next, is-listed}
 use Rattle.walk.proofs.Loops.{in-image, nodes, next, Turn, turn-few, turn-next, turn-again, turn-all, headerOf, header-next, Link, link-start, link-more, link-last, link-again}
-use Rattle.audit.specs.Walks.{Claims, Met, Walks, Ready, KeysWalked, ListWalked}
-use Rattle.audit.proofs.Meeting.{claims-holds}
+use Rattle.audit.specs.Walks.{Met, Walks, Ready, KeysWalked, ListWalked}
 use Rattle.audit.proofs.Walking.{not-both, walks-none, walks-stopped, walks-then, walks-part, met-free, met-inside, met-passed, met-stops, met-goes, ready-met, ready-walked}
 
 -- ---- what callees ask

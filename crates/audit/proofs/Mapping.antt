@@ -1,5 +1,5 @@
 -- The bitmap against the claims: the loop over the blocks. Assumes nothing.
-use Prim.Native.Nat.{ℕ, zero, suc, _+_, _-_, _≤_, _<_}
+use Prim.Native.Nat.{ℕ, suc, _+_, _-_, _≤_, _<_}
 use mathlib.Core.Path.{_≡_, refl, sym, _∙_}
 use mathlib.Core.Bool.{Bool, true, false, not}
 use mathlib.Core.List.{List}
@@ -9,10 +9,9 @@ use lib.Dec.{eqb}
 use lib.ListN.{length, getD}
 use Rattle.answers.specs.Tests.{pick}
 use Rattle.volume.specs.declared.disk.Disk.{Disk}
-use Rattle.volume.specs.Disks.{Sized, mostBlocks, firstKey, bitSpan, imageBytes, claimBytes}
+use Rattle.volume.specs.Disks.{Sized, mostBlocks, firstKey, imageBytes}
 use Rattle.volume.specs.Blocks.{Holds}
 use Rattle.volume.specs.Bitmap.{isFree}
-use Rattle.audit.specs.declared.bitmap.Mapped.{Mapped}
 use Rattle.audit.specs.declared.bitmap.Mapped.the-variants.{Right, Wrong}
 use Rattle.audit.specs.Bits.{bitWrong, bitsFrom, bitsOf}
 

@@ -1,7 +1,6 @@
 -- Claims, and blocks that are met: what each return of the code says of the walk. Assumes nothing.
-use Prim.Native.Nat.{ℕ, zero, suc, _-_, _≤_, _<_}
-use mathlib.Core.Path.{_≡_, refl, sym, ap, _∙_}
-use mathlib.Core.Logic.{_≢_}
+use Prim.Native.Nat.{ℕ, zero, suc, _-_, _<_}
+use mathlib.Core.Path.{_≡_, refl, sym, _∙_}
 use mathlib.Core.Bool.{Bool, true, false}
 use mathlib.Core.List.{List}
 use native.Mathlib.Omega.{arith}
@@ -12,12 +11,12 @@ use Rattle.reach.specs.Walk.{claimed, verdict}
 use Rattle.reach.proofs.Claims.{byte-any}
 use Rattle.reach.proofs.Runs.{claimed-taken}
 use Rattle.volume.specs.declared.disk.Disk.{Disk}
-use Rattle.volume.specs.Disks.{firstKey, inRange, imageBytes, claimBytes, rootOf}
+use Rattle.volume.specs.Disks.{inRange, imageBytes, claimBytes, rootOf}
 use Rattle.volume.specs.Blocks.{Holds, wordOf}
 use Rattle.volume.specs.Files.{sizeOf, dataBlocks}
 use Rattle.volume.specs.Rules.{rootFault, mapFault, bitmapFault, listFault, dataFault}
 use Rattle.volume.proofs.Sizes.{range-is}
-use Rattle.walk.specs.Nodes.{Node, root, bitmap, entry, list, datum, keyOf, keyFault, faultOf, graph}
+use Rattle.walk.specs.Nodes.{Node, root, bitmap, list, datum, keyOf, keyFault, faultOf}
 use Rattle.audit.specs.Walks.{Claims, Met}
 
 -- ---- two tests, one after the other

@@ -2,13 +2,13 @@
 use Prim.Native.Nat.{ℕ, zero, suc, _+_, _-_, _≤_, _<_}
 use mathlib.Core.Path.{_≡_, refl, sym, ap, _∙_}
 use mathlib.Core.Bool.{Bool, true, false}
-use mathlib.Core.List.{List, [], _∷_, _++_, append-assoc, append-nil}
+use mathlib.Core.List.{List, [], _∷_, _++_, append-assoc}
 use native.Mathlib.Omega.{arith}
 use native.Mathlib.Nat.{le-refl}
-use lib.ListN.{length, getD, set}
+use lib.ListN.{length}
 use Rattle.answers.specs.declared.Refusal.{Refusal}
 use Rattle.answers.specs.Refusals.{refusal}
-use Rattle.reach.specs.Walk.{Outcome, refused, verdict, run, free}
+use Rattle.reach.specs.Walk.{verdict, run, free}
 use Rattle.reach.proofs.Claims.{free-set}
 use Rattle.reach.proofs.Runs.{passed, run-stop, run-enter}
 use Rattle.volume.specs.declared.disk.Disk.{Disk}

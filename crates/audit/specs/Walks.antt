@@ -1,19 +1,17 @@
 -- What a part of the walk has done: a claim, a block that was met, a stretch of work. Each is said of the walk over the graph of crate `walk`.
-use Prim.Native.Nat.{ℕ, _+_, _-_, _≤_, _<_}
+use Prim.Native.Nat.{ℕ, _+_, _≤_, _<_}
 use mathlib.Core.Path.{_≡_}
-use mathlib.Core.Logic.{_≢_}
 use mathlib.Core.List.{List, [], _∷_, _++_}
 use lib.ListN.{length, getD, set}
 use Rattle.answers.specs.Tests.{first}
 use Rattle.reach.specs.Walk.{Outcome, refused, claimed, free, verdict, run}
 use Rattle.volume.specs.declared.disk.Disk.{Disk}
-use Rattle.volume.specs.Disks.{Sized, firstKey, imageBytes, claimBytes, fileLimit}
+use Rattle.volume.specs.Disks.{Sized, firstKey, imageBytes, claimBytes}
 use Rattle.volume.specs.Blocks.{slots, wordOf, slotWord, keyWord}
 use Rattle.volume.specs.Names.{nameLength, longest}
-use Rattle.volume.specs.Files.{sizeOf, blocksOf, keysHere}
 use Rattle.walk.specs.declared.Counts.{Counts}
 use Rattle.volume.specs.Law.{chainKey}
-use Rattle.walk.specs.Nodes.{Node, entry, list, keyOf, keyFault, keyNodes, listing, chained, graph}
+use Rattle.walk.specs.Nodes.{Node, entry, list, keyOf, keyFault, keyNodes, chained, graph}
 use Rattle.walk.specs.declared.Lister.{Lister}
 use Rattle.walk.specs.Listings.{keysIn, nextList, Listed}
 use Rattle.audit.specs.declared.claims.Walked.{Walked}

@@ -1,5 +1,5 @@
 -- A read, return by return; and that outcomes are determined. Assumes nothing.
-use Prim.Native.Nat.{ℕ, zero, suc, _+_, _-_, _<_, _≤_}
+use Prim.Native.Nat.{ℕ, suc, _+_, _-_, _<_, _≤_}
 use mathlib.Core.Path.{_≡_, refl, sym, ap, _∙_}
 use mathlib.Core.Logic.{⊎-elim}
 use mathlib.Core.Bool.{Bool, true, false}
@@ -16,13 +16,13 @@ use Rattle.answers.specs.declared.Refusal.{Refusal}
 use Rattle.answers.specs.declared.Tested.{Tested}
 use Rattle.answers.specs.declared.Tested.the-variants.{Passed, Failed}
 use Rattle.volume.specs.declared.disk.Disk.{Disk}
-use Rattle.volume.specs.Disks.{Sized, imageBytes}
+use Rattle.volume.specs.Disks.{imageBytes}
 use Rattle.volume.specs.Files.{sizeOf}
 use Rattle.volume.proofs.Sizes.{range-is}
 use Rattle.answers.proofs.Tests.{first-zero, must-passed}
 use Rattle.lookup.specs.declared.find.Found.{Found}
 use Rattle.lookup.specs.declared.find.Found.the-variants as found
-use Rattle.lookup.specs.Paths.{slash, onto, split, components}
+use Rattle.lookup.specs.Paths.{slash, onto, split}
 use Rattle.lookup.specs.Lookup.{findOf}
 use Rattle.lookup.specs.Search.{keyFault}
 use Rattle.lookup.proofs.Refusing.{IsFile, file-exactly}

@@ -1,12 +1,9 @@
 -- The tests of a file's blocks: what each turn and each return of the loops says. Assumes nothing.
 use Prim.Native.Nat.{ℕ, zero, suc, _+_, _-_, _≤_, _<_}
 use mathlib.Core.Path.{_≡_, refl, sym, ap, _∙_}
-use mathlib.Core.Logic.{_≢_}
 use mathlib.Core.Bool.{Bool, true, false}
 use mathlib.Core.List.{List, [], _∷_, _++_, append-nil}
 use native.Mathlib.Omega.{arith}
-use native.Mathlib.Numerals.{add-one}
-use native.Mathlib.Decide.{decLt}
 use lib.Dec.{eqb}
 use lib.ListN.{length}
 use borrow.Author.Tests.{eq-eqb, ne-eqb}
@@ -17,16 +14,15 @@ use Rattle.answers.specs.declared.Tested.{Tested}
 use Rattle.answers.specs.declared.Tested.the-variants.{Passed, Failed}
 use Rattle.answers.proofs.Tests.{first-zero, must-passed}
 use Rattle.volume.specs.declared.disk.Disk.{Disk}
-use Rattle.volume.specs.Disks.{Sized, mostBlocks, inRange, imageBytes, fileLimit}
+use Rattle.volume.specs.Disks.{Sized, inRange, imageBytes, fileLimit}
 use Rattle.volume.specs.Blocks.{slots, Holds, wordOf, keyWord}
 use Rattle.volume.specs.Files.{dataBlocks, sizeOf, blocksOf, keysHere, listBlocks}
-use Rattle.volume.specs.Law.{Lists}
 use Rattle.volume.specs.Rules.{fileFault, listFault, dataFault}
-use Rattle.volume.proofs.Sizes.{range-is, blocks-most}
-use Rattle.volume.proofs.Passes.{file-passed, list-passed}
+use Rattle.volume.proofs.Sizes.{range-is}
+use Rattle.volume.proofs.Passes.{list-passed}
 use Rattle.walk.specs.declared.Lister.{Lister}
-use Rattle.walk.specs.Nodes.{Node, list, datum, before, keyNodes, keyOf, keyFault, faultOf}
-use Rattle.walk.specs.Listings.{Listing, keysIn, Listed}
+use Rattle.walk.specs.Nodes.{Node, list, datum, keyNodes, keyOf, keyFault, faultOf}
+use Rattle.walk.specs.Listings.{Listing}
 use Rattle.walk.proofs.Links.{is-listed}
 use Rattle.walk.proofs.Loops.{nodes, next, Turn, turn-few, turn-next, turn-again, turn-all, headerOf, Link, link-start, link-none, link-more, link-last, link-again}
 use Rattle.reading.specs.FileTests.{nodeFault, firstFault, blocksFrom, fileNodes, blocksFault, KeysTested, ListTested}

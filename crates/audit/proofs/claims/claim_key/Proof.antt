@@ -1,3 +1,4 @@
+-- `audit::claims::claim_key` meets its contract. Assumes nothing.
 use Rattle.audit.proofs.Meeting.{claim-room, claim-taken, claim-new, claim-out}
 use borrow.Author.Needs.{needs}
 use Rattle.audit.proofs.claims.claim_key.Statement.{statement}

@@ -1,3 +1,4 @@
+-- `audit::claims::meet_bitmap` meets its contract. Assumes nothing.
 use Rattle.audit.proofs.Meeting.{claims-holds, met-claim, met-bitmap}
 use borrow.Author.Needs.{needs}
 use Rattle.audit.proofs.claims.meet_bitmap.Statement.{statement}

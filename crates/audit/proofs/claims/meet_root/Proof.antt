@@ -1,3 +1,4 @@
+-- `audit::claims::meet_root` meets its contract. Assumes nothing.
 use Rattle.audit.proofs.Meeting.{root-holds, met-root-claim, met-root}
 use borrow.Author.Needs.{needs}
 use Rattle.audit.proofs.claims.meet_root.Statement.{statement}

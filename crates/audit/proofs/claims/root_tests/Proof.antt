@@ -1,3 +1,4 @@
+-- `audit::claims::root_tests` meets its contract. Assumes nothing.
 use Rattle.audit.proofs.Meeting.{first-stops, first-goes}
 use borrow.Author.Needs.{needs}
 use Rattle.audit.proofs.claims.root_tests.Statement.{statement}
