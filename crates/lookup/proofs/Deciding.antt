@@ -142,5 +142,7 @@ module _ (d : Disk) (s path : List ℕ) where
 
 -- ---- outcomes are determined
 
-pub find-determined : (d : Disk) (s path : List ℕ) (r r′ : Found) → r ≡ findOf d s path → r′ ≡ findOf d s path → numbersOf r ≡ numbersOf r′
-find-determined d s path r r′ e f = ap numbersOf (e ∙ sym f)
+pub find-determined : (d : Disk) (s path : List ℕ) (r r′ : Found) → r ≡ findOf d s path → r′ ≡ findOf d s path → (numbersOf r ≡ numbersOf r′) × (r ≡ r′)
+find-determined d s path r r′ e f =
+    let q : r ≡ r′ = e ∙ sym f in
+    (ap numbersOf q, q)
