@@ -23,7 +23,7 @@ use Rattle.volume.proofs.Names.{name-short}
 use Rattle.volume.proofs.Passes.{entry-passed}
 use Rattle.lookup.specs.declared.chain.Step.{Step}
 use Rattle.lookup.specs.declared.chain.Step.the-variants.{At, Ended, Fault}
-use Rattle.lookup.specs.Search.{placeKey, keyFault, visit, searchFrom, searchOf}
+use Rattle.lookup.specs.Search.{placeKey, placeFault, visit, searchFrom, searchOf}
 use Rattle.lookup.proofs.Splits.{whole}
 
 -- ---- the tests of a key: t is whether it is in range, l the chain limit
@@ -33,17 +33,17 @@ pub range-holds : (d : Disk) (s : List ℕ) (k : ℕ) (t : Bool) → length s �
 range-holds d s k t w e q = let h : k < d .blocks = range-is d k (sym e ∙ q) .1 in omega arith
 
 module _ (d : Disk) (s : List ℕ) (dir i p k : ℕ) (t : Bool) (e : t ≡ inRange d k) where
-  pub key-out : t ≡ false → 5 ≡ keyFault d s dir i p k
-  unfolding keyFault
+  pub key-out : t ≡ false → 5 ≡ placeFault d s dir i p k
+  unfolding placeFault
   key-out q = stop 5 _ _ tt (must-false 5 t (inRange d k) e q)
 
   module _ (q : t ≡ true) (l : ℕ) (f : l ≡ chainLimit d) where
-    pub key-far : l ≤ p → 6 ≡ keyFault d s dir i p k
-    unfolding keyFault
+    pub key-far : l ≤ p → 6 ≡ placeFault d s dir i p k
+    unfolding placeFault
     key-far h = go 6 _ _ (must-true 5 t (inRange d k) e q) (stop 6 _ _ tt (must-false 6 false (ltb p (chainLimit d)) (sym (le-ltb p (chainLimit d) (omega (arith, f)))) refl))
 
-    pub key-own : p < l → (r : ℕ) → r ≡ entryFault d s k dir i → r ≡ keyFault d s dir i p k
-    unfolding keyFault first
+    pub key-own : p < l → (r : ℕ) → r ≡ entryFault d s k dir i → r ≡ placeFault d s dir i p k
+    unfolding placeFault first
     key-own h r g = go r _ _ (must-true 5 t (inRange d k) e q) (go r _ _ (must-true 6 true (ltb p (chainLimit d)) (sym (lt-ltb p (chainLimit d) (omega (arith, f)))) refl) (go′ r (entryFault d s k dir i) g))
       where
         go′ : (r x : ℕ) → r ≡ x → r ≡ first x 0
@@ -56,8 +56,8 @@ pub record Passing (d : Disk) (s : List ℕ) (t i p k : ℕ) : Type 0 where
   pub near : p < chainLimit d
   pub fine : entryFault d s k t i ≡ 0
 
-pub key-passed : (d : Disk) (s : List ℕ) (t i p k : ℕ) → keyFault d s t i p k ≡ 0 → Passing d s t i p k
-unfolding keyFault
+pub key-passed : (d : Disk) (s : List ℕ) (t i p k : ℕ) → placeFault d s t i p k ≡ 0 → Passing d s t i p k
+unfolding placeFault
 key-passed d s t i p k e =
     let a = first-zero _ _ e in
     let b = first-zero _ _ (a .1) in
@@ -94,7 +94,7 @@ module _ (d : Disk) (s : List ℕ) (t : ℕ) (name : List ℕ) (p k : ℕ) (g : 
   abbrev on : Step
   on = searchFrom d s t name (chainLimit d - p) (p + 1)
 
-  step : visit d s name p k (keyFault d s t (slotOf d name) p k) on ≡ searchOf d s t name
+  step : visit d s name p k (placeFault d s t (slotOf d name) p k) on ≡ searchOf d s t name
   unfolding searchFrom
   step =
       let few = g .few in
@@ -106,7 +106,7 @@ module _ (d : Disk) (s : List ℕ) (t : ℕ) (name : List ℕ) (p k : ℕ) (g : 
   ends z = rw (eq-eqb k 0 z) at step
 
   -- v is what the tests of k say
-  module _ (z : k ≡ 0 → ⊥) (i v : ℕ) (e : i ≡ slotOf d (slice 0 (0 + length name) name)) (f : v ≡ keyFault d s t i p k) where
+  module _ (z : k ≡ 0 → ⊥) (i v : ℕ) (e : i ≡ slotOf d (slice 0 (0 + length name) name)) (f : v ≡ placeFault d s t i p k) where
     tested : visit d s name p k v on ≡ searchOf d s t name
     tested = rw (f, e, whole name) step
 

@@ -16,12 +16,12 @@ use Rattle.volume.specs.Names.{folded, slotOf, same, nameOf}
 use Rattle.volume.proofs.Names.{same-map, map-same}
 use Rattle.lookup.specs.declared.chain.Step.{Step}
 use Rattle.lookup.specs.declared.chain.Step.the-variants.{At, Ended, Fault}
-use Rattle.lookup.specs.Search.{placeKey, keyFault, visit, searchFrom, searchOf}
+use Rattle.lookup.specs.Search.{placeKey, placeFault, visit, searchFrom, searchOf}
 use Rattle.lookup.proofs.Chains.{key-passed}
 
 -- what the tests of place p say
 abbrev pub faultAt : Disk → List ℕ → ℕ → List ℕ → ℕ → ℕ
-faultAt d s t name p = keyFault d s t (slotOf d name) p (placeKey d s t name p)
+faultAt d s t name p = placeFault d s t (slotOf d name) p (placeKey d s t name p)
 
 -- place p has an entry that passes its tests
 pub record Tests (d : Disk) (s : List ℕ) (t : ℕ) (name : List ℕ) (p : ℕ) : Type 0 where

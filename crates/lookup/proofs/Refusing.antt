@@ -20,7 +20,7 @@ use Rattle.volume.specs.Files.{sizeOf}
 use Rattle.volume.specs.Rules.{rootFault, entryFault}
 use Rattle.lookup.specs.declared.find.Found.the-variants.{Directory, File}
 use Rattle.lookup.specs.Paths.{components, pathFault}
-use Rattle.lookup.specs.Search.{keyFault}
+use Rattle.lookup.specs.Search.{placeFault}
 use Rattle.lookup.specs.Lookup.{refuse, findOf}
 use Rattle.lookup.proofs.Places.{faultAt, Others, First, Over, places-few}
 use Rattle.lookup.proofs.Trails.{Trail, holds, file, used, missing, fault}
@@ -86,8 +86,8 @@ pub data Says (d : Disk) (s : List ℕ) (t i p k v : ℕ) : Type 0 where
   itself : inRange d k ≡ true → p < chainLimit d → entryFault d s k t i ≡ v → Says d s t i p k v
 
 module _ (d : Disk) (s : List ℕ) (t i p k : ℕ) where
-  pub key-says : keyFault d s t i p k ≢ 0 → Says d s t i p k (keyFault d s t i p k)
-  unfolding keyFault first must
+  pub key-says : placeFault d s t i p k ≢ 0 → Says d s t i p k (placeFault d s t i p k)
+  unfolding placeFault first must
   key-says z = go (inRange d k) refl (ltb p (chainLimit d)) refl (entryFault d s k t i) refl z
     where
       go : (a : Bool) → inRange d k ≡ a → (b : Bool) → ltb p (chainLimit d) ≡ b → (e : ℕ) → entryFault d s k t i ≡ e → first (must a 5) (first (must b 6) (first e 0)) ≢ 0 → Says d s t i p k (first (must a 5) (first (must b 6) (first e 0)))
@@ -96,8 +96,8 @@ module _ (d : Disk) (s : List ℕ) (t i p k : ℕ) where
       go true q true u zero f h = absurd (h refl)
       go true q true u (suc e) f h = itself q (ltb-true _ _ u) f
 
-  pub says-key : (v : ℕ) → v ≢ 0 → Says d s t i p k v → keyFault d s t i p k ≡ v
-  unfolding keyFault first must
+  pub says-key : (v : ℕ) → v ≢ 0 → Says d s t i p k v → placeFault d s t i p k ≡ v
+  unfolding placeFault first must
   says-key v z (outside q e) = rw (q, e)
   says-key v z (beyond q l e) = rw (q, le-ltb p (chainLimit d) l, e)
   says-key v z (itself q l e) = rw (q, lt-ltb p (chainLimit d) l, e) (go v z)

@@ -8,11 +8,12 @@ use lib.ListN.{length}
 use Rattle.answers.specs.Tests.{pick, must, tests}
 use Rattle.answers.specs.Refusals.{refusal}
 use Rattle.volume.specs.declared.disk.Disk.{Disk}
-use Rattle.volume.specs.Disks.{Sized, imageBytes, inRange, chainLimit}
+use Rattle.volume.specs.Disks.{Sized, imageBytes, chainLimit}
 use Rattle.volume.specs.Blocks.{Holds, slotWord}
 use Rattle.volume.specs.Names.{slotOf, same, nameOf}
 use Rattle.volume.specs.Rules.{entryFault}
 use Rattle.volume.specs.Law.{chainKey}
+use Rattle.walk.specs.Nodes.{keyFault}
 use Rattle.lookup.specs.declared.chain.Step.{Step}
 use Rattle.lookup.specs.declared.chain.Step.the-variants.{At, Ended, Fault}
 use Rattle.lookup.specs.Paths.{longestPath}
@@ -22,8 +23,8 @@ abbrev pub placeKey : Disk → List ℕ → ℕ → List ℕ → ℕ → ℕ
 placeKey d s t name p = chainKey s (slotWord s t (slotOf d name)) p
 
 -- the tests of key k at place p of the chain of slot i: key range, chain limit, and the entry's own
-unfoldable pub keyFault : Disk → List ℕ → ℕ → ℕ → ℕ → ℕ → ℕ
-keyFault d s t i p k = tests (must (inRange d k) 5 ∷ must (ltb p (chainLimit d)) 6 ∷ entryFault d s k t i ∷ [])
+unfoldable pub placeFault : Disk → List ℕ → ℕ → ℕ → ℕ → ℕ → ℕ
+placeFault d s t i p k = tests (keyFault d k ∷ must (ltb p (chainLimit d)) 6 ∷ entryFault d s k t i ∷ [])
 
 -- at place p the key is k, and v is what its tests say; `on` is what the places behind it give
 abbrev pub visit : Disk → List ℕ → List ℕ → ℕ → ℕ → ℕ → Step → Step
@@ -35,7 +36,7 @@ unfoldable pub searchFrom : Disk → List ℕ → ℕ → List ℕ → ℕ → �
 searchFrom d s t name zero p = Ended
 searchFrom d s t name (suc n) p =
     visit d s name p (placeKey d s t name p)
-    (keyFault d s t (slotOf d name) p (placeKey d s t name p))
+    (placeFault d s t (slotOf d name) p (placeKey d s t name p))
     (searchFrom d s t name n (p + 1))
 
 -- the first place behind the chain limit refuses or ends the chain, so no more are asked

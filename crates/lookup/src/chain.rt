@@ -11,7 +11,7 @@ ghost use lib.ListN.{length};
 ghost use Rattle.volume.specs.Disks.{Sized, imageBytes};
 ghost use Rattle.answers.specs.Refusals.{refusal};
 ghost use Rattle.lookup.specs.declared.chain.Step.the-variants.{Fault};
-ghost use Rattle.lookup.specs.Search.{keyFault, Searches, searchOf};
+ghost use Rattle.lookup.specs.Search.{placeFault, Searches, searchOf};
 
 // What a search of one chain comes to.
 pub enum Step {
@@ -23,9 +23,9 @@ pub enum Step {
 }
 
 // The tests of the entry that is next on a chain: key range, chain limit, and its own.
-fn key_fault(disk: Disk, image: &[u8], directory: u32, slot: u32, compared: u32, key: u32) -> u32
+fn place_fault(disk: Disk, image: &[u8], directory: u32, slot: u32, compared: u32, key: u32) -> u32
     requires { ⌜ Sized disk × (length (now image) ≡ imageBytes disk) ⌝ }
-    ensures { λ r. ⌜ r ≡ keyFault disk (now (image .entry)) directory slot compared key ⌝ }
+    ensures { λ r. ⌜ r ≡ placeFault disk (now (image .entry)) directory slot compared key ⌝ }
 {
     if disk.in_range(key) {
         if compared < disk.chain_limit() {
@@ -54,7 +54,7 @@ pub fn search(disk: Disk, image: &[u8], directory: u32, name: &[u8]) -> Step
     let mut key = word_of(image, directory, Block::FIRST_SLOT + slot as usize);
     let mut compared: u32 = 0;
     while key != 0 {
-        let fault = key_fault(disk, image, directory, slot, compared, key);
+        let fault = place_fault(disk, image, directory, slot, compared, key);
         if fault != 0 {
             return refused_at(fault, key);
         }
