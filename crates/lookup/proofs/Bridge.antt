@@ -29,31 +29,13 @@ use Rattle.lookup.specs.declared.find.Found.the-variants.{Directory, Fil
 use Rattle.lookup.specs.Paths.{longestPath, components, isComponent}
 use Rattle.lookup.specs.Search.{placeKey}
 use Rattle.lookup.specs.Lookup.{refuse, findOf}
-use Rattle.lookup.proofs.Places.{Tests, Equal, First}
-use Rattle.lookup.proofs.Trails.{Trail, stay, down}
-use Rattle.lookup.proofs.Deciding.{long, Opened}
-use Rattle.lookup.proofs.Refusing.{number-18, refused-exactly, directory-exactly, file-exactly}
+use Rattle.lookup.specs.Trails.{Tests, Equal, First, Trail, stay, down, Names, none, into, Lies, pathOf}
+use Rattle.lookup.specs.Verdicts.{long, Opened, number-18}
+use Rattle.lookup.proofs.Refusing.{refused-exactly, directory-exactly, file-exactly}
 use Rattle.lookup.proofs.OnVolumes.{held-by, place-tests, first-reached}
-use Rattle.lookup.proofs.Joins.{joined, Components, name-component, components-joined, joined-form}
+use Rattle.lookup.proofs.Joins.{Components, name-component, components-joined, joined-form}
 
 -- ---- the path of an entry
-
--- the names that lead from directory t down to directory k
-pub data Names (s : List ℕ) : ℕ → List (List ℕ) → ℕ → Type 0 where
-  none : {t : ℕ} → Names s t [] t
-  into : {t b k : ℕ} {cs : List (List ℕ)} (i : ℕ) → Hangs s t i b → directory s b ≡ true → Names s b cs k → Names s t (nameOf s b ∷ cs) k
-
--- entry k hangs in the directory `parent`, to which the names `front` lead from directory r
-pub record Lies (s : List ℕ) (r k : ℕ) : Type 0 where
-  pub front : List (List ℕ)
-  pub parent : ℕ
-  pub above : Names s r front parent
-  pub slot : ℕ
-  pub hangs : Hangs s parent slot k
-
--- its path
-abbrev pub pathOf : (s : List ℕ) (r k : ℕ) → Lies s r k → List ℕ
-pathOf s r k h = joined (h .front ++ (nameOf s k ∷ []))
 
 names-end : (s : List ℕ) {t b : ℕ} {cs : List (List ℕ)} → Names s t cs b → (i k : ℕ) → Hangs s b i k → directory s k ≡ true → Names s t (cs ++ (nameOf s k ∷ [])) k
 names-end s none i k h e = into i h e none

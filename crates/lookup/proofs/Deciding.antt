@@ -1,5 +1,5 @@
 -- What every answer of a lookup says: which entry is found exactly then, and what each number and place means. Assumes nothing.
-use Prim.Native.Nat.{ℕ, suc, _+_, _≤_, _<_}
+use Prim.Native.Nat.{ℕ, suc, _+_}
 use mathlib.Core.Path.{_≡_, refl, sym, ap, _∙_}
 use mathlib.Core.Logic.{_≢_, inl, inr, _↔_}
 use mathlib.Core.Bool.{Bool, true, false}
@@ -21,25 +21,11 @@ use Rattle.volume.specs.Rules.{rootFault}
 use Rattle.lookup.specs.declared.find.Found.{Found}
 use Rattle.lookup.specs.declared.find.Found.the-variants.{Refused}
 use Rattle.lookup.specs.Paths.{longestPath, components, isComponent, componentsFault, pathFault}
-use Rattle.lookup.specs.Search.{placeKey}
 use Rattle.lookup.specs.Lookup.{numbersOf, refuse, lookupFrom, fromRoot, and, findOf}
-use Rattle.lookup.proofs.Trails.{Comes, Leads, leads, leads-only}
+use Rattle.lookup.specs.Verdicts.{BadComponent, BadForm, long, component, Opened}
+use Rattle.lookup.proofs.Trails.{Leads, leads, leads-only}
 
 -- ---- the form of a path
-
--- the first component that may not be one, number i of cs, counted from n
-pub record BadComponent (n i : ℕ) (cs : List (List ℕ)) : Type 0 where
-  pub front : List (List ℕ)
-  pub name : List ℕ
-  pub back : List (List ℕ)
-  pub parts : cs ≡ front ++ (name ∷ back)
-  pub good : (c : List ℕ) → c ∈ front → isComponent c ≡ true
-  pub bad : isComponent name ≡ false
-  pub number : i ≡ n + length front
-
-pub data BadForm (path : List ℕ) (i : ℕ) : Type 0 where
-  long : longestPath < length path → i ≡ 0 → BadForm path i
-  component : length path ≤ longestPath → BadComponent 0 i (components path) → BadForm path i
 
 -- a refusal's number and place
 pub number-is : {v w i j : ℕ} → refusal v i ≡ refusal w j → v ≡ w
@@ -88,20 +74,6 @@ form-exactly path v i = (there (ltb longestPath (length path)) refl, λ h. back 
     back x (component l w) = rw (le-ltb longestPath (length path) l, x) (ap (componentsFault 0) (w .parts) ∙ bad-found 0 i (w .front) (w .name) (w .back) (w .good) (w .bad) (w .number))
 
 -- ---- the whole call
-
--- the tests before the components: image length, path, boot tag, the root up to its name
-pub record Opened (d : Disk) (s path : List ℕ) : Type 0 where
-  pub long : length s ≡ imageBytes d
-  pub form : pathFault path ≡ Passed
-  pub tag : wordAt s 0 ≡ tagOf d
-  pub root : rootFault d s ≡ 0
-
--- component number i of the path, looked for in the directory that those before it lead to
-abbrev pub Reaches : Disk → List ℕ → List ℕ → Type 0
-Reaches d s path = Comes d s (rootOf d) (components path)
-
-abbrev pub keyIn : (d : Disk) (s path : List ℕ) → Reaches d s path → ℕ → ℕ
-keyIn d s path w p = placeKey d s (w .parent) (w .name) p
 
 -- what the answer r says
 pub data Why (d : Disk) (s path : List ℕ) (r : Found) : Type 0 where

@@ -14,14 +14,8 @@ use Rattle.answers.specs.declared.Tested.the-variants.{Passed}
 use Rattle.reach.specs.References.{_∈_}
 use Rattle.volume.specs.Blocks.{Holds}
 use Rattle.volume.specs.Names.{allowed, longest, nameLength, nameFrom, nameOf, nameGood}
-use Rattle.lookup.specs.Paths.{longestPath, slash, onto, split, components, isComponent, componentsFault, pathFault}
+use Rattle.lookup.specs.Paths.{longestPath, slash, onto, split, components, joined, isComponent, componentsFault, pathFault}
 use Rattle.lookup.proofs.Splits.{path-components}
-
--- names with '/' between them
-unfoldable pub joined : List (List ℕ) → List ℕ
-joined [] = []
-joined (c ∷ []) = c
-joined (c ∷ b ∷ cs) = c ++ (slash ∷ joined (b ∷ cs))
 
 -- the components of a path, joined again, are the path
 pub joined-split : (path : List ℕ) → joined (split path) ≡ path

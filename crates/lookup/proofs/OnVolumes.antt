@@ -10,7 +10,7 @@ use Rattle.answers.specs.Tests.{pick}
 use Rattle.reach.specs.References.{Reached, top}
 use Rattle.volume.specs.declared.disk.Disk.{Disk}
 use Rattle.volume.specs.Disks.{firstKey, rootOf, inRange, chainLimit}
-use Rattle.volume.specs.Blocks.{slots, slotWord}
+use Rattle.volume.specs.Blocks.{slots, slotWord, directory}
 use Rattle.volume.specs.Names.{slotOf}
 use Rattle.volume.specs.References.{Kind, to, references}
 use Rattle.volume.specs.Law.{chainKey, Hangs, Volume}
@@ -21,10 +21,10 @@ use Rattle.walk.proofs.Places.{Holder, from-chain, referred}
 use Rattle.lookup.specs.declared.find.Found.the-variants.{Directory, File}
 use Rattle.lookup.specs.Search.{placeKey}
 use Rattle.lookup.specs.Lookup.{refuse, findOf}
+use Rattle.lookup.specs.Trails.{Tests, First, Trail, stay, down}
+use Rattle.lookup.specs.Verdicts.{Stands, Refuses, number-1, number-18, number-3, of-root, number-5, number-6, of-entry, number-19, number-20}
 use Rattle.lookup.proofs.Chains.{slot-below, key-own}
-use Rattle.lookup.proofs.Places.{Tests, First}
-use Rattle.lookup.proofs.Trails.{Trail, stay, down}
-use Rattle.lookup.proofs.Refusing.{Refuses, number-1, number-18, number-3, of-root, number-5, number-6, of-entry, number-19, number-20, Stands, refused-exactly, directory-exactly, file-exactly}
+use Rattle.lookup.proofs.Refusing.{refused-exactly, directory-exactly, file-exactly}
 use Rattle.lookup.proofs.Rooms.{chain-few}
 
 -- a key between the boot blocks and the end is in range
@@ -100,10 +100,11 @@ module _ (d : Disk) (s : List ℕ) (v : Volume d s) where
       go (number-19 h a) = inr (inl a)
       go (number-20 h a) = inr (inr a)
 
-  -- What is found on a volume is the root or a reached entry.
-  pub found-directory : (path : List ℕ) (k n : ℕ) → findOf d s path ≡ Directory k n → Holder d s k
+  -- A directory found on a volume is the root or a reached one.
+  pub found-directory : (path : List ℕ) (k n : ℕ) → findOf d s path ≡ Directory k n → (k ≡ rootOf d) ⊎ (Reached (references d s) (to Kind.entry k) × (directory s k ≡ true))
   found-directory path k n e = trail-holder (directory-exactly d s path k n .0 e .1) (inl refl)
 
+  -- A file found on a volume is a reached entry.
   pub found-file : (path : List ℕ) (k z n : ℕ) → findOf d s path ≡ File k z n → Reached (references d s) (to Kind.entry k)
   found-file path k z n e =
       let h = file-exactly d s path k z n .0 e in

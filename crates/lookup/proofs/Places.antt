@@ -1,5 +1,5 @@
 -- What a search says, place by place: the first place that is not an entry with another name decides. Assumes nothing.
-use Prim.Native.Nat.{ℕ, zero, suc, _+_, _-_, _≤_, _<_}
+use Prim.Native.Nat.{ℕ, zero, suc, _+_, _≤_, _<_}
 use mathlib.Core.Path.{_≡_, refl, sym, _∙_}
 use mathlib.Core.Logic.{_≢_, _↔_}
 use mathlib.Core.Bool.{Bool, true, false}
@@ -12,29 +12,13 @@ use Rattle.answers.specs.Tests.{pick}
 use Rattle.answers.specs.Refusals.{refusal}
 use Rattle.volume.specs.declared.disk.Disk.{Disk}
 use Rattle.volume.specs.Disks.{chainLimit}
-use Rattle.volume.specs.Names.{folded, slotOf, same, nameOf}
+use Rattle.volume.specs.Names.{slotOf, same, nameOf}
 use Rattle.volume.proofs.Names.{same-map, map-same}
 use Rattle.lookup.specs.declared.chain.Step.{Step}
 use Rattle.lookup.specs.declared.chain.Step.the-variants.{At, Ended, Fault}
-use Rattle.lookup.specs.Search.{placeKey, placeFault, visit, searchFrom, searchOf}
+use Rattle.lookup.specs.Search.{placeKey, visit, searchFrom, searchOf}
+use Rattle.lookup.specs.Trails.{faultAt, Tests, Equal, Others, First, Over}
 use Rattle.lookup.proofs.Chains.{key-passed}
-
--- what the tests of place p say
-abbrev pub faultAt : Disk → List ℕ → ℕ → List ℕ → ℕ → ℕ
-faultAt d s t name p = placeFault d s t (slotOf d name) p (placeKey d s t name p)
-
--- place p has an entry that passes its tests
-pub record Tests (d : Disk) (s : List ℕ) (t : ℕ) (name : List ℕ) (p : ℕ) : Type 0 where
-  pub some : placeKey d s t name p ≢ 0
-  pub fine : faultAt d s t name p ≡ 0
-
--- its folded name is the component's
-abbrev pub Equal : Disk → List ℕ → ℕ → List ℕ → ℕ → Type 0
-Equal d s t name p = folded d (nameOf s (placeKey d s t name p)) ≡ folded d name
-
--- the places from f up to p have entries that pass, each with another name
-abbrev pub Others : Disk → List ℕ → ℕ → List ℕ → ℕ → ℕ → Type 0
-Others d s t name f p = (q : ℕ) → f ≤ q → q < p → Tests d s t name q × (Equal d s t name q → ⊥)
 
 -- place p ends the search: it has the name, or none, or an entry that fails its tests
 pub data Decides (d : Disk) (s : List ℕ) (t : ℕ) (name : List ℕ) (p : ℕ) (r : Step) : Type 0 where
@@ -129,17 +113,6 @@ module _ (d : Disk) (s : List ℕ) (t : ℕ) (name : List ℕ) where
   searched-only r h = only-from (chainLimit d + 1) 0 r (omega arith) (omega arith) h
 
 -- ---- each outcome exactly then
-
--- place p has the first equal folded name
-pub record First (d : Disk) (s : List ℕ) (t : ℕ) (name : List ℕ) (p : ℕ) : Type 0 where
-  pub tests : Tests d s t name p
-  pub named : Equal d s t name p
-  pub others : Others d s t name 0 p
-
--- the chain ends at place p, and every entry before that passes and has another name
-pub record Over (d : Disk) (s : List ℕ) (t : ℕ) (name : List ℕ) (p : ℕ) : Type 0 where
-  pub ended : placeKey d s t name p ≡ 0
-  pub others : Others d s t name 0 p
 
 -- the entry at place p is the first that fails its tests, and every entry before it has another name
 pub record Fails (d : Disk) (s : List ℕ) (t : ℕ) (name : List ℕ) (p : ℕ) : Type 0 where

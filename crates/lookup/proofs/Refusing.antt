@@ -3,28 +3,27 @@ use Prim.Native.Nat.{ℕ, zero, suc, _+_, _≤_, _<_}
 use mathlib.Core.Path.{_≡_, refl, sym, ap, _∙_}
 use mathlib.Core.Logic.{_≢_, _↔_}
 use mathlib.Core.Bool.{Bool, true, false}
-use mathlib.Core.List.{List, []}
+use mathlib.Core.List.{List}
 use native.Mathlib.Omega.{arith}
 use lib.Dec.{T, leb, leb→le, ltb}
 use lib.ListN.{length}
 use borrow.Author.Tests.{lt-ltb, le-ltb, ltb-true, ltb-false}
 use Rattle.answers.specs.Tests.{pick, must, never, first}
 use Rattle.answers.specs.Refusals.{refusal}
-use Rattle.answers.specs.declared.Tested.the-variants.{Passed, Failed}
-use Rattle.words.specs.Word.{wordAt}
+use Rattle.answers.specs.declared.Tested.the-variants.{Failed}
 use Rattle.volume.specs.declared.disk.Disk.{Disk}
-use Rattle.volume.specs.Disks.{imageBytes, tagOf, rootOf, inRange, chainLimit}
-use Rattle.volume.specs.Blocks.{directory}
+use Rattle.volume.specs.Disks.{rootOf, inRange, chainLimit}
 use Rattle.volume.specs.Names.{slotOf}
-use Rattle.volume.specs.Files.{sizeOf}
 use Rattle.volume.specs.Rules.{rootFault, entryFault}
 use Rattle.lookup.specs.declared.find.Found.the-variants.{Directory, File}
-use Rattle.lookup.specs.Paths.{components, pathFault}
+use Rattle.lookup.specs.Paths.{components}
 use Rattle.lookup.specs.Search.{placeFault}
 use Rattle.lookup.specs.Lookup.{refuse, findOf}
-use Rattle.lookup.proofs.Places.{faultAt, Others, First, Over, places-few}
-use Rattle.lookup.proofs.Trails.{Trail, holds, file, used, missing, fault}
-use Rattle.lookup.proofs.Deciding.{BadForm, form-exactly, number-is, place-is, Opened, Reaches, keyIn, Why, image, form, tag, root, leads-to, find-why, why-find}
+use Rattle.lookup.specs.Trails.{faultAt, Trail}
+use Rattle.lookup.specs.Verdicts.{Opened, keyIn, IsFile, Stands, Missing, Used, Refuses, number-1, number-18, number-3, of-root, number-5, number-6, of-entry, number-19, number-20}
+use Rattle.lookup.proofs.Places.{places-few}
+use Rattle.lookup.proofs.Trails.{holds, file, used, missing, fault}
+use Rattle.lookup.proofs.Deciding.{form-exactly, number-is, place-is, Why, image, form, tag, root, leads-to, find-why, why-find}
 
 -- ---- which numbers tests give
 
@@ -107,60 +106,6 @@ module _ (d : Disk) (s : List ℕ) (t i p k : ℕ) where
       go (suc v) h = refl
 
 -- ---- each number
-
--- key k stands at a place of a component's chain, and every entry before it passes its tests and has another name
-pub record Stands (d : Disk) (s path : List ℕ) (k : ℕ) : Type 0 where
-  pub opened : Opened d s path
-  pub comes : Reaches d s path
-  pub place : ℕ
-  pub others : Others d s (comes .parent) (comes .name) 0 place
-  pub key : keyIn d s path comes place ≡ k
-  pub some : k ≢ 0
-
--- no entry of component i's chain has its name, and the chain has ended
-pub record Missing (d : Disk) (s path : List ℕ) (i : ℕ) : Type 0 where
-  pub opened : Opened d s path
-  pub comes : Reaches d s path
-  pub place : ℕ
-  pub over : Over d s (comes .parent) (comes .name) place
-  pub component : i ≡ length (comes .front)
-
--- component i is a file, and not the last
-pub record Used (d : Disk) (s path : List ℕ) (i : ℕ) : Type 0 where
-  pub opened : Opened d s path
-  pub comes : Reaches d s path
-  pub place : ℕ
-  pub found : First d s (comes .parent) (comes .name) place
-  pub kind : directory s (keyIn d s path comes place) ≡ false
-  pub more : comes .back ≢ []
-  pub component : i ≡ length (comes .front)
-
--- the file k of z bytes is the last component, n entries compared
-pub record IsFile (d : Disk) (s path : List ℕ) (k z n : ℕ) : Type 0 where
-  pub opened : Opened d s path
-  pub comes : Reaches d s path
-  pub place : ℕ
-  pub found : First d s (comes .parent) (comes .name) place
-  pub kind : directory s (keyIn d s path comes place) ≡ false
-  pub last : comes .back ≡ []
-  pub key : keyIn d s path comes place ≡ k
-  pub size : sizeOf s (keyIn d s path comes place) ≡ z
-  pub count : comes .compared + (place + 1) ≡ n
-
--- the refusal v at k
-pub data Refuses (d : Disk) (s path : List ℕ) (v k : ℕ) : Type 0 where
-  number-1 : length s ≢ imageBytes d → v ≡ 1 → k ≡ 0 → Refuses d s path v k
-  number-18 : length s ≡ imageBytes d → BadForm path k → v ≡ 18 → Refuses d s path v k
-  number-3 : length s ≡ imageBytes d → pathFault path ≡ Passed → wordAt s 0 ≢ tagOf d → v ≡ 3 → k ≡ 0 → Refuses d s path v k
-  -- 4, 7, 8 and 11
-  of-root : length s ≡ imageBytes d → pathFault path ≡ Passed → wordAt s 0 ≡ tagOf d → v ≢ 0 → rootFault d s ≡ v → k ≡ rootOf d → Refuses d s path v k
-  number-5 : Stands d s path k → inRange d k ≡ false → v ≡ 5 → Refuses d s path v k
-  -- as many entries as a chain may have were compared
-  number-6 : (h : Stands d s path k) → inRange d k ≡ true → h .place ≡ chainLimit d → v ≡ 6 → Refuses d s path v k
-  -- 7 to 12
-  of-entry : (h : Stands d s path k) → inRange d k ≡ true → h .place < chainLimit d → v ≢ 0 → entryFault d s k (h .comes .parent) (slotOf d (h .comes .name)) ≡ v → Refuses d s path v k
-  number-19 : Missing d s path k → v ≡ 19 → Refuses d s path v k
-  number-20 : Used d s path k → v ≡ 20 → Refuses d s path v k
 
 module _ (d : Disk) (s path : List ℕ) where
   behind-none : (n : ℕ) → 0 + n ≡ n

@@ -13,23 +13,8 @@ use Rattle.lookup.specs.declared.find.Found.{Found}
 use Rattle.lookup.specs.declared.find.Found.the-variants.{Directory, File}
 use Rattle.lookup.specs.Search.{placeKey, searchOf}
 use Rattle.lookup.specs.Lookup.{refuse, fileAt, lookupFrom}
-use Rattle.lookup.proofs.Places.{faultAt, First, Over, Fails, Outcome, at, ended, faulty, outcome, search-first, search-over, search-fails}
-
--- The components cs lead from directory t down to directory k, n entries compared: each is the first equal folded name in the
--- directory that the one before it led to.
-pub data Trail (d : Disk) (s : List ℕ) : ℕ → List (List ℕ) → ℕ → ℕ → Type 0 where
-  stay : {t : ℕ} → Trail d s t [] t 0
-  down : {t k n : ℕ} {c : List ℕ} {cs : List (List ℕ)} (p : ℕ) → First d s t c p → directory s (placeKey d s t c p) ≡ true → Trail d s (placeKey d s t c p) cs k n → Trail d s t (c ∷ cs) k (p + 1 + n)
-
--- one of the components, looked for in the directory that those before it lead to
-pub record Comes (d : Disk) (s : List ℕ) (t : ℕ) (cs : List (List ℕ)) : Type 0 where
-  pub front : List (List ℕ)
-  pub name : List ℕ
-  pub back : List (List ℕ)
-  pub parts : cs ≡ front ++ (name ∷ back)
-  pub parent : ℕ
-  pub compared : ℕ
-  pub trail : Trail d s t front parent compared
+use Rattle.lookup.specs.Trails.{faultAt, First, Over, Trail, stay, down, Comes}
+use Rattle.lookup.proofs.Places.{Fails, Outcome, at, ended, faulty, outcome, search-first, search-over, search-fails}
 
 -- what decides a lookup of the components cs from directory t on, the first of which is number i, n entries compared before
 pub data Leads (d : Disk) (s : List ℕ) (t i n : ℕ) (cs : List (List ℕ)) (r : Found) : Type 0 where

@@ -3,7 +3,7 @@
 use Prim.Native.Nat.{ℕ, _+_, _≤_, _<_}
 use mathlib.Core.Path.{_≡_}
 use mathlib.Core.Bool.{Bool, false}
-use mathlib.Core.List.{List, [], _∷_}
+use mathlib.Core.List.{List, [], _∷_, _++_}
 use lib.Dec.{leb, ltb, eqb}
 use lib.ListN.{length, getD}
 use Rattle.answers.specs.Tests.{pick}
@@ -32,6 +32,12 @@ split (b ∷ bs) = pick (eqb b slash) ([] ∷ split bs) (onto b (split bs))
 abbrev pub components : List ℕ → List (List ℕ)
 components [] = []
 components (b ∷ bs) = split (b ∷ bs)
+
+-- names with '/' between them
+unfoldable pub joined : List (List ℕ) → List ℕ
+joined [] = []
+joined (c ∷ []) = c
+joined (c ∷ b ∷ cs) = c ++ (slash ∷ joined (b ∷ cs))
 
 -- bytes that may be a component: what may be a name
 unfoldable pub isComponent : List ℕ → Bool

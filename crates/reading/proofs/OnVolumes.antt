@@ -25,7 +25,8 @@ use Rattle.lookup.specs.Paths.{longestPath}
 use Rattle.lookup.specs.Lookup.{findOf}
 use Rattle.lookup.proofs.Refusing.{file-exactly}
 use Rattle.lookup.proofs.OnVolumes.{volume-answers, found-file}
-use Rattle.lookup.proofs.Bridge.{Lies, pathOf, reached-found}
+use Rattle.lookup.specs.Trails.{Lies, pathOf}
+use Rattle.lookup.proofs.Bridge.{reached-found}
 use Rattle.reading.specs.declared.read.Reading.{Reading}
 use Rattle.reading.specs.declared.read.Reading.the-variants.{Bytes}
 use Rattle.reading.specs.FileTests.{blocksFault}

@@ -24,8 +24,9 @@ use Rattle.lookup.specs.declared.find.Found.{Found}
 use Rattle.lookup.specs.declared.find.Found.the-variants as found
 use Rattle.lookup.specs.Paths.{slash, onto, split}
 use Rattle.lookup.specs.Lookup.{findOf}
-use Rattle.lookup.specs.Search.{keyFault}
-use Rattle.lookup.proofs.Refusing.{IsFile, file-exactly}
+use Rattle.lookup.specs.Search.{placeFault}
+use Rattle.lookup.specs.Verdicts.{IsFile}
+use Rattle.lookup.proofs.Refusing.{file-exactly}
 use Rattle.reading.specs.declared.read.Reading.{Reading}
 use Rattle.reading.specs.declared.read.Reading.the-variants.{Bytes, Refused}
 use Rattle.reading.specs.FileTests.{blocksFault}
@@ -117,7 +118,7 @@ module _ (d : Disk) (s path : List ℕ) (o : ℕ) (output : List ℕ) (f : Found
     file-long = is .opened .long
 
     pub file-inside : k < d .blocks
-    unfolding keyFault
+    unfolding placeFault
     file-inside = rw (is .key) at (range-is d _ (must-passed _ 4 (first-zero _ _ (is .found .tests .fine) .0)) .1)
 
     pub file-size : z ≡ sizeOf s k
