@@ -136,7 +136,7 @@ memory-stays file A m a b =
 
 -- ---- tables
 
-length-records : (file bases : List ℕ) → Sound file → length (recordsOf file bases) ≡ 4 * totalOf file
+pub length-records : (file bases : List ℕ) → Sound file → length (recordsOf file bases) ≡ 4 * totalOf file
 unfolding recordsOf
 length-records file bases s =
     length-take-le (4 * totalOf file) _ (omega (arith, s .few, length-listed file bases (replicate tableRoom 0) (actsOf file) ∙ length-replicate {A = ℕ} tableRoom 0))

@@ -1,0 +1,109 @@
+-- A table of structs as its numbers, four a record: a load or a move of the one is that of the other. Assumes nothing.
+use Prim.Native.Nat.{ℕ, zero, suc, _+_, _*_, _/_, _<_, _≤_}
+use mathlib.Core.Path.{_≡_, refl, sym, ap, ap₂, _∙_}
+use mathlib.Core.List.{List, [], _∷_, _++_}
+use native.Mathlib.Omega.{arith}
+use lib.ListN.{length, getD, take, drop}
+use lib.Seq.{drop-cons, drop-nil, take-all}
+use Rattle.program.specs.declared.check.Answer.{Answer}
+use Rattle.program.specs.declared.check.Answer.the-variants.{Accepted, Refused}
+use Rattle.program.specs.Header.{totalOf}
+use Rattle.program.specs.Sane.{Sound}
+use Rattle.loader.specs.Table.{recordsOf, tableOf}
+use Rattle.loader.specs.Calls.{loadAnswer, moveAnswer, effect}
+use Rattle.loader.specs.Calls as numbers
+use Rattle.loader.proofs.Answering.{load-facts, move-facts}
+use Rattle.loader.proofs.Moving.{length-records}
+use Rattle.hunks.specs.declared.Hunk.{Hunk}
+use Rattle.hunks.specs.Records.{recordAt, recordsFrom, filled, hunksOf, numbersIn}
+use Rattle.hunks.specs.Calls.{kept, Loads, Moves}
+
+-- ---- numbers of tables
+
+pub length-numbers : (t : List Hunk) → length (numbersIn t) ≡ 4 * length t
+unfolding numbersIn
+length-numbers [] = refl
+length-numbers (h ∷ t) = let e = length-numbers t in omega (arith, e)
+
+pub quarter : (t : List Hunk) → length (numbersIn t) / 4 ≡ length t
+quarter t = let e = length-numbers t in omega (arith, e)
+
+numbers-append : (s t : List Hunk) → numbersIn (s ++ t) ≡ numbersIn s ++ numbersIn t
+unfolding numbersIn
+numbers-append [] t = refl
+numbers-append (h ∷ s) t = ap (λ l. h .kind ∷ h .place ∷ h .size ∷ h .base ∷ l) (numbers-append s t)
+
+four-more : (n : ℕ) → 4 * suc n ≡ suc (suc (suc (suc (4 * n))))
+four-more n = omega arith
+
+numbers-drop : (n : ℕ) (t : List Hunk) → numbersIn (drop n t) ≡ drop (4 * n) (numbersIn t)
+unfolding numbersIn
+numbers-drop zero t = refl
+numbers-drop (suc n) [] = sym (drop-nil (4 * suc n))
+numbers-drop (suc n) (h ∷ t) = numbers-drop n t ∙ ap (λ k. drop k (numbersIn (h ∷ t))) (sym (four-more n))
+
+-- one number after the other
+drop-next : (l : List ℕ) (j k : ℕ) → k ≡ suc j → j < length l → drop j l ≡ getD l j 0 ∷ drop k l
+drop-next l j k e h = drop-cons l j 0 h ∙ ap (λ q. getD l j 0 ∷ drop q l) (sym e)
+
+numbers-from : (ns : List ℕ) (i n : ℕ) → 4 * (i + n) ≤ length ns → numbersIn (recordsFrom ns i n) ≡ take (4 * n) (drop (4 * i) ns)
+unfolding numbersIn recordsFrom
+numbers-from ns i zero h = refl
+numbers-from ns i (suc n) h =
+    let a = drop-next ns (4 * i) (4 * i + 1) (omega arith) (omega arith) in
+    let b = drop-next ns (4 * i + 1) (4 * i + 2) (omega arith) (omega arith) in
+    let c = drop-next ns (4 * i + 2) (4 * i + 3) (omega arith) (omega arith) in
+    let d = drop-next ns (4 * i + 3) (4 * (i + 1)) (omega arith) (omega arith) in
+    ap (λ l. getD ns (4 * i) 0 ∷ getD ns (4 * i + 1) 0 ∷ getD ns (4 * i + 2) 0 ∷ getD ns (4 * i + 3) 0 ∷ l) (numbers-from ns (i + 1) n (omega arith))
+    ∙ ap (λ l. take (suc (suc (suc (suc (4 * n))))) l)
+    (sym (a ∙ ap (λ l. getD ns (4 * i) 0 ∷ l) (b ∙ ap (λ l. getD ns (4 * i + 1) 0 ∷ l) (c ∙ ap (λ l. getD ns (4 * i + 2) 0 ∷ l) d))))
+    ∙ ap (λ k. take k (drop (4 * i) ns)) (sym (four-more n))
+
+-- Filled with a file's records, a table's numbers are the loader's.
+pub numbers-table : (file bases : List ℕ) (t : List Hunk) → Sound file → numbersIn (hunksOf file bases t) ≡ tableOf file bases (numbersIn t)
+numbers-table file bases t s =
+    let l = length-records file bases s in
+    numbers-append (recordsFrom (recordsOf file bases) 0 (totalOf file)) (drop (totalOf file) t)
+    ∙ ap₂ _++_ (numbers-from (recordsOf file bases) 0 (totalOf file) (omega (arith, l)) ∙ take-all (4 * totalOf file) (recordsOf file bases) (omega (arith, l)))
+    (numbers-drop (totalOf file) t)
+
+-- ---- equal numbers, equal tables
+
+same-hunk : (g h : Hunk) → g .kind ≡ h .kind → g .place ≡ h .place → g .size ≡ h .size → g .base ≡ h .base → g ≡ h
+same-hunk g h a b c d =
+    ap (λ k. record { kind = k; place = g .place; size = g .size; base = g .base }) a
+    ∙ ap (λ p. record { kind = h .kind; place = p; size = g .size; base = g .base }) b
+    ∙ ap (λ s. record { kind = h .kind; place = h .place; size = s; base = g .base }) c
+    ∙ ap (λ e. record { kind = h .kind; place = h .place; size = h .size; base = e }) d
+
+pub same-table : (s t : List Hunk) → numbersIn s ≡ numbersIn t → s ≡ t
+unfolding numbersIn
+same-table [] [] e = refl
+same-table [] (h ∷ t) e = absurd (omega (arith, ap length e))
+same-table (g ∷ s) [] e = absurd (omega (arith, ap length e))
+same-table (g ∷ s) (h ∷ t) e =
+    ap₂ _∷_ (same-hunk g h (ap (λ l. getD l 0 0) e) (ap (λ l. getD l 1 0) e) (ap (λ l. getD l 2 0) e) (ap (λ l. getD l 3 0) e)) (same-table s t (ap (drop 4) e))
+
+-- ---- a load and a move, over the numbers of their tables
+
+as-numbers : (a : Answer) (file bases : List ℕ) (t t1 : List Hunk) → t1 ≡ kept a (hunksOf file bases t) t → ((x n : ℕ) → a ≡ Accepted x n → Sound file) → numbersIn t1 ≡ effect a (tableOf file bases (numbersIn t)) (numbersIn t)
+as-numbers (Accepted x n) file bases t t1 e f = ap numbersIn e ∙ numbers-table file bases t (f x n refl)
+as-numbers (Refused r) file bases t t1 e f = ap numbersIn e
+
+pub load-numbers : (file bases m : List ℕ) (t : List Hunk) (w : List ℕ) (r : Answer) (m1 : List ℕ) (t1 : List Hunk) (w1 : List ℕ) → Loads file bases m t w r m1 t1 w1 → numbers.Loads file bases m (numbersIn t) w r m1 (numbersIn t1) w1
+load-numbers file bases m t w r m1 t1 w1 l =
+    record {
+      answer = l .answer ∙ ap (λ k. loadAnswer file bases (length m) k (length w)) (sym (quarter t));
+      loaded = l .loaded;
+      recorded = as-numbers r file bases t t1 (l .recorded) (λ x n e. load-facts file bases (length m) (length t) (length w) x n r (l .answer) e .file-good .sound);
+      clean = l .clean;
+    }
+
+pub move-numbers : (file old new m : List ℕ) (t : List Hunk) (w : List ℕ) (r : Answer) (m1 : List ℕ) (t1 : List Hunk) (w1 : List ℕ) → Moves file old new m t w r m1 t1 w1 → numbers.Moves file old new m (numbersIn t) w r m1 (numbersIn t1) w1
+move-numbers file old new m t w r m1 t1 w1 l =
+    record {
+      answer = l .answer ∙ ap (λ k. moveAnswer file old new (length m) k (length w)) (sym (quarter t));
+      shifted = l .shifted;
+      recorded = as-numbers r file new t t1 (l .recorded) (λ x n e. move-facts file old new (length m) (length t) (length w) x n r (l .answer) e .load .file-good .sound);
+      clean = l .clean;
+    }

@@ -1,0 +1,5 @@
+-- What the contracts of `hunks` cite. To read what a load and a move do: Records, Calls.
+-- hunk tables as structs
+pub mod Records
+-- what the calls answer, and what they leave
+pub mod Calls

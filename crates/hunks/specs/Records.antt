@@ -1,0 +1,35 @@
+-- The hunk table as structs: one record per hunk (kind, place, size, base); further records stay (the build paper, "The program file").
+use Prim.Native.Nat.{ℕ, zero, suc, _+_, _*_}
+use mathlib.Core.List.{List, [], _∷_, _++_}
+use lib.ListN.{getD, drop}
+use Rattle.program.specs.Header.{totalOf}
+use Rattle.loader.specs.Table.{recordsOf}
+use Rattle.hunks.specs.declared.Hunk.{Hunk}
+
+-- record i of numbers, four a record
+abbrev pub recordAt : List ℕ → ℕ → Hunk
+recordAt numbers i =
+    record {
+      kind = getD numbers (4 * i) 0;
+      place = getD numbers (4 * i + 1) 0;
+      size = getD numbers (4 * i + 2) 0;
+      base = getD numbers (4 * i + 3) 0;
+    }
+
+-- n records from record i on
+unfoldable pub recordsFrom : List ℕ → ℕ → ℕ → List Hunk
+recordsFrom numbers i zero = []
+recordsFrom numbers i (suc n) = recordAt numbers i ∷ recordsFrom numbers (i + 1) n
+
+-- a table gets n records, and its further records stay
+abbrev pub filled : List ℕ → ℕ → List Hunk → List Hunk
+filled numbers n t = recordsFrom numbers 0 n ++ drop n t
+
+-- those of a file's hunks at the bases
+abbrev pub hunksOf : List ℕ → List ℕ → List Hunk → List Hunk
+hunksOf file bases t = filled (recordsOf file bases) (totalOf file) t
+
+-- a table's numbers, four a record
+unfoldable pub numbersIn : List Hunk → List ℕ
+numbersIn [] = []
+numbersIn (h ∷ t) = h .kind ∷ h .place ∷ h .size ∷ h .base ∷ numbersIn t
