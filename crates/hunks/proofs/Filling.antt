@@ -1,10 +1,11 @@
 -- A table that is filled record by record. Assumes nothing.
-use Prim.Native.Nat.{ℕ, zero, suc, _+_, _*_, _<_, _≤_}
+use Prim.Native.Nat.{ℕ, zero, suc, _+_, _*_, _-_, _<_, _≤_}
 use mathlib.Core.Path.{_≡_, refl, sym, ap, ap₂, _∙_}
 use mathlib.Core.List.{List, [], _∷_, _++_, append-assoc}
+use native.Mathlib.Nat.{not-suc-le-zero, le-of-suc-le-suc}
 use native.Mathlib.Omega.{arith}
 use lib.ListN.{length, getD, take, drop, set, length-append, length-drop}
-use lib.Seq.{drop-cons, set-at, getD-take}
+use lib.Seq.{drop-cons, set-at, getD-append-add, getD-take, getD-drop}
 use Rattle.hunks.specs.declared.Hunk.{Hunk}
 use Rattle.hunks.specs.Records.{recordAt, recordsFrom, filled}
 
@@ -47,3 +48,26 @@ filled-more ns i t h r e l =
 pub length-filled : (ns : List ℕ) (n : ℕ) (t : List Hunk) → n ≤ length t → length (filled ns n t) ≡ length t
 length-filled ns n t h =
     length-append (recordsFrom ns 0 n) (drop n t) ∙ omega (arith, length-from ns 0 n, length-drop n t)
+
+-- ---- what stands at each place
+
+from-at : (ns : List ℕ) (k n i : ℕ) (s : List Hunk) (d : Hunk) → i < n → getD (recordsFrom ns k n ++ s) i d ≡ recordAt ns (k + i)
+unfolding recordsFrom
+from-at ns k zero i s d h = absurd (not-suc-le-zero h)
+from-at ns k (suc n) zero s d h = let e : k ≡ k + 0 = omega arith in ap (recordAt ns) e
+from-at ns k (suc n) (suc i) s d h =
+    let e : k + 1 + i ≡ k + suc i = omega arith in
+    from-at ns (k + 1) n i s d (le-of-suc-le-suc h) ∙ ap (recordAt ns) e
+
+pub record-of : (ns : List ℕ) (n : ℕ) (t : List Hunk) (i : ℕ) (d : Hunk) → i < n → getD (filled ns n t) i d ≡ recordAt ns i
+record-of ns n t i d h = let e : 0 + i ≡ i = omega arith in from-at ns 0 n i (drop n t) d h ∙ ap (recordAt ns) e
+
+pub record-stays : (ns : List ℕ) (n : ℕ) (t : List Hunk) (i : ℕ) (d : Hunk) → n ≤ i → getD (filled ns n t) i d ≡ getD t i d
+record-stays ns n t i d h =
+    let l = length-from ns 0 n in
+    let e : i ≡ length (recordsFrom ns 0 n) + (i - n) = omega (arith, l) in
+    let z : n + (i - n) ≡ i = omega arith in
+    ap (λ k. getD (filled ns n t) k d) e
+    ∙ getD-append-add (recordsFrom ns 0 n) (drop n t) (i - n) d
+    ∙ getD-drop n t (i - n) d
+    ∙ ap (λ k. getD t k d) z

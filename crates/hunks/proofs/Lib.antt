@@ -5,3 +5,9 @@ pub mod Filling
 pub mod Handing
 -- a table as its numbers
 pub mod Numbering
+-- the laws of moving
+pub mod Moving
+-- the contracts decide
+pub mod Deciding
+-- tables record by record, and in the page's terms
+pub mod PageTables

@@ -46,7 +46,7 @@ numbers-drop (suc n) (h ∷ t) = numbers-drop n t ∙ ap (λ k. drop k (numbersI
 drop-next : (l : List ℕ) (j k : ℕ) → k ≡ suc j → j < length l → drop j l ≡ getD l j 0 ∷ drop k l
 drop-next l j k e h = drop-cons l j 0 h ∙ ap (λ q. getD l j 0 ∷ drop q l) (sym e)
 
-numbers-from : (ns : List ℕ) (i n : ℕ) → 4 * (i + n) ≤ length ns → numbersIn (recordsFrom ns i n) ≡ take (4 * n) (drop (4 * i) ns)
+pub numbers-from : (ns : List ℕ) (i n : ℕ) → 4 * (i + n) ≤ length ns → numbersIn (recordsFrom ns i n) ≡ take (4 * n) (drop (4 * i) ns)
 unfolding numbersIn recordsFrom
 numbers-from ns i zero h = refl
 numbers-from ns i (suc n) h =

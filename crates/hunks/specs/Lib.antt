@@ -3,3 +3,5 @@
 pub mod Records
 -- what the calls answer, and what they leave
 pub mod Calls
+-- a table in the terms of the page
+pub mod Pages
