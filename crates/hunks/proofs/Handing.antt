@@ -1,9 +1,9 @@
 -- What the core hands back fits the table, and a table that is filled from it is as the calls promise. Assumes nothing.
 use Prim.Native.Nat.{ℕ, _*_, _≤_}
-use mathlib.Core.Path.{_≡_, refl, sym, ap, ap₂, _∙_}
+use mathlib.Core.Path.{_≡_, refl, sym, ap, _∙_}
 use mathlib.Core.List.{List, _++_}
 use native.Mathlib.Omega.{arith}
-use lib.ListN.{length, take, drop, replicate}
+use lib.ListN.{length, drop}
 use Rattle.answers.specs.declared.Refusal.{Refusal}
 use Rattle.program.specs.declared.check.Answer.{Answer}
 use Rattle.program.specs.declared.check.Answer.the-variants.{Accepted, Refused}
@@ -14,8 +14,8 @@ use Rattle.loader.specs.Calls.{handed, LoadsCore, MovesCore}
 use Rattle.loader.proofs.Answering.{load-facts, move-facts}
 use Rattle.hunks.specs.declared.Hunk.{Hunk}
 use Rattle.hunks.specs.declared.Counted.{Counted}
-use Rattle.hunks.specs.Records.{recordsFrom, filled, hunksOf}
-use Rattle.hunks.specs.Calls.{kept, countOf, countedOf, outcomeOf, Counts, HandsLoad, HandsMove, Loads, Moves}
+use Rattle.hunks.specs.Records.{filled, hunksOf}
+use Rattle.hunks.specs.Calls.{kept, countOf, countedOf, Counts, HandsLoad, HandsMove, Loads, Moves}
 use Rattle.hunks.proofs.Filling.{from-take, filled-zero}
 
 pub counts-accepted : (o : Outcome) (t n : ℕ) → o .answer ≡ Accepted t n → _≡_ {A = Counted} (record { answer = Accepted t n; count = t; numbers = o .records }) (countedOf o)

@@ -15,7 +15,7 @@ use Rattle.loader.specs.Calls as numbers
 use Rattle.loader.proofs.Answering.{load-facts, move-facts}
 use Rattle.loader.proofs.Moving.{length-records}
 use Rattle.hunks.specs.declared.Hunk.{Hunk}
-use Rattle.hunks.specs.Records.{recordAt, recordsFrom, filled, hunksOf, numbersIn}
+use Rattle.hunks.specs.Records.{recordsFrom, hunksOf, numbersIn}
 use Rattle.hunks.specs.Calls.{kept, Loads, Moves}
 
 -- ---- numbers of tables
