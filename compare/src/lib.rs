@@ -27,6 +27,7 @@
 //! - [`volumes`]: good volumes to audit, drawn at random, with what each of their blocks is;
 //! - [`bad_volumes`]: what can be wrong with them, each with the refusal due for it;
 //! - [`paths`]: paths to look for on good volumes, each with the answer due;
+//! - [`talk`]: an image that the instrument holds, and its patches;
 //! - [`driver`]: runs a Rattle program on a batch of requests and compares every line it answers.
 
 pub mod audit;
@@ -46,5 +47,6 @@ pub mod programs;
 pub mod reading;
 pub mod rng;
 pub mod sizes;
+pub mod talk;
 pub mod volumes;
 pub mod words;

@@ -6,20 +6,20 @@
 //! already, which is patched back after.
 
 use std::collections::BTreeMap;
+use std::ops::{Deref, DerefMut};
 
 use compare::audit::Report;
-use compare::bad_volumes::{apply, causes, harmless, scratch, short_claims, wrong_lengths, Cause, Harm, Patch};
+use compare::bad_volumes::{causes, harmless, scratch, short_claims, wrong_lengths, Cause, Harm, Patch};
 use compare::declared::agreed;
 use compare::disk::Disk;
-use compare::driver::{checksum, Batch};
+use compare::driver::checksum;
 use compare::program::Refusal;
 use compare::rng::Rng;
+use compare::talk;
 use compare::volumes::{
     any_style, chain, empty, files, full, mixed, nested, shuffle, Plan, Volume, TELLING_SIZES,
 };
 
-const IMAGE: u32 = 1;
-const PATCH: u32 = 2;
 const AUDIT: u32 = 3;
 
 const BAD: &str = "bad request";
@@ -46,44 +46,31 @@ struct Tally {
     refused: BTreeMap<u32, usize>,
 }
 
-/// Requests for one run of `probe`, with the answers due.
+/// A talk about one image, and what was asked in it.
+#[derive(Default)]
 struct Talk {
-    batch: Batch,
+    talk: talk::Talk,
     tally: Tally,
-    held: Vec<u8>,
-    about: String,
+}
+
+impl Deref for Talk {
+    type Target = talk::Talk;
+
+    fn deref(&self) -> &talk::Talk {
+        &self.talk
+    }
+}
+
+impl DerefMut for Talk {
+    fn deref_mut(&mut self) -> &mut talk::Talk {
+        &mut self.talk
+    }
 }
 
 impl Talk {
-    fn new() -> Talk {
-        Talk { batch: Batch::new(), tally: Tally::default(), held: Vec::new(), about: "at first".into() }
-    }
-
-    /// Says what the next requests are about.
-    fn about(&mut self, about: impl Into<String>) {
-        self.about = about.into();
-    }
-
-    fn ask(&mut self, number: u32, body: &[u8], answer: &str) {
-        self.batch.ask_about(&self.about, number, body, answer);
-    }
-
-    fn image(&mut self, image: &[u8]) {
-        self.held = image.to_vec();
-        self.ask(IMAGE, image, &format!("image {}", image.len()));
-    }
-
-    fn patch(&mut self, patches: &[Patch]) {
-        apply(patches, &mut self.held);
-        for (place, bytes) in patches {
-            let body = [&(*place as u32).to_be_bytes(), &bytes[..]].concat();
-            self.ask(PATCH, &body, "patched");
-        }
-    }
-
     fn audit(&mut self, claim_length: usize) -> Result<Report, Refusal> {
         let mut claim = vec![CLAIM; claim_length];
-        let answer = agreed(&DISK, &self.held, &mut claim);
+        let answer = agreed(&DISK, self.held(), &mut claim);
         self.tally.audits += 1;
         let line = match answer {
             Ok(Report { directories, files, list_blocks, data_blocks, used, free }) => {
@@ -103,14 +90,12 @@ impl Talk {
     /// An audit of which the answer is known beforehand, and not only by the two opinions.
     fn expect(&mut self, claim_length: usize, due: Result<Report, Refusal>) {
         let answer = self.audit(claim_length);
-        assert_eq!(answer, due, "{}", self.about);
+        assert_eq!(answer, due, "{}", self.subject());
     }
 
     /// Does this with the image patched; it is as before afterwards.
     fn patched(&mut self, patches: &[Patch], then: impl FnOnce(&mut Talk)) {
-        let old = |(place, bytes): &Patch| (*place, self.held[*place..][..bytes.len()].to_vec());
-        let undo: Vec<Patch> = patches.iter().map(old).collect();
-        self.patch(patches);
+        let undo = self.patch(patches);
         then(self);
         self.patch(&undo);
     }
@@ -122,7 +107,7 @@ impl Talk {
     }
 
     fn run(self) {
-        self.batch.compare("probe");
+        self.talk.run();
     }
 }
 
@@ -139,25 +124,25 @@ fn laid_out(rng: &mut Rng, plan: &Plan) -> Volume {
 #[test]
 fn the_empty_volume() {
     let volume = laid_out(&mut Rng::new(90), &empty());
-    let mut batch = Batch::new();
-    batch.ask(IMAGE, &volume.image, "image 901120");
+    let mut talk = talk::Talk::new();
+    talk.image(&volume.image);
     for length in [1_760, 1_761, 4_096] {
         let mut claim = vec![0; length];
         claim[880] = 1;
         claim[volume.bitmap as usize] = 1;
         let answer = format!("accepted 0 0 0 0 2 1756 claim {}", checksum(&claim));
-        batch.ask(AUDIT, &(length as u32).to_be_bytes(), &answer);
+        talk.ask(AUDIT, &(length as u32).to_be_bytes(), &answer);
     }
     for length in [0, 1, 1_759] {
         let answer = format!("refused 2 0 claim {}", checksum(&vec![0; length]));
-        batch.ask(AUDIT, &(length as u32).to_be_bytes(), &answer);
+        talk.ask(AUDIT, &(length as u32).to_be_bytes(), &answer);
     }
-    batch.compare("probe");
+    talk.run();
 }
 
 #[test]
 fn before_any_image_its_length_is_zero() {
-    let mut talk = Talk::new();
+    let mut talk = Talk::default();
     for claim in [0, ENOUGH - 1, ENOUGH, CLAIM_ROOM] {
         talk.expect(claim, refused(1));
     }
@@ -170,7 +155,7 @@ fn claim_areas_above_the_room_and_short_bodies_are_bad() {
     let mut rng = Rng::new(91);
     let plan = mixed(&mut rng, &DISK, 40);
     let volume = laid_out(&mut rng, &plan);
-    let mut talk = Talk::new();
+    let mut talk = Talk::default();
     talk.image(&volume.image);
     for claim in [CLAIM_ROOM as u32 + 1, 1 << 16, 1 << 31, (1 << 31) + 1_760, u32::MAX] {
         talk.about(format!("a claim area of {claim}"));
@@ -187,7 +172,7 @@ fn claim_areas_above_the_room_and_short_bodies_are_bad() {
 
 /// Lengths of image and claim area on both sides of what is right, with good and with bad tags and roots.
 fn lengths(rng: &mut Rng) -> Talk {
-    let mut talk = Talk::new();
+    let mut talk = Talk::default();
     let volume = laid_out(rng, &empty());
     let claims = short_claims(&DISK).into_iter().chain([ENOUGH, ENOUGH + 1, CLAIM_ROOM]);
     for length in wrong_lengths(&DISK).into_iter().chain([DISK.image_length()]) {
@@ -312,7 +297,7 @@ fn talks() -> Vec<Talk> {
     let mut rng = Rng::new(92);
     let mut talks = vec![lengths(&mut rng)];
     for _ in 0..2 {
-        let mut talk = Talk::new();
+        let mut talk = Talk::default();
         for (what, volume) in moderate(&mut rng) {
             as_is(&mut talk, &mut rng, &what, &volume, 32);
             harms(&mut talk, &mut rng, &what, &volume, 100);
@@ -320,7 +305,7 @@ fn talks() -> Vec<Talk> {
         }
         talks.push(talk);
     }
-    let mut talk = Talk::new();
+    let mut talk = Talk::default();
     for (what, volume) in large(&mut rng) {
         as_is(&mut talk, &mut rng, &what, &volume, 3);
         harms(&mut talk, &mut rng, &what, &volume, 10);

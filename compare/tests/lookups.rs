@@ -5,25 +5,25 @@
 //! are long; most are had by a patch to one that `probe` holds already, which is patched back after.
 
 use std::collections::{BTreeMap, BTreeSet};
+use std::ops::{Deref, DerefMut};
 
-use compare::bad_volumes::{apply, causes, harmless, scratch, wrong_lengths, Cause, Harm, Patch};
+use compare::bad_volumes::{causes, harmless, scratch, wrong_lengths, Cause, Harm, Patch};
 use compare::blocks::{DIRECTORY, FILE};
 use compare::disk::Disk;
-use compare::driver::{checksum, Batch};
+use compare::driver::checksum;
 use compare::lookup::{find, Found, LONGEST_PATH};
 use compare::names::{name, put_name, same, slot};
 use compare::paths::{bad_forms, telling_offsets, telling_rooms, unfolded, Paths, Question};
 use compare::program::Refusal;
 use compare::reading::read;
 use compare::rng::Rng;
+use compare::talk;
 use compare::volumes::{
     any_name, any_style, chain, empty, files, full, mixed, nested, shuffle, Entry, Kind, Part, Plan, Volume,
     TELLING_SIZES,
 };
 use compare::words::{mend, put, slot_word, word, BLOCK_BYTES, BLOCK_WORDS, TABLE};
 
-const IMAGE: u32 = 1;
-const PATCH: u32 = 2;
 const FIND: u32 = 4;
 const READ: u32 = 5;
 
@@ -62,53 +62,38 @@ struct Tally {
     told: usize,
 }
 
-/// Requests for one run of `probe`, with the answers due.
+/// A talk about one image, and what was asked in it.
+#[derive(Default)]
 struct Talk {
-    batch: Batch,
+    talk: talk::Talk,
     tally: Tally,
-    held: Vec<u8>,
-    about: String,
+}
+
+impl Deref for Talk {
+    type Target = talk::Talk;
+
+    fn deref(&self) -> &talk::Talk {
+        &self.talk
+    }
+}
+
+impl DerefMut for Talk {
+    fn deref_mut(&mut self) -> &mut talk::Talk {
+        &mut self.talk
+    }
 }
 
 impl Talk {
-    fn new() -> Talk {
-        Talk { batch: Batch::new(), tally: Tally::default(), held: Vec::new(), about: "at first".into() }
-    }
-
-    /// Says what the next requests are about.
-    fn about(&mut self, about: impl Into<String>) {
-        self.about = about.into();
-    }
-
-    fn ask(&mut self, number: u32, body: &[u8], answer: &str) {
-        self.batch.ask_about(&self.about, number, body, answer);
-    }
-
-    fn image(&mut self, image: &[u8]) {
-        self.held = image.to_vec();
-        self.ask(IMAGE, image, &format!("image {}", image.len()));
-    }
-
-    fn patch(&mut self, patches: &[Patch]) {
-        apply(patches, &mut self.held);
-        for (place, bytes) in patches {
-            let body = [&(*place as u32).to_be_bytes(), &bytes[..]].concat();
-            self.ask(PATCH, &body, "patched");
-        }
-    }
-
     /// Does this with the image patched; it is as before afterwards.
     fn patched(&mut self, patches: &[Patch], then: impl FnOnce(&mut Talk)) {
-        let old = |(place, bytes): &Patch| (*place, self.held[*place..][..bytes.len()].to_vec());
-        let undo: Vec<Patch> = patches.iter().map(old).collect();
-        self.patch(patches);
+        let undo = self.patch(patches);
         then(self);
         self.patch(&undo);
     }
 
     fn find(&mut self, path: &[u8]) -> Result<Found, Refusal> {
         let path = in_room(path);
-        let answer = find(&DISK, &self.held, path);
+        let answer = find(&DISK, self.held(), path);
         self.tally.finds += 1;
         let line = match answer {
             Ok(Found { kind, key, size, compared }) => {
@@ -128,7 +113,7 @@ impl Talk {
     /// A read, and the output after it.
     fn read(&mut self, path: &[u8], offset: u32, room: usize) -> (Result<usize, Refusal>, Vec<u8>) {
         let (path, mut output) = (in_room(path), vec![BEFORE; room]);
-        let answer = read(&DISK, &self.held, path, offset as usize, &mut output);
+        let answer = read(&DISK, self.held(), path, offset as usize, &mut output);
         self.tally.reads += 1;
         let line = match answer {
             Ok(count) => {
@@ -148,7 +133,7 @@ impl Talk {
     fn expect_find(&mut self, path: &[u8], due: Result<Found, Refusal>) {
         self.tally.known += 1;
         let answer = self.find(path);
-        assert_eq!(answer, due, "{}: {path:?}", self.about);
+        assert_eq!(answer, due, "{}: {path:?}", self.subject());
     }
 
     /// A read that is known to give bytes of a file with these contents.
@@ -157,18 +142,18 @@ impl Talk {
         let due = (Ok(rest.len()), [&rest[..], &vec![BEFORE; room - rest.len()]].concat());
         self.tally.known += 1;
         let got = self.read(path, offset, room);
-        assert!(got == due, "{}: {path:?} from {offset} into {room}", self.about);
+        assert!(got == due, "{}: {path:?} from {offset} into {room}", self.subject());
     }
 
     /// A read that is known to be refused so.
     fn expect_refused(&mut self, path: &[u8], offset: u32, room: usize, due: Refusal) {
         self.tally.known += 1;
         let got = self.read(path, offset, room);
-        assert!(got == (Err(due), vec![BEFORE; room]), "{}: {path:?}: {:?}, not {due:?}", self.about, got.0);
+        assert!(got == (Err(due), vec![BEFORE; room]), "{}: {path:?}: {:?}, not {due:?}", self.subject(), got.0);
     }
 
     fn run(self) {
-        self.batch.compare("probe");
+        self.talk.run();
     }
 }
 
@@ -201,8 +186,8 @@ fn spot(rng: &mut Rng, size: u32) -> (u32, usize) {
 #[test]
 fn the_empty_volume() {
     let volume = laid_out(&mut Rng::new(140), &empty());
-    let mut batch = Batch::new();
-    batch.ask(IMAGE, &volume.image, "image 901120");
+    let mut talk = talk::Talk::new();
+    talk.image(&volume.image);
     for (path, answer) in [
         (&b""[..], "directory 880 0 0"),
         (b"a", "refused 19 0"),
@@ -210,18 +195,18 @@ fn the_empty_volume() {
         (b"/", "refused 18 0"),
         (b"a/", "refused 18 1"),
     ] {
-        batch.ask(FIND, path, answer);
+        talk.ask(FIND, path, answer);
         let answer = if path.is_empty() { "refused 20 0" } else { answer };
         // two bytes AA: 171 * 257 + 171
-        batch.ask(READ, &read_body(0, 2, path), &format!("{answer} out 44118"));
-        batch.ask(READ, &read_body(7, 0, path), &format!("{answer} out 0"));
+        talk.ask(READ, &read_body(0, 2, path), &format!("{answer} out 44118"));
+        talk.ask(READ, &read_body(7, 0, path), &format!("{answer} out 0"));
     }
-    batch.compare("probe");
+    talk.run();
 }
 
 #[test]
 fn before_any_image_its_length_is_zero() {
-    let mut talk = Talk::new();
+    let mut talk = Talk::default();
     for path in [&b""[..], b"a", b":", b"a/"] {
         talk.expect_find(path, Err(Refusal::at(1, 0)));
         talk.expect_refused(path, 0, 10, Refusal::at(1, 0));
@@ -236,7 +221,7 @@ fn paths_and_outputs_above_their_room_and_short_bodies_are_bad() {
     let plan = files(&mut rng, &[1_000]);
     let volume = laid_out(&mut rng, &plan);
     let (paths, path) = (Paths::new(&volume), &volume.entries[0].name);
-    let mut talk = Talk::new();
+    let mut talk = Talk::default();
     talk.image(&volume.image);
     for length in [PATH_ROOM + 1, 10_000] {
         talk.about(format!("a path of {length}"));
@@ -362,7 +347,7 @@ fn every_entry_is_found_and_every_file_read() {
 
 /// Images of a wrong length, and good ones with other tags, asked for paths of all forms.
 fn lengths(rng: &mut Rng) -> Talk {
-    let mut talk = Talk::new();
+    let mut talk = Talk::default();
     let plan = mixed(rng, &DISK, 30);
     let volume = laid_out(rng, &plan);
     let path = Paths::new(&volume).path(0);
@@ -453,7 +438,7 @@ fn as_is(talk: &mut Talk, rng: &mut Rng, what: &str, volume: &Volume, times: usi
 
 /// The volume with long paths: those of 255 bytes, of 256, and of 128 components.
 fn long_paths(rng: &mut Rng) -> Talk {
-    let mut talk = Talk::new();
+    let mut talk = Talk::default();
     let volume = deep(rng);
     let paths = Paths::new(&volume);
     talk.about("long paths");
@@ -475,7 +460,7 @@ fn long_paths(rng: &mut Rng) -> Talk {
 
 /// Files of telling sizes, read from every telling offset into every telling room.
 fn ends(rng: &mut Rng) -> Talk {
-    let mut talk = Talk::new();
+    let mut talk = Talk::default();
     let sizes = [&TELLING_SIZES[..], &[976, 70_272, 70_273]].concat();
     let plan = files(rng, &sizes);
     let volume = laid_out(rng, &plan);
@@ -573,7 +558,7 @@ fn concerned(rng: &mut Rng, paths: &Paths, patches: &[Patch]) -> Vec<Vec<u8>> {
 fn look(talk: &mut Talk, rng: &mut Rng, all: &[Vec<u8>]) {
     for path in all {
         let (finds, reads) = rng.pick(&[(true, true), (true, true), (true, false), (false, true)]);
-        let found = find(&DISK, &talk.held, path);
+        let found = find(&DISK, talk.held(), path);
         if finds {
             let _ = talk.find(path);
         }
@@ -581,8 +566,8 @@ fn look(talk: &mut Talk, rng: &mut Rng, all: &[Vec<u8>]) {
             let (offset, room) = spot(rng, found.map_or(500, |found| found.size.min(LARGEST)));
             let (answer, output) = talk.read(path, offset, room);
             let untouched = output.iter().all(|&byte| byte == BEFORE);
-            assert!(answer.is_ok() || untouched, "{}: {path:?}", talk.about);
-            assert!(found.is_ok() || answer.err() == found.err(), "{}: {path:?}", talk.about);
+            assert!(answer.is_ok() || untouched, "{}: {path:?}", talk.subject());
+            assert!(found.is_ok() || answer.err() == found.err(), "{}: {path:?}", talk.subject());
         }
     }
 }
@@ -772,7 +757,7 @@ impl Target {
             } else if self.is_unread(part, index) {
                 talk.expect_find(&self.path, Ok(self.found));
                 let (answer, _) = talk.read(&self.path, offset, room);
-                assert!(answer.is_ok(), "{}", talk.about);
+                assert!(answer.is_ok(), "{}", talk.subject());
             } else {
                 look(talk, rng, &[self.path.clone()]);
             }
@@ -782,7 +767,7 @@ impl Target {
 
 /// Every word of every kind of block, changed with the sum mended and without.
 fn every_word(rng: &mut Rng) -> Talk {
-    let mut talk = Talk::new();
+    let mut talk = Talk::default();
     let target = target(rng, 73 * 488 + 5);
     talk.image(&target.volume.image);
     let headers =
@@ -801,7 +786,7 @@ fn every_word(rng: &mut Rng) -> Talk {
 
 /// Damage to each block of a file in turn, with reads of what lies before it, in it and behind it.
 fn in_the_middle(rng: &mut Rng) -> Talk {
-    let mut talk = Talk::new();
+    let mut talk = Talk::default();
     let Target { volume, path, file, found, .. } = target(rng, 150 * 488 - 7);
     talk.image(&volume.image);
     let mut harms = Vec::new();
@@ -858,7 +843,7 @@ fn steps(target: &Target) -> (Vec<Step>, usize) {
 
 /// Two faults on the way to a file and through its blocks: the one that is met first is due.
 fn two_faults(rng: &mut Rng) -> Talk {
-    let mut talk = Talk::new();
+    let mut talk = Talk::default();
     let target = target(rng, 150 * 488 - 7);
     let (steps, in_lookup) = steps(&target);
     let Target { volume, path, found, .. } = target;
@@ -928,7 +913,7 @@ fn loops(talk: &mut Talk, rng: &mut Rng, what: &str, volume: &Volume, times: usi
 
 /// The longest chain, and one more on it.
 fn longest_chain(rng: &mut Rng) -> Talk {
-    let mut talk = Talk::new();
+    let mut talk = Talk::default();
     let plan = chain(rng, DISK.chain_limit());
     let volume = laid_out(rng, &plan);
     let paths = Paths::new(&volume);
@@ -964,7 +949,7 @@ fn longest_chain(rng: &mut Rng) -> Talk {
 
 /// Two long chains, one in the other's last directory: the limit is for each, the count for both.
 fn two_long_chains(rng: &mut Rng) -> Talk {
-    let mut talk = Talk::new();
+    let mut talk = Talk::default();
     let mut plan = empty();
     (0..999).for_each(|_| _ = plan.add(rng, None, Some(7), Kind::File(0)));
     let within = Some(plan.add(rng, None, Some(7), Kind::Directory));
@@ -1002,7 +987,7 @@ fn talks() -> Vec<Talk> {
     let apart = [lengths, long_paths, ends, every_word, in_the_middle, two_faults, longest_chain, two_long_chains];
     let mut talks: Vec<Talk> = apart.iter().map(|make| make(&mut rng)).collect();
     for _ in 0..2 {
-        let mut talk = Talk::new();
+        let mut talk = Talk::default();
         for (what, volume) in moderate(&mut rng) {
             as_is(&mut talk, &mut rng, &what, &volume, 30);
             harms(&mut talk, &mut rng, &what, &volume, 100);
@@ -1011,7 +996,7 @@ fn talks() -> Vec<Talk> {
         }
         talks.push(talk);
     }
-    let mut talk = Talk::new();
+    let mut talk = Talk::default();
     for (what, volume) in large(&mut rng) {
         as_is(&mut talk, &mut rng, &what, &volume, 8);
         harms(&mut talk, &mut rng, &what, &volume, 8);
