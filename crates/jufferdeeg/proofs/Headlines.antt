@@ -1,0 +1,132 @@
+-- The headline theorems side by side, each cited from the crate that proves it. What the names in them mean is in the specs/ of that crate.
+-- Assumes nothing.
+use Prim.Native.Nat.{ℕ, _≤_}
+use mathlib.Core.Path.{_≡_}
+use mathlib.Core.Logic.{_↔_}
+use mathlib.Core.List.{List, _++_}
+use lib.ListN.{length, drop, replicate}
+use Rattle.answers.specs.declared.Refusal.{Refusal}
+use Rattle.words.proofs.Words.{Bytes}
+use Rattle.volume.specs.declared.disk.Disk.{Disk}
+use Rattle.volume.specs.Disks.{claimBytes}
+use Rattle.volume.specs.Law.{Volume}
+use Rattle.audit.specs.declared.audit.Report.{Report}
+use Rattle.audit.specs.declared.audit.Audited.{Audited}
+use Rattle.audit.specs.declared.audit.Audited.the-variants as audited
+use Rattle.audit.specs.Audits as audit
+use Rattle.audit.specs.Verdicts.{Claimed, Reported, testOf, Says}
+use Rattle.audit.proofs.Accepting as accepting
+use Rattle.audit.proofs.Refusing as refusing
+use Rattle.lookup.specs.declared.find.Found.{Found}
+use Rattle.lookup.specs.declared.find.Found.the-variants as found
+use Rattle.lookup.specs.Lookup as lookup
+use Rattle.lookup.specs.Verdicts as lookups
+use Rattle.lookup.proofs.Deciding as finding
+use Rattle.lookup.proofs.Refusing as missing
+use Rattle.reading.specs.declared.read.Reading.{Reading}
+use Rattle.reading.specs.declared.read.Reading.the-variants as reading
+use Rattle.reading.specs.Bytes.{fileBytes}
+use Rattle.reading.specs.Reads as read
+use Rattle.reading.specs.Outcomes as outcomes
+use Rattle.reading.proofs.Answers as answers
+use Rattle.reading.proofs.Refusing as unread
+use Rattle.reading.proofs.Readings as readings
+use Rattle.reading.proofs.OnVolumes as reads
+use Rattle.program.specs.declared.check.Answer.{Answer}
+use Rattle.program.specs.declared.check.Answer.the-variants.{Accepted, Refused}
+use Rattle.program.specs.Check.{numbersOf}
+use Rattle.loader.proofs.Moving.{Addresses}
+use Rattle.hunks.specs.declared.Hunk.{Hunk}
+use Rattle.hunks.specs.Calls.{Loads, Moves}
+use Rattle.hunks.proofs.Moving.{SameRoom, LoadsAt}
+use Rattle.hunks.proofs.Moving as moving
+use Rattle.hunks.proofs.Deciding as deciding
+
+-- ---- the audit of an image s with a claim area of n bytes
+
+module _ (d : Disk) (s : List ℕ) (n : ℕ) where
+  -- accepted exactly if a volume
+  pub accepted-exactly : claimBytes d ≤ n → ((r : Report) × (audit.auditOf d s n ≡ audited.Accepted r)) ↔ Volume d s
+  accepted-exactly h = accepting.accepted-exactly d s n h
+
+  -- the claim area says which blocks are reached, and the report counts what it says
+  pub accepted-claims : (r : Audited) (claim : List ℕ) → audit.Audits d s n r claim → (p : Report) → r ≡ audited.Accepted p → Claimed d s n claim
+  accepted-claims r claim a p e = accepting.accepted-claims d s n r claim a p e
+
+  pub accepted-report : (p : Report) → audit.auditOf d s n ≡ audited.Accepted p → Reported d s p
+  accepted-report p e = accepting.accepted-report d s n p e
+
+  -- each refusal exactly then, and it leaves nothing behind
+  pub audit-refused-exactly : (v k : ℕ) → (audit.auditOf d s n ≡ audit.refuse v k) ↔ Says d s n v k (testOf v)
+  audit-refused-exactly v k = refusing.refused-exactly d s n v k
+
+  pub audit-refused-claims : (r : Audited) (claim : List ℕ) → audit.Audits d s n r claim → (x : Refusal) → r ≡ audited.Refused x → claim ≡ replicate n 0
+  audit-refused-claims r claim a x e = accepting.refused-claims d s n r claim a x e
+
+  pub audit-determined : (r r′ : Audited) (c c′ : List ℕ) → audit.Audits d s n r c → audit.Audits d s n r′ c′ → (audit.numbersOf r ≡ audit.numbersOf r′) × (r ≡ r′) × (c ≡ c′)
+  audit-determined r r′ c c′ a a′ = accepting.audit-determined d s n r r′ c c′ a a′
+
+-- ---- a path, and a read of it at offset o
+
+module _ (d : Disk) (s path : List ℕ) where
+  -- 19 exactly if the chain has ended and no entry on it has the name; every other refusal exactly then
+  pub missing-exactly : (i : ℕ) → (lookup.findOf d s path ≡ lookup.refuse 19 i) ↔ lookups.Missing d s path i
+  missing-exactly i = missing.missing-exactly d s path i
+
+  pub find-refused-exactly : (v k : ℕ) → (lookup.findOf d s path ≡ lookup.refuse v k) ↔ lookups.Refuses d s path v k
+  find-refused-exactly v k = missing.refused-exactly d s path v k
+
+  pub find-determined : (r r′ : Found) → r ≡ lookup.findOf d s path → r′ ≡ lookup.findOf d s path → (lookup.numbersOf r ≡ lookup.numbersOf r′) × (r ≡ r′)
+  find-determined r r′ e e′ = finding.find-determined d s path r r′ e e′
+
+  -- bytes exactly if the path leads to a file whose blocks all pass; every refusal exactly then
+  pub read-exactly : (o n m : ℕ) → (read.readOf d s path o n ≡ reading.Bytes m) ↔ outcomes.Gives d s path o n m
+  read-exactly o n m = answers.read-exactly d s path o n m
+
+  pub read-refused-exactly : (o n v k : ℕ) → (read.readOf d s path o n ≡ read.refuse v k) ↔ outcomes.Refuses d s path v k
+  read-refused-exactly o n v k = unread.refused-exactly d s path o n v k
+
+  pub read-determined : (o : ℕ) (output : List ℕ) (r r′ : Reading) (a a′ : List ℕ) → read.Reads d s path o output r a → read.Reads d s path o output r′ a′ → (read.numbersOf r ≡ read.numbersOf r′) × (r ≡ r′) × (a ≡ a′)
+  read-determined o output r r′ a a′ h h′ = readings.read-determined d s path o output r r′ a a′ h h′
+
+  -- on a volume: a found file is read whole
+  pub volume-read-whole : Volume d s → (k z c : ℕ) → lookup.findOf d s path ≡ found.File k z c → (output : List ℕ) → z ≤ length output → (r : Reading) (output′ : List ℕ) → read.Reads d s path 0 output r output′
+      → (r ≡ reading.Bytes z) × (length (fileBytes d s k) ≡ z) × (output′ ≡ fileBytes d s k ++ drop z output)
+  volume-read-whole v k z c e output h r output′ w = reads.volume-read-whole d s v path k z c e output output′ r h w
+
+-- ---- loading and moving
+
+module _ (file m : List ℕ) (t : List Hunk) (w : List ℕ) where
+  -- a load at A moved to B is a load at B
+  pub load-move : (A B : List ℕ) (x n y k : ℕ) → Addresses A → (m1 : List ℕ) (t1 : List Hunk) (w1 mB : List ℕ) (tB : List Hunk) (wB : List ℕ) → Loads file A m t w (Accepted x n) m1 t1 w1 → Loads file B m t w (Accepted y k) mB tB wB
+      → (w′ m2 : List ℕ) (t2 : List Hunk) (w2 : List ℕ) (r : Answer) → length w′ ≡ length w → Moves file A B m1 t1 w′ r m2 t2 w2 → (r ≡ Accepted y k) × (m2 ≡ mB) × (t2 ≡ tB) × (w2 ≡ wB)
+  load-move A B x n y k = moving.load-move file m t w x n A B y k
+
+  -- A to B to C is A to C, on memory with any contents
+  pub move-move : (A B C : List ℕ) (x n y k z j : ℕ) → LoadsAt file A m t w x n → LoadsAt file B m t w y k → LoadsAt file C m t w z j → Addresses A → Addresses B
+      → (m′ : List ℕ) (t′ : List Hunk) (w′ w″ w‴ m1 : List ℕ) (t1 : List Hunk) (w1 m2 : List ℕ) (t2 : List Hunk) (w2 m3 : List ℕ) (t3 : List Hunk) (w3 : List ℕ) (r1 r2 r3 : Answer) → SameRoom m t w m′ t′ w′ → length w″ ≡ length w → length w‴ ≡ length w
+      → Moves file A B m′ t′ w′ r1 m1 t1 w1 → Moves file B C m1 t1 w″ r2 m2 t2 w2 → Moves file A C m′ t′ w‴ r3 m3 t3 w3 → (r1 ≡ Accepted x n) × (r2 ≡ r3) × (m2 ≡ m3) × (t2 ≡ t3) × (w2 ≡ w3)
+  move-move A B C x n y k z j a b c = moving.move-move file m t w x n A a B C y k z j b c
+
+  -- A to A changes no byte of memory
+  pub move-stays : (A : List ℕ) (x n : ℕ) → LoadsAt file A m t w x n → Addresses A → (m′ : List ℕ) (t′ : List Hunk) (w′ m1 : List ℕ) (t1 : List Hunk) (w1 : List ℕ) (r : Answer) → Bytes m′ → SameRoom m t w m′ t′ w′ → Moves file A A m′ t′ w′ r m1 t1 w1 → (r ≡ Accepted x n) × (m1 ≡ m′)
+  move-stays A x n a = moving.move-stays file m t w x n A a
+
+  -- A to B and back brings every byte back
+  pub move-back : (A B : List ℕ) (x n y k : ℕ) → LoadsAt file A m t w x n → LoadsAt file B m t w y k → Addresses A → Addresses B
+      → (m′ : List ℕ) (t′ : List Hunk) (w′ w″ m1 : List ℕ) (t1 : List Hunk) (w1 m2 : List ℕ) (t2 : List Hunk) (w2 : List ℕ) (r1 r2 : Answer) → Bytes m′ → SameRoom m t w m′ t′ w′ → length w″ ≡ length w
+      → Moves file A B m′ t′ w′ r1 m1 t1 w1 → Moves file B A m1 t1 w″ r2 m2 t2 w2 → (r1 ≡ Accepted x n) × (r2 ≡ Accepted x n) × (m2 ≡ m′)
+  move-back A B x n y k a b = moving.move-back file m t w x n A a B y k b
+
+  pub load-determined : (bases : List ℕ) (r r′ : Answer) (m1 : List ℕ) (t1 : List Hunk) (w1 m2 : List ℕ) (t2 : List Hunk) (w2 : List ℕ) → Loads file bases m t w r m1 t1 w1 → Loads file bases m t w r′ m2 t2 w2 → (numbersOf r ≡ numbersOf r′) × (m1 ≡ m2) × (t1 ≡ t2) × (w1 ≡ w2)
+  load-determined bases = deciding.load-determined file bases m t w
+
+  pub move-determined : (old new : List ℕ) (r r′ : Answer) (m1 : List ℕ) (t1 : List Hunk) (w1 m2 : List ℕ) (t2 : List Hunk) (w2 : List ℕ) → Moves file old new m t w r m1 t1 w1 → Moves file old new m t w r′ m2 t2 w2 → (numbersOf r ≡ numbersOf r′) × (m1 ≡ m2) × (t1 ≡ t2) × (w1 ≡ w2)
+  move-determined old new = deciding.move-determined file old new m t w
+
+  -- a refused load or move changes no byte of memory and no record
+  pub load-keeps : (bases : List ℕ) (f : Refusal) (m1 : List ℕ) (t1 : List Hunk) (w1 : List ℕ) → Loads file bases m t w (Refused f) m1 t1 w1 → (m1 ≡ m) × (t1 ≡ t) × (w1 ≡ replicate (length w) 0)
+  load-keeps bases = deciding.load-keeps file bases m t w
+
+  pub move-keeps : (old new : List ℕ) (f : Refusal) (m1 : List ℕ) (t1 : List Hunk) (w1 : List ℕ) → Moves file old new m t w (Refused f) m1 t1 w1 → (m1 ≡ m) × (t1 ≡ t) × (w1 ≡ replicate (length w) 0)
+  move-keeps old new = deciding.move-keeps file old new m t w
