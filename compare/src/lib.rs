@@ -28,6 +28,7 @@
 //! - [`bad_volumes`]: what can be wrong with them, each with the refusal due for it;
 //! - [`paths`]: paths to look for on good volumes, each with the answer due;
 //! - [`talk`]: an image that the instrument holds, and its patches;
+//! - [`samples`]: the files of the folder `samples`;
 //! - [`driver`]: runs a Rattle program on a batch of requests and compares every line it answers.
 
 pub mod audit;
@@ -46,6 +47,7 @@ pub mod program;
 pub mod programs;
 pub mod reading;
 pub mod rng;
+pub mod samples;
 pub mod sizes;
 pub mod talk;
 pub mod volumes;

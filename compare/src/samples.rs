@@ -1,0 +1,236 @@
+//! The files of the folder `samples`: a volume with a title program on it, the same volume damaged, and the program
+//! alone.
+//!
+//! They are made by the generators of this package, and the same in every run.
+
+use crate::disk::Disk;
+use crate::names::put_name;
+use crate::programs::{file, Block, Body, Hunk, Program};
+use crate::rng::Rng;
+use crate::volumes::{Filling, Kind, Met, Order, Part, Plan, Style, Volume};
+use crate::words::{mend, put, BLOCK_BYTES};
+
+/// The path of the title program on the volume.
+pub const TITLE: &str = "c/title";
+/// The path of the settings.
+pub const SETTINGS: &str = "s/settings";
+/// The path of a file that is long enough for a list block.
+pub const FONT: &str = "fonts/lower-third";
+
+const DISK: Disk = Disk::FLOPPY;
+
+/// The name of the volume.
+const NAME: &[u8] = b"Titles";
+
+/// The bytes of the settings.
+const SETTINGS_TEXT: &[u8] = b"; title board 3, evening shift
+station   Channel 4
+line1     ON AIR 20:00
+font      lower-third
+colour    white on blue
+fade      12 frames
+";
+
+/// The byte that a drive writes into a sector which it formats anew.
+const FORMATTED: u8 = 0xF6;
+
+/// The words of a text, filled up with zeros.
+fn text_words(text: &[u8]) -> Vec<u32> {
+    let four = |chunk: &[u8]| (0..4).fold(0, |high, at| high << 8 | u32::from(*chunk.get(at).unwrap_or(&0)));
+    text.chunks(4).map(four).collect()
+}
+
+/// Words out of halves, as instructions are made of them.
+fn words(halves: &[u16]) -> Vec<u32> {
+    halves.chunks(2).map(|two| u32::from(two[0]) << 16 | u32::from(two[1])).collect()
+}
+
+/// Copies the line of the data hunk into the frame of the bss hunk and says that it is there. Of the four addresses
+/// in it, those at 2 and at 34 lie over two words.
+fn code() -> Hunk {
+    let start = [
+        [0x41F9, 0, 0],           // 00 lea line,a0
+        [0x43F9, 0, 0],           // 06 lea frame,a1
+        [0x303C, 23, 0x12D8],     // 0C move.w #23,d0; 10 move.b (a0)+,(a1)+
+        [0x51C8, 0xFFFC, 0x4EB9], // 12 dbra d0,10; 16 jsr show
+        [0, 0x001E, 0x4E75],      // 1C rts
+    ];
+    let show = [0x33FC, 1, 0, 0x0018, 0x4E75]; // 1E move.w #1,shown; 26 rts
+    let symbols = vec![(text_words(b"start"), 0), (text_words(b"show"), 0x1E)];
+    Hunk {
+        size: 10,
+        name: Some(text_words(b"title")),
+        body: Body::Code(words(&[&start.concat()[..], &show].concat())),
+        blocks: vec![
+            Block::Relocations(vec![(1, vec![2]), (2, vec![8, 34]), (0, vec![24])]),
+            Block::Symbols(symbols),
+            Block::Debug(text_words(b"LINEtitle.asm")),
+        ],
+    }
+}
+
+/// The line; behind it the addresses of the line and of the routine that shows it, both over two words. Three words
+/// of the hunk are not stored.
+fn data() -> Hunk {
+    let line = text_words(b"ON AIR 20:00   CHANNEL 4");
+    let addresses = words(&[24, 0, 0, 0, 0x001E, 0]);
+    Hunk {
+        size: 12,
+        name: None,
+        body: Body::Data([line, addresses].concat()),
+        blocks: vec![Block::Relocations(vec![(1, vec![26]), (0, vec![30])])],
+    }
+}
+
+/// The frame, and whether it is shown.
+fn bss() -> Hunk {
+    Hunk { size: 7, name: None, body: Body::Bss(7), blocks: Vec::new() }
+}
+
+/// The title program: a code, a data and a bss hunk.
+pub fn title() -> Vec<u8> {
+    file(&Program { hunks: vec![code(), data(), bss()] }.written())
+}
+
+/// The letters of a font: lines of pixels that nobody has to look at.
+fn font() -> Vec<u8> {
+    Rng::new(4).bytes(36_000)
+}
+
+/// The files of the volume by their paths, and what is in them.
+fn contents() -> [(&'static str, Vec<u8>); 3] {
+    [(TITLE, title()), (SETTINGS, SETTINGS_TEXT.to_vec()), (FONT, font())]
+}
+
+/// The entries of the volume: a directory for each file, and an empty one.
+fn plan() -> Plan {
+    let mut plan = Plan::default();
+    for (path, bytes) in contents() {
+        let (directory, name) = path.split_once('/').expect("a file in a directory");
+        let within = plan.add_named(None, directory.as_bytes(), Kind::Directory);
+        plan.add_named(Some(within), name.as_bytes(), Kind::File(bytes.len() as u32));
+    }
+    plan.add_named(None, b"t", Kind::Directory);
+    plan
+}
+
+/// What is in the file of which this is a name.
+fn contents_of(name: &[u8]) -> Vec<u8> {
+    let all = contents();
+    let wanted = all.iter().find(|(path, _)| path.split('/').next_back().map(str::as_bytes) == Some(name));
+    wanted.expect("a file of the volume").1.clone()
+}
+
+/// The block of a volume as a disk has it: nothing where no rule asks, the bytes of the file in a data block, and
+/// the sum in its usual place.
+fn finished(volume: &Volume, Met { key, part }: Met) -> Vec<u8> {
+    let mut block = volume.block(key).to_vec();
+    volume.spare(part).iter().for_each(|&index| put(&mut block, index, 0));
+    match part {
+        Part::Root => {
+            block[432..464].fill(0);
+            put_name(&mut block, NAME);
+        }
+        Part::Data(number, index) => {
+            let contents = contents_of(&volume.entries[number].name);
+            let bytes = contents.chunks(DISK.data_bytes() as usize).nth(index).expect("a block's bytes");
+            block[Disk::DATA_START..][..bytes.len()].copy_from_slice(bytes);
+        }
+        _ => {}
+    }
+    mend(&mut block, if part == Part::Bitmap { 0 } else { 5 });
+    block
+}
+
+/// The volume, with an image as a disk has it.
+fn volume() -> Volume {
+    let style = Style { filling: Filling::Zeros, order: Order::Rising };
+    let mut volume = Volume::new(&mut Rng::new(880), &DISK, &plan(), style);
+    for met in volume.order.clone() {
+        let block = finished(&volume, met);
+        volume.image[met.key as usize * BLOCK_BYTES..][..BLOCK_BYTES].copy_from_slice(&block);
+    }
+    volume
+}
+
+/// The image of the volume.
+pub fn titles() -> Vec<u8> {
+    volume().image
+}
+
+/// The same, but the block with the title program was formatted anew.
+pub fn damaged() -> Vec<u8> {
+    let volume = volume();
+    let title = volume.entries.iter().find(|entry| entry.name == b"title").expect("the title program");
+    let mut image = volume.image.clone();
+    image[title.data[0] as usize * BLOCK_BYTES..][..BLOCK_BYTES].fill(FORMATTED);
+    image
+}
+
+/// All files by their names.
+pub fn all() -> [(&'static str, Vec<u8>); 3] {
+    [("titles.adf", titles()), ("damaged.adf", damaged()), ("title", title())]
+}
+
+#[cfg(test)]
+mod tests {
+    use super::*;
+    use crate::declared::agreed;
+    use crate::program::{read as read_program, Kind as HunkKind, Refusal};
+    use crate::reading::read;
+    use std::path::Path;
+
+    fn bytes_of(image: &[u8], path: &str) -> Result<Vec<u8>, Refusal> {
+        let mut output = vec![0; 50_000];
+        let count = read(&DISK, image, path.as_bytes(), 0, &mut output)?;
+        output.truncate(count);
+        Ok(output)
+    }
+
+    /// What is committed is what is made here.
+    #[test]
+    fn the_folder_holds_exactly_these_files() {
+        let folder = Path::new(env!("CARGO_MANIFEST_DIR")).parent().expect("a repository").join("samples");
+        for (name, bytes) in all() {
+            let found = std::fs::read(folder.join(name)).expect("a sample");
+            assert!(found == bytes, "{name} is not what make_samples makes");
+        }
+        let entries = std::fs::read_dir(&folder).expect("the folder of samples");
+        let mut names: Vec<_> = entries.map(|entry| entry.expect("a file").file_name()).collect();
+        names.sort();
+        assert_eq!(names, ["README.md", "damaged.adf", "title", "titles.adf"]);
+    }
+
+    #[test]
+    fn the_title_program_has_what_programs_have() {
+        let hunks = read_program(&title()).expect("a good program");
+        let kinds: Vec<_> = hunks.iter().map(|hunk| hunk.kind).collect();
+        assert_eq!(kinds, [HunkKind::Code, HunkKind::Data, HunkKind::Bss]);
+        let targets: Vec<_> = hunks.iter().flat_map(|hunk| &hunk.targets).collect();
+        let straddling = targets.iter().filter(|target| target.offset % 4 == 2).count();
+        assert_eq!((targets.len(), straddling), (6, 4));
+        assert!(hunks[1].stored.len() < hunks[1].size);
+    }
+
+    #[test]
+    fn the_volume_is_good_and_its_files_are_there() {
+        let image = titles();
+        let report = agreed(&DISK, &image, &mut [0; 1_760]).expect("a good volume");
+        assert_eq!([report.directories, report.files, report.list_blocks, report.data_blocks], [4, 3, 1, 76]);
+        for (path, bytes) in contents() {
+            assert!(bytes_of(&image, path) == Ok(bytes), "{path}");
+        }
+    }
+
+    /// One block is overwritten, and nothing but its file is lost.
+    #[test]
+    fn the_damage_is_found_and_bounded() {
+        let image = damaged();
+        let refusal = agreed(&DISK, &image, &mut [0; 1_760]).expect_err("a damaged volume");
+        assert_eq!(refusal.number, 7);
+        assert_eq!(bytes_of(&image, TITLE), Err(refusal));
+        for (path, bytes) in contents().into_iter().skip(1) {
+            assert!(bytes_of(&image, path) == Ok(bytes), "{path}");
+        }
+    }
+}
