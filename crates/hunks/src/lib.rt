@@ -10,6 +10,7 @@ ghost use Rattle.hunks.specs.Records.{recordAt, filled};
 ghost use Rattle.hunks.specs.Calls.{countedOf, HandsLoad, HandsMove, Loads, Moves};
 
 // The record of a hunk: its first byte in lent memory, its size in words.
+#[repr(C)]
 pub struct Hunk {
     pub kind: u32,
     pub place: u32,

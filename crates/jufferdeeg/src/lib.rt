@@ -1,1 +1,4 @@
-// The library as a whole. proofs/Headlines.antt has its theorems side by side; the calls that C and Rust use will stand here.
+// The library as C and Rust meet it: each call gives its answer as numbers, and asks nothing of what it is lent.
+// proofs/Headlines.antt has the theorems behind them side by side.
+pub mod programs;
+pub mod volumes;

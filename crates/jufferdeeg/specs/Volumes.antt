@@ -1,0 +1,44 @@
+-- The answers of audit, find and read as C meets them. Each struct holds the numbers of the answer, by the call's own `numbersOf`.
+use Prim.Native.Nat.{ℕ}
+use mathlib.Core.Path.{_≡_}
+use mathlib.Core.List.{List}
+use lib.ListN.{length}
+use Rattle.volume.specs.Disks.{floppy}
+use Rattle.audit.specs.declared.audit.Audited.{Audited}
+use Rattle.audit.specs.Audits as audit
+use Rattle.lookup.specs.declared.find.Found.{Found}
+use Rattle.lookup.specs.Lookup as lookup
+use Rattle.reading.specs.declared.read.Reading.{Reading}
+use Rattle.reading.specs.Reads as read
+use Rattle.jufferdeeg.specs.declared.volumes.AuditNumbers.{AuditNumbers}
+use Rattle.jufferdeeg.specs.declared.volumes.FindNumbers.{FindNumbers}
+use Rattle.jufferdeeg.specs.declared.volumes.ReadNumbers.{ReadNumbers}
+
+abbrev pub auditNumbers : Audited → AuditNumbers
+auditNumbers a =
+    let n = audit.numbersOf a in
+    record { number = n .number; place = n .place; directories = n .report .directories; files = n .report .files; «list_blocks» = n .report .lists; «data_blocks» = n .report .blocks; used = n .report .used; free = n .report .free }
+
+abbrev pub findNumbers : Found → FindNumbers
+findNumbers a =
+    let n = lookup.numbersOf a in
+    record { number = n .number; place = n .place; kind = n .kind; key = n .key; size = n .size; compared = n .compared }
+
+abbrev pub readNumbers : Reading → ReadNumbers
+readNumbers a =
+    let n = read.numbersOf a in record { number = n .number; place = n .place; count = n .count }
+
+-- ---- the promises: those of the call behind, and its answer's numbers
+
+-- of an audit of image s with a claim area of n bytes
+pub record AuditsFloppy (s : List ℕ) (n : ℕ) (r : AuditNumbers) (claim′ : List ℕ) : Type 0 where
+  pub answer : r ≡ auditNumbers (audit.auditOf floppy s n)
+  pub behind : audit.Audits floppy s n (audit.auditOf floppy s n) claim′
+
+abbrev pub findOnFloppy : List ℕ → List ℕ → FindNumbers
+findOnFloppy s path = findNumbers (lookup.findOf floppy s path)
+
+-- of a read at offset o
+pub record ReadsFloppy (s path : List ℕ) (o : ℕ) (output : List ℕ) (r : ReadNumbers) (output′ : List ℕ) : Type 0 where
+  pub answer : r ≡ readNumbers (read.readOf floppy s path o (length output))
+  pub behind : read.Reads floppy s path o output (read.readOf floppy s path o (length output)) output′
