@@ -2,7 +2,6 @@
 use Prim.Native.Nat.{ℕ}
 use mathlib.Core.Path.{_≡_, ap, subst, _∙_}
 use mathlib.Core.List.{List}
-use lib.ListN.{length}
 use Rattle.volume.specs.Disks.{floppy}
 use Rattle.audit.specs.declared.audit.Audited.{Audited}
 use Rattle.audit.specs.Audits.{Audits}

@@ -1,4 +1,5 @@
--- The library's theorems, and how the exported calls are proved.
+-- The library's theorems side by side: Headlines. The others are what the exported calls are proved by.
 pub mod Crossing
+pub mod Deciding
 pub mod Headlines
 pub mod Walking

@@ -1,22 +1,17 @@
+-- `jufferdeeg::volumes::audit_numbers` meets its contract. Assumes nothing.
 use borrow.Author.Needs.{needs}
 use Rattle.jufferdeeg.proofs.volumes.audit_numbers.Statement.{statement}
 use Rattle.jufferdeeg.proofs.volumes.audit_numbers.Tie as tie
-use Rattle.jufferdeeg.proofs.volumes.audit_numbers.Reads as reads
-use Rattle.jufferdeeg.proofs.volumes.audit_numbers.Lts as lts
 
--- src/volumes.rt:45:27
 enum-known-a : tie.Need-enum-known-a
 enum-known-a c = search needs
 
--- src/volumes.rt:55:26
 enum-known-a-2 : tie.Need-enum-known-a-2
 enum-known-a-2 c = search needs
 
--- src/volumes.rt:41:1
 returns : tie.Need-returns
 returns c = rw (c .before .a .given .1)
 
--- src/volumes.rt:41:1
 returns-2 : tie.Need-returns-2
 returns-2 c = rw (c .before .a2 .given .1)
 

@@ -1,30 +1,23 @@
+-- `jufferdeeg::volumes::find_numbers` meets its contract. Assumes nothing.
 use borrow.Author.Needs.{needs}
 use Rattle.jufferdeeg.proofs.volumes.find_numbers.Statement.{statement}
 use Rattle.jufferdeeg.proofs.volumes.find_numbers.Tie as tie
-use Rattle.jufferdeeg.proofs.volumes.find_numbers.Reads as reads
-use Rattle.jufferdeeg.proofs.volumes.find_numbers.Lts as lts
 
--- src/volumes.rt:72:26
 enum-known-a : tie.Need-enum-known-a
 enum-known-a c = search needs
 
--- src/volumes.rt:80:21
 enum-known-a-2 : tie.Need-enum-known-a-2
 enum-known-a-2 c = search needs
 
--- src/volumes.rt:88:24
 enum-known-a-3 : tie.Need-enum-known-a-3
 enum-known-a-3 c = search needs
 
--- src/volumes.rt:68:1
 returns : tie.Need-returns
 returns c = rw (c .before .a .given .1)
 
--- src/volumes.rt:68:1
 returns-2 : tie.Need-returns-2
 returns-2 c = rw (c .before .a2 .given .1)
 
--- src/volumes.rt:68:1
 returns-3 : tie.Need-returns-3
 returns-3 c = rw (c .before .a3 .given .1)
 
