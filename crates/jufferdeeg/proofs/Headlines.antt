@@ -1,11 +1,12 @@
 -- The headline theorems side by side, each cited from the crate that proves it. What the names in them mean is in the specs/ of that crate.
 -- Assumes nothing.
-use Prim.Native.Nat.{ℕ, _≤_}
+use Prim.Native.Nat.{ℕ, _/_, _%_, _≤_}
 use mathlib.Core.Path.{_≡_}
 use mathlib.Core.Logic.{_↔_}
 use mathlib.Core.List.{List, _++_}
 use lib.ListN.{length, drop, replicate}
 use Rattle.answers.specs.declared.Refusal.{Refusal}
+use Rattle.words.specs.Word.{wordsAt}
 use Rattle.words.proofs.Words.{Bytes}
 use Rattle.volume.specs.declared.disk.Disk.{Disk}
 use Rattle.volume.specs.Disks.{claimBytes}
@@ -34,7 +35,12 @@ use Rattle.reading.proofs.Readings as readings
 use Rattle.reading.proofs.OnVolumes as reads
 use Rattle.program.specs.declared.check.Answer.{Answer}
 use Rattle.program.specs.declared.check.Answer.the-variants.{Accepted, Refused}
-use Rattle.program.specs.Check.{numbersOf}
+use Rattle.program.specs.Page as paper
+use Rattle.program.specs.Check.{checkOf, numbersOf}
+use Rattle.program.proofs.Pages as pages
+use Rattle.program.proofs.Refusing as faults
+use Rattle.loader.specs.Calls.{loadAnswer, moveAnswer}
+use Rattle.loader.proofs.Refusing as unloaded
 use Rattle.loader.proofs.Moving.{Addresses}
 use Rattle.hunks.specs.declared.Hunk.{Hunk}
 use Rattle.hunks.specs.Calls.{Loads, Moves}
@@ -93,6 +99,23 @@ module _ (d : Disk) (s path : List ℕ) where
   pub volume-read-whole : Volume d s → (k z c : ℕ) → lookup.findOf d s path ≡ found.File k z c → (output : List ℕ) → z ≤ length output → (r : Reading) (output′ : List ℕ) → read.Reads d s path 0 output r output′
       → (r ≡ reading.Bytes z) × (length (fileBytes d s k) ≡ z) × (output′ ≡ fileBytes d s k ++ drop z output)
   volume-read-whole v k z c e output h r output′ w = reads.volume-read-whole d s v path k z c e output output′ r h w
+
+-- ---- a program file
+
+module _ (file : List ℕ) where
+  -- accepted exactly if it is hunks written out, within the limits
+  pub page : ((t : ℕ) × (n : ℕ) × (checkOf file ≡ Accepted t n)) ↔ ((hs : List paper.Hunk) × paper.Program hs × (length file % 4 ≡ 0) × (wordsAt file 0 (length file / 4) ≡ paper.written hs))
+  page = pages.page file
+
+  -- each refusal exactly then: of the file, of a load, of a move
+  pub check-refused-exactly : (f : Refusal) → (checkOf file ≡ Refused f) ↔ faults.Because file f
+  check-refused-exactly f = (faults.check-why file f, faults.why-check file f)
+
+  pub load-refused-exactly : (bases : List ℕ) (m r w : ℕ) (f : Refusal) → (loadAnswer file bases m r w ≡ Refused f) ↔ unloaded.LoadWhy file bases m r w f
+  load-refused-exactly bases m r w f = unloaded.load-why file m r w f bases
+
+  pub move-refused-exactly : (old new : List ℕ) (m r w : ℕ) (f : Refusal) → (moveAnswer file old new m r w ≡ Refused f) ↔ unloaded.MoveWhy file old new m r w f
+  move-refused-exactly old new m r w f = unloaded.move-why file m r w f old new
 
 -- ---- loading and moving
 
