@@ -6,7 +6,9 @@
  * What holds for every call:
  * - It may be given any bytes. It ends, stays inside what it is lent, and keeps no pointer to it.
  * - Memory is lent as a pointer and a length, which counts bytes, bases or records. A pointer is not NULL, not even with length 0, and is aligned for
- *   its type. Memory that a call writes must not overlap anything else that it is lent. These, and that the memory is there, is all that is asked.
+ *   its type. Memory that a call writes must not overlap anything else that it is lent. Nothing else is asked of it but that it is there.
+ * - It needs stack. An audit takes some 400 bytes for each directory within a directory, 0.7 MB for the deepest volume that there can be; the other
+ *   calls take little.
  * - An answer is a struct of numbers. number is 0 where the call did what it was asked, and place is 0 then. Where it refused, number says why, place says
  *   where, and every other number is 0. The table below gives both.
  * - The same input gives the same answer and leaves the same bytes.
@@ -38,7 +40,7 @@
  *   33       it names a library                                                                     4
  *   34       a hunk's size is too large                                                             the byte of that word
  *   35       a block of this type is not allowed here                                               the byte of that word
- *   36       more words are stored than the hunk has                                                the byte of that word
+ *   36       a hunk's count of words is above its size                                               the byte of that word
  *   37       a symbol's type is not allowed                                                         the byte of that word
  *   38       a hunk number or an offset is not allowed                                              the byte of that word
  *   39       there is more after the last hunk                                                      the byte of that word
@@ -78,12 +80,12 @@ struct jufferdeeg_audited {
     uint32_t free; /* used and free are 1,758 together */
 };
 
-/* Audits an image: number is 0 exactly if it is a sound volume, without links.
+/* Audits an image: with a claim area that is long enough, number is 0 exactly if it is a sound volume, without links.
  *
  * Lent: the image; a claim area of at least JUFFERDEEG_CLAIM_BYTES, whose contents do not matter.
  * Left: accepted, claim byte k is 1 where block k is in use, and every other byte of the claim area is 0; refused, the whole claim area is 0.
- * Numbers: 0 to 17. They come in the order of the walk: the length, the claim area, the boot tag, the root, the bitmap key, then slot by slot, chain by
- * chain, a directory's contents and a file's blocks before what follows on the chain; the bitmap last. */
+ * Numbers: 0 to 17. What is met first is refused first: the length, the claim area, the boot tag, the root and its bitmap block; then the entries, slot
+ * by slot along each chain, and what is in an entry before the next one on its chain; the bits at the end. */
 struct jufferdeeg_audited jufferdeeg_audit(const uint8_t *image, size_t image_bytes, uint8_t *claim, size_t claim_bytes);
 
 struct jufferdeeg_found {

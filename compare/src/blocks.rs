@@ -126,7 +126,7 @@ pub struct DataAt {
     pub number: u32,
     /// The size of the file.
     pub size: u32,
-    /// The key in w4 of the data block before it, or of the header if it is the first.
+    /// What the block before it says in w4; the first has its header before it.
     pub named: u32,
 }
 

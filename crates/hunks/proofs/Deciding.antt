@@ -14,7 +14,7 @@ use Rattle.hunks.specs.Records.{numbersIn}
 use Rattle.hunks.specs.Calls.{Loads, Moves}
 use Rattle.hunks.proofs.Numbering.{same-table, load-numbers, move-numbers}
 
--- ---- any two outcomes allowed for one input coincide
+-- ---- one input has one outcome
 
 pub load-determined : (file bases m : List ℕ) (t : List Hunk) (w : List ℕ) (r r′ : Answer) (m1 : List ℕ) (t1 : List Hunk) (w1 m2 : List ℕ) (t2 : List Hunk) (w2 : List ℕ) → Loads file bases m t w r m1 t1 w1 → Loads file bases m t w r′ m2 t2 w2 → (numbersOf r ≡ numbersOf r′) × (m1 ≡ m2) × (t1 ≡ t2) × (w1 ≡ w2)
 load-determined file bases m t w r r′ m1 t1 w1 m2 t2 w2 a b =

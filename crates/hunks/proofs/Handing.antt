@@ -15,7 +15,8 @@ use Rattle.loader.proofs.Answering.{load-facts, move-facts}
 use Rattle.hunks.specs.declared.Hunk.{Hunk}
 use Rattle.hunks.specs.declared.Counted.{Counted}
 use Rattle.hunks.specs.Records.{filled, hunksOf}
-use Rattle.hunks.specs.Calls.{kept, countOf, countedOf, Counts, HandsLoad, HandsMove, Loads, Moves}
+use Rattle.hunks.specs.Calls.{kept, Loads, Moves}
+use Rattle.hunks.specs.Parts.{countOf, countedOf, Counts, HandsLoad, HandsMove}
 use Rattle.hunks.proofs.Filling.{from-take, filled-zero}
 
 pub counts-accepted : (o : Outcome) (t n : ℕ) → o .answer ≡ Accepted t n → _≡_ {A = Counted} (record { answer = Accepted t n; count = t; numbers = o .records }) (countedOf o)

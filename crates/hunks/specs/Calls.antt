@@ -1,16 +1,14 @@
 -- What a load and a move over a table of structs answer, and what they leave. A refused call leaves memory and table; the work area comes back
 -- all 0.
-use Prim.Native.Nat.{ℕ, _≤_}
+use Prim.Native.Nat.{ℕ}
 use mathlib.Core.Path.{_≡_}
 use mathlib.Core.List.{List}
 use lib.ListN.{length, replicate}
 use Rattle.program.specs.declared.check.Answer.{Answer}
 use Rattle.program.specs.declared.check.Answer.the-variants.{Accepted, Refused}
-use Rattle.loader.specs.declared.calls.Outcome.{Outcome}
 use Rattle.loader.specs.Memory.{loadOf, moveOf}
-use Rattle.loader.specs.Calls.{loadAnswer, moveAnswer, effect, LoadsCore, MovesCore}
+use Rattle.loader.specs.Calls.{loadAnswer, moveAnswer, effect}
 use Rattle.hunks.specs.declared.Hunk.{Hunk}
-use Rattle.hunks.specs.declared.Counted.{Counted}
 use Rattle.hunks.specs.Records.{hunksOf}
 
 -- accepted: the new records; refused: the old
@@ -29,30 +27,3 @@ pub record Moves (file old new memory : List ℕ) (table : List Hunk) (work : Li
   pub shifted : memory′ ≡ effect r (moveOf file old new memory) memory
   pub recorded : table′ ≡ kept r (hunksOf file new table) table
   pub clean : work′ ≡ replicate (length work) 0
-
--- ---- the core, which hands its records back as numbers
-
--- how many records an answer has
-abbrev pub countOf : Answer → ℕ
-countOf (Accepted t n) = t
-countOf (Refused r) = 0
-
-abbrev pub countedOf : Outcome → Counted
-countedOf o = record { answer = o .answer; count = countOf (o .answer); numbers = o .records }
-
-abbrev pub outcomeOf : Counted → Outcome
-outcomeOf c = record { answer = c .answer; records = c .numbers }
-
--- the records have room in a table of so many
-pub record Counts (c : Counted) (records : ℕ) : Type 0 where
-  pub counts : c .count ≡ countOf (c .answer)
-  pub fits : c .count ≤ records
-  pub most : c .count ≤ 64
-
-pub record HandsLoad (file bases memory work : List ℕ) (records : ℕ) (c : Counted) (memory′ work′ : List ℕ) : Type 0 where
-  pub core : LoadsCore file bases memory work records (outcomeOf c) memory′ work′
-  pub room : Counts c records
-
-pub record HandsMove (file old new memory work : List ℕ) (records : ℕ) (c : Counted) (memory′ work′ : List ℕ) : Type 0 where
-  pub core : MovesCore file old new memory work records (outcomeOf c) memory′ work′
-  pub room : Counts c records

@@ -5,3 +5,5 @@ pub mod Records
 pub mod Calls
 -- a table in the terms of the page
 pub mod Pages
+-- what the parts of the code hand on
+pub mod Parts

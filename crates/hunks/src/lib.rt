@@ -7,7 +7,8 @@ ghost use mathlib.Core.Path.{_≡_};
 ghost use Prim.Native.Nat.{_<_, _≤_};
 ghost use lib.ListN.{length};
 ghost use Rattle.hunks.specs.Records.{recordAt, filled};
-ghost use Rattle.hunks.specs.Calls.{countedOf, HandsLoad, HandsMove, Loads, Moves};
+ghost use Rattle.hunks.specs.Calls.{Loads, Moves};
+ghost use Rattle.hunks.specs.Parts.{countedOf, HandsLoad, HandsMove};
 
 // The record of a hunk: its first byte in lent memory, its size in words.
 #[repr(C)]

@@ -24,9 +24,10 @@ use Rattle.lookup.specs.declared.chain.Step.{Step}
 use Rattle.lookup.specs.declared.chain.Step.the-variants.{At, Ended, Fault}
 use Rattle.lookup.specs.declared.find.Found.{Found}
 use Rattle.lookup.specs.declared.find.Found.the-variants.{Directory, File, Refused}
-use Rattle.lookup.specs.Paths.{split, onto, components, pathFault, FirstSlash}
-use Rattle.lookup.specs.Search.{Searches, searchOf}
-use Rattle.lookup.specs.Lookup.{refuse, fileAt, stepped, lookupFrom, fromRoot, and, findOf, Looks}
+use Rattle.lookup.specs.Paths.{split, onto, components, pathFault}
+use Rattle.lookup.specs.Parts.{FirstSlash, Searches, Looks}
+use Rattle.lookup.specs.Search.{searchOf}
+use Rattle.lookup.specs.Lookup.{refuse, fileAt, stepped, lookupFrom, fromRoot, and, findOf}
 use Rattle.lookup.proofs.Splits.{split-more, split-end, path-components}
 use Rattle.lookup.proofs.Chains.{key-passed, range-holds}
 use Rattle.lookup.proofs.Places.{first-equal-name, compared-most}

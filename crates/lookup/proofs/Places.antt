@@ -145,8 +145,7 @@ module _ (d : Disk) (s : List ℕ) (t : ℕ) (name : List ℕ) where
     pub search-fails : Fails d s t name p → searchOf d s t name ≡ Fault (refusal (faultAt d s t name p) (placeKey d s t name p))
     search-fails h = sym (searched-only d s t name _ (record { place = p; from = omega arith; others = h .others; decides = fails (h .some) (h .fault) refl }))
 
-  -- The first equal folded name ends the search: the entry found is at place p of the chain, it has the component's folded name, none
-  -- before it has, and p + 1 entries were compared.
+  -- what is found is the entry at the first place p of the chain that has the component's folded name, and p + 1 entries were compared
   pub first-equal-name : (k m : ℕ) → (searchOf d s t name ≡ At k m) ↔ ((p : ℕ) × First d s t name p × (k ≡ placeKey d s t name p) × (m ≡ p + 1))
   first-equal-name k m = (go outcome, λ h. search-first (h .0) (h .1) ∙ (rw (h .2, h .3)))
     where

@@ -16,7 +16,8 @@ use Rattle.answers.specs.declared.Tested.{Tested}
 use Rattle.answers.specs.declared.Tested.the-variants.{Passed, Failed}
 use Rattle.answers.proofs.Tests.{pick-passed}
 use Rattle.volume.specs.Names.{longest, allowed}
-use Rattle.lookup.specs.Paths.{longestPath, slash, split, components, isComponent, componentsFault, pathFault, FirstSlash}
+use Rattle.lookup.specs.Paths.{longestPath, slash, split, components, isComponent, componentsFault, pathFault}
+use Rattle.lookup.specs.Parts.{FirstSlash}
 
 -- a whole slice
 pub whole : (xs : List ℕ) → slice 0 (0 + length xs) xs ≡ xs

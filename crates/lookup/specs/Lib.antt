@@ -9,3 +9,5 @@ pub mod Lookup
 pub mod Trails
 -- what each answer means
 pub mod Verdicts
+-- what the parts of the code ask and promise
+pub mod Parts

@@ -1,7 +1,6 @@
 -- A lookup: image length, the path's form, boot tag, the root up to its name; then component by component, each in the directory that
 -- the one before it led to (the build paper, "Paths and reads" and "Numbers").
-use Prim.Native.Nat.{ℕ, _+_, _*_, _≤_}
-use mathlib.Core.Path.{_≡_}
+use Prim.Native.Nat.{ℕ, _+_}
 use mathlib.Core.List.{List, [], _∷_}
 use lib.Dec.{eqb}
 use lib.ListN.{length}
@@ -11,15 +10,15 @@ use Rattle.answers.specs.declared.Tested.{Tested}
 use Rattle.answers.specs.declared.Tested.the-variants.{Passed, Failed}
 use Rattle.words.specs.Word.{wordAt}
 use Rattle.volume.specs.declared.disk.Disk.{Disk}
-use Rattle.volume.specs.Disks.{Sized, imageBytes, tagOf, rootOf, mostBlocks}
-use Rattle.volume.specs.Blocks.{Holds, directory}
+use Rattle.volume.specs.Disks.{imageBytes, tagOf, rootOf}
+use Rattle.volume.specs.Blocks.{directory}
 use Rattle.volume.specs.Files.{sizeOf}
 use Rattle.volume.specs.Rules.{rootFault}
 use Rattle.lookup.specs.declared.chain.Step.{Step}
 use Rattle.lookup.specs.declared.chain.Step.the-variants.{At, Ended, Fault}
 use Rattle.lookup.specs.declared.find.Found.{Found}
 use Rattle.lookup.specs.declared.find.Found.the-variants.{Directory, File, Refused}
-use Rattle.lookup.specs.Paths.{longestPath, components, pathFault}
+use Rattle.lookup.specs.Paths.{components, pathFault}
 use Rattle.lookup.specs.Search.{searchOf}
 
 -- an answer's numbers: 0, 0 and the values where an entry is found; the refusal's, and 0 for the values
@@ -70,11 +69,3 @@ findOf d s path =
     pick (eqb (length s) (imageBytes d))
     (and (pathFault path) (pick (eqb (wordAt s 0) (tagOf d)) (fromRoot d s path) (refuse 3 0)))
     (refuse 1 0)
-
--- what the code of a lookup asks
-pub record Looks (d : Disk) (s path : List ℕ) (t i n : ℕ) : Type 0 where
-  pub sized : Sized d
-  pub long : length s ≡ imageBytes d
-  pub holds : Holds s t
-  pub short : i + length path ≤ longestPath
-  pub counted : n ≤ i * mostBlocks

@@ -1,11 +1,10 @@
 -- A path is components split by '/'. It has at most 255 bytes, and each component is 1 to 30 bytes without ':'; the empty path has no
 -- component (the build paper, "Paths and reads"; refusal 18).
-use Prim.Native.Nat.{ℕ, _+_, _≤_, _<_}
-use mathlib.Core.Path.{_≡_}
+use Prim.Native.Nat.{ℕ, _+_}
 use mathlib.Core.Bool.{Bool, false}
 use mathlib.Core.List.{List, [], _∷_, _++_}
 use lib.Dec.{leb, ltb, eqb}
-use lib.ListN.{length, getD}
+use lib.ListN.{length}
 use Rattle.answers.specs.Tests.{pick}
 use Rattle.answers.specs.Refusals.{refusal}
 use Rattle.answers.specs.declared.Tested.{Tested}
@@ -50,9 +49,3 @@ componentsFault i (c ∷ cs) = pick (isComponent c) (componentsFault (i + 1) cs)
 
 unfoldable pub pathFault : List ℕ → Tested
 pathFault path = pick (ltb longestPath (length path)) (Failed (refusal 18 0)) (componentsFault 0 (components path))
-
--- k is the place of the first '/', or the path's end
-pub record FirstSlash (path : List ℕ) (k : ℕ) : Type 0 where
-  pub within : k ≤ length path
-  pub before : (j : ℕ) → j < k → getD path j 0 ≡ slash → ⊥
-  pub there : k < length path → getD path k 0 ≡ slash

@@ -1,22 +1,19 @@
 -- One component in a directory: the chain of its name's slot is searched place by place. Each entry is tested, counted, and compared; the
 -- first with an equal folded name ends the search (the build paper, "Paths and reads").
-use Prim.Native.Nat.{ℕ, zero, suc, _+_, _≤_}
-use mathlib.Core.Path.{_≡_}
+use Prim.Native.Nat.{ℕ, zero, suc, _+_}
 use mathlib.Core.List.{List, [], _∷_}
 use lib.Dec.{ltb, eqb}
-use lib.ListN.{length}
 use Rattle.answers.specs.Tests.{pick, must, tests}
 use Rattle.answers.specs.Refusals.{refusal}
 use Rattle.volume.specs.declared.disk.Disk.{Disk}
-use Rattle.volume.specs.Disks.{Sized, imageBytes, chainLimit}
-use Rattle.volume.specs.Blocks.{Holds, slotWord}
+use Rattle.volume.specs.Disks.{chainLimit}
+use Rattle.volume.specs.Blocks.{slotWord}
 use Rattle.volume.specs.Names.{slotOf, same, nameOf}
 use Rattle.volume.specs.Rules.{entryFault}
 use Rattle.volume.specs.Law.{chainKey}
 use Rattle.walk.specs.Nodes.{keyFault}
 use Rattle.lookup.specs.declared.chain.Step.{Step}
 use Rattle.lookup.specs.declared.chain.Step.the-variants.{At, Ended, Fault}
-use Rattle.lookup.specs.Paths.{longestPath}
 
 -- the key at place p of the chain on which directory t would have a name; 0 behind its end
 abbrev pub placeKey : Disk → List ℕ → ℕ → List ℕ → ℕ → ℕ
@@ -42,10 +39,3 @@ searchFrom d s t name (suc n) p =
 -- the first place behind the chain limit refuses or ends the chain, so no more are asked
 unfoldable pub searchOf : Disk → List ℕ → ℕ → List ℕ → Step
 searchOf d s t name = searchFrom d s t name (chainLimit d + 1) 0
-
--- what the code of a search asks
-pub record Searches (d : Disk) (s : List ℕ) (t : ℕ) (name : List ℕ) : Type 0 where
-  pub sized : Sized d
-  pub long : length s ≡ imageBytes d
-  pub holds : Holds s t
-  pub short : length name ≤ longestPath

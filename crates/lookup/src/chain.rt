@@ -11,7 +11,8 @@ ghost use lib.ListN.{length};
 ghost use Rattle.volume.specs.Disks.{Sized, imageBytes};
 ghost use Rattle.answers.specs.Refusals.{refusal};
 ghost use Rattle.lookup.specs.declared.chain.Step.the-variants.{Fault};
-ghost use Rattle.lookup.specs.Search.{placeFault, Searches, searchOf};
+ghost use Rattle.lookup.specs.Search.{placeFault, searchOf};
+ghost use Rattle.lookup.specs.Parts.{Searches};
 
 // What a search of one chain comes to.
 pub enum Step {

@@ -15,7 +15,8 @@ ghost use Prim.Native.Nat.{_≤_};
 ghost use lib.ListN.{length};
 ghost use Rattle.volume.specs.Disks.{Sized, floppy, imageBytes};
 ghost use Rattle.lookup.specs.Paths.{longestPath, split};
-ghost use Rattle.lookup.specs.Lookup.{refuse, Looks, lookupFrom, fromRoot, findOf};
+ghost use Rattle.lookup.specs.Lookup.{refuse, lookupFrom, fromRoot, findOf};
+ghost use Rattle.lookup.specs.Parts.{Looks};
 
 // What a path leads to.
 pub enum Found {

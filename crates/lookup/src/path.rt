@@ -6,7 +6,8 @@ use volume::name::is_allowed;
 ghost use mathlib.Core.Path.{_≡_};
 ghost use Prim.Native.Nat.{_+_, _≤_};
 ghost use lib.ListN.{length};
-ghost use Rattle.lookup.specs.Paths.{FirstSlash, split, isComponent, longestPath, componentsFault, pathFault};
+ghost use Rattle.lookup.specs.Paths.{split, isComponent, longestPath, componentsFault, pathFault};
+ghost use Rattle.lookup.specs.Parts.{FirstSlash};
 
 pub const LONGEST_PATH: usize = 255;
 

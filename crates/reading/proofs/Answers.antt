@@ -16,7 +16,8 @@ use Rattle.lookup.specs.declared.find.Found.the-variants as found
 use Rattle.lookup.specs.Lookup.{findOf}
 use Rattle.reading.specs.declared.read.Reading.the-variants.{Bytes, Refused}
 use Rattle.reading.specs.FileTests.{blocksFault}
-use Rattle.reading.specs.Bytes.{fileBytes, part, filledBy, Copied}
+use Rattle.reading.specs.Bytes.{fileBytes, part, filledBy}
+use Rattle.reading.specs.Parts.{Copied}
 use Rattle.reading.specs.Reads.{tested, reads, readOf, Reads}
 use Rattle.reading.specs.Outcomes.{Gives, Filled}
 use Rattle.reading.proofs.Contents.{file-long, part-long}

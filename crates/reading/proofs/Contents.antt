@@ -13,7 +13,8 @@ use Rattle.volume.specs.Blocks.{blockBytes, slots, wordOf}
 use Rattle.volume.specs.Disks.{dataBytes, imageBytes, dataStart}
 use Rattle.volume.specs.Files.{keysDown, listsFrom, keysFrom, listBlocks, sizeOf, blocksOf, listsOf, keysOf}
 use Rattle.volume.proofs.Sizes.{data-is, blocks-hold}
-use Rattle.reading.specs.Bytes.{dataOf, dataIn, fileBytes, part, Followed}
+use Rattle.reading.specs.Bytes.{dataOf, dataIn, fileBytes, part}
+use Rattle.reading.specs.Parts.{Followed}
 use Rattle.reading.proofs.Parts.{drop-take, take-least, getD-in, leads-first, leads-next}
 
 -- ---- the numbers of a data block

@@ -30,9 +30,10 @@ use Rattle.lookup.proofs.Refusing.{file-exactly}
 use Rattle.reading.specs.declared.read.Reading.{Reading}
 use Rattle.reading.specs.declared.read.Reading.the-variants.{Bytes, Refused}
 use Rattle.reading.specs.FileTests.{blocksFault}
-use Rattle.reading.specs.Bytes.{fileBytes, Followed, Copied}
+use Rattle.reading.specs.Bytes.{fileBytes}
+use Rattle.reading.specs.Parts.{Followed, Copied, handed}
 use Rattle.lookup.proofs.find.Found.{the-type}
-use Rattle.reading.specs.Reads.{numbersOf, refuse, lastComponent, handed, readOf, leaves, Reads}
+use Rattle.reading.specs.Reads.{numbersOf, refuse, lastComponent, readOf, leaves, Reads}
 use Rattle.reading.proofs.Tested.{tested-whole}
 
 -- ---- the last component
@@ -142,7 +143,7 @@ module _ (d : Disk) (s path : List ℕ) (o : ℕ) (output : List ℕ) (f : Found
       go (found.Directory k c) e h q = record { answer = q ∙ rw (← e) refl; left = rw q refl }
       go (found.Refused x) e h q = record { answer = q ∙ rw (← e) refl; left = rw q refl }
 
--- any two outcomes allowed for one input coincide
+-- one input has one outcome
 pub read-determined : (d : Disk) (s path : List ℕ) (o : ℕ) (output : List ℕ) (r r′ : Reading) (a a′ : List ℕ) → Reads d s path o output r a → Reads d s path o output r′ a′ → (numbersOf r ≡ numbersOf r′) × (r ≡ r′) × (a ≡ a′)
 read-determined d s path o output r r′ a a′ h h′ =
     let e = h .answer ∙ sym (h′ .answer) in

@@ -25,7 +25,8 @@ use Rattle.walk.specs.Nodes.{Node, list, datum, keyNodes, keyOf, keyFault, faul
 use Rattle.walk.specs.Listings.{Listing}
 use Rattle.walk.proofs.Links.{is-listed}
 use Rattle.walk.proofs.Loops.{nodes, next, Turn, turn-few, turn-next, turn-again, turn-all, headerOf, Link, link-start, link-none, link-more, link-last, link-again}
-use Rattle.reading.specs.FileTests.{nodeFault, firstFault, blocksFrom, fileNodes, blocksFault, KeysTested, ListTested}
+use Rattle.reading.specs.FileTests.{nodeFault, firstFault, blocksFrom, fileNodes, blocksFault}
+use Rattle.reading.specs.Parts.{KeysTested, ListTested}
 
 -- ---- one block
 

@@ -13,7 +13,8 @@ use Rattle.volume.specs.Blocks.{Holds, wordOf}
 use Rattle.volume.specs.Disks.{Sized, dataBytes, imageBytes, fileLimit}
 use Rattle.volume.specs.Files.{sizeOf, keysOf}
 use Rattle.volume.proofs.Sizes.{limit-most}
-use Rattle.reading.specs.Bytes.{dataPlace, dataOf, dataIn, fileBytes, part, filledBy, Copied, Followed}
+use Rattle.reading.specs.Bytes.{dataPlace, dataOf, dataIn, fileBytes, part, filledBy}
+use Rattle.reading.specs.Parts.{Copied, Followed}
 use Rattle.reading.proofs.Parts.{drop-take, filled-more, turn-front, turn-rest}
 use Rattle.reading.proofs.Contents.{data-inside, data-some, data-long, all-none, all-first, part-long, part-there, key-inside, key-first, key-next, block-there}
 

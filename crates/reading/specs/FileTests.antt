@@ -1,7 +1,6 @@
 -- The tests of a file before it is read: its header's own, then all of its blocks in the audit's order, without claims (the build paper,
 -- "Paths and reads"). The blocks, their order and their tests are the audit's.
-use Prim.Native.Nat.{ℕ, zero, suc, _+_, _-_, _<_}
-use mathlib.Core.Path.{_≡_}
+use Prim.Native.Nat.{ℕ, zero, suc, _+_, _-_}
 use mathlib.Core.List.{List, [], _∷_, _++_}
 use lib.Dec.{eqb}
 use Rattle.answers.specs.Tests.{pick, first}
@@ -12,9 +11,7 @@ use Rattle.volume.specs.declared.disk.Disk.{Disk}
 use Rattle.volume.specs.Blocks.{slots, wordOf, keyWord}
 use Rattle.volume.specs.Files.{blocksOf, listBlocks, keysHere}
 use Rattle.volume.specs.Rules.{fileFault}
-use Rattle.walk.specs.declared.Lister.{Lister}
 use Rattle.walk.specs.Nodes.{Node, list, keyOf, keyFault, faultOf, keyNodes}
-use Rattle.walk.specs.Listings.{keysIn, Listed}
 
 -- the key's range, then the block's tests
 abbrev pub nodeFault : Disk → List ℕ → Node → ℕ
@@ -37,15 +34,3 @@ fileNodes d s h = blocksFrom d s h h 0 h (listBlocks (blocksOf d s h))
 
 unfoldable pub blocksFault : Disk → List ℕ → ℕ → Tested
 blocksFault d s h = pick (eqb (fileFault d s h) 0) (firstFault d s (fileNodes d s h)) (Failed (refusal (fileFault d s h) h))
-
--- ---- what parts of the code promise
-
--- the data blocks of a block that lists keys
-pub record KeysTested (d : Disk) (s : List ℕ) (b : Lister) (r : Tested) : Type 0 where
-  pub told : r ≡ firstFault d s (keyNodes s (b .header) (b .key) (b .done) (b .last) 0 (keysIn d s b))
-  pub keys : r ≡ Passed → (i : ℕ) → i < keysIn d s b → keyWord s (b .key) i < d .blocks
-
--- a list block and its data blocks
-pub record ListTested (d : Disk) (s : List ℕ) (b : Lister) (r : Tested) : Type 0 where
-  pub told : r ≡ firstFault d s (list (b .key) (b .header) (b .done) (b .last) ∷ keyNodes s (b .header) (b .key) (b .done) (b .last) 0 (keysIn d s b))
-  pub known : r ≡ Passed → Listed d s (b .header) (b .key) (b .done)

@@ -7,3 +7,5 @@ pub mod FileTests
 pub mod Reads
 -- what each answer says
 pub mod Outcomes
+-- what the parts of the code ask and promise
+pub mod Parts

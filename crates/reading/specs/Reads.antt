@@ -36,12 +36,6 @@ lastComponent path = length (components path) - 1
 
 -- ---- the answer
 
--- what is handed back where no file is found; the last line is never asked for
-abbrev pub handed : List ℕ → Found → Reading
-handed path (found.Refused r) = Refused r
-handed path (found.Directory k c) = refuse 20 (lastComponent path)
-handed path (found.File k z c) = refuse 20 (lastComponent path)
-
 -- of file k at offset o, into room for n bytes
 abbrev pub tested : Disk → List ℕ → ℕ → ℕ → ℕ → Tested → Reading
 tested d s k o n Passed = Bytes (length (part (fileBytes d s k) o n))
@@ -49,8 +43,8 @@ tested d s k o n (Failed r) = Refused r
 
 abbrev pub reads : Disk → List ℕ → List ℕ → ℕ → ℕ → Found → Reading
 reads d s path o n (found.File k z c) = tested d s k o n (blocksFault d s k)
-reads d s path o n (found.Directory k c) = handed path (found.Directory k c)
-reads d s path o n (found.Refused r) = handed path (found.Refused r)
+reads d s path o n (found.Directory k c) = refuse 20 (lastComponent path)
+reads d s path o n (found.Refused r) = Refused r
 
 unfoldable pub readOf : Disk → List ℕ → List ℕ → ℕ → ℕ → Reading
 readOf d s path o n = reads d s path o n (findOf d s path)

@@ -19,7 +19,8 @@ ghost use Rattle.volume.specs.Files.{sizeOf, blocksOf};
 ghost use Rattle.walk.specs.Nodes.{list, datum};
 ghost use Rattle.walk.specs.Listings.{Listing};
 ghost use Rattle.volume.specs.Rules.{fileFault};
-ghost use Rattle.reading.specs.FileTests.{nodeFault, firstFault, fileNodes, blocksFault, KeysTested, ListTested};
+ghost use Rattle.reading.specs.FileTests.{nodeFault, firstFault, fileNodes, blocksFault};
+ghost use Rattle.reading.specs.Parts.{KeysTested, ListTested};
 
 fn failed(number: u32, key: u32) -> Tested
     ensures { λ r. ⌜ r ≡ Tested.Failed (refusal number key) ⌝ }

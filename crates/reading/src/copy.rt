@@ -8,7 +8,8 @@ ghost use lib.ListN.{length, getD, drop};
 ghost use lib.Seq.{paste};
 ghost use Rattle.volume.specs.Disks.{Sized, imageBytes, dataBytes};
 ghost use Rattle.volume.specs.Files.{sizeOf, keysOf};
-ghost use Rattle.reading.specs.Bytes.{dataPlace, fileBytes, Followed, Copied};
+ghost use Rattle.reading.specs.Bytes.{dataPlace, fileBytes};
+ghost use Rattle.reading.specs.Parts.{Followed, Copied};
 
 // The first byte of a data block's data.
 fn data_place(disk: Disk, key: u32) -> usize

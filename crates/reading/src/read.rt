@@ -12,7 +12,8 @@ ghost use lib.Dec.{eqb};
 ghost use Rattle.answers.specs.Tests.{pick};
 ghost use Rattle.lookup.specs.Paths.{slash};
 ghost use Rattle.volume.specs.Disks.{Sized, floppy};
-ghost use Rattle.reading.specs.Reads.{lastComponent, handed, Reads};
+ghost use Rattle.reading.specs.Reads.{lastComponent, Reads};
+ghost use Rattle.reading.specs.Parts.{handed};
 
 // How many bytes were copied, or why none were.
 pub enum Reading {

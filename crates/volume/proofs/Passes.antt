@@ -183,9 +183,6 @@ module _ (s : List ℕ) (k n : ℕ) where
   pub count-passed : tests (countRules s k n) ≡ 0 → Lists s k n
   count-passed e = record { count = is _ _ 13 (test-at 0 (countRules s k n) e refl); more = more-passed (test-at 1 (countRules s k n) e refl) }
 
-  pub count-passes : Lists s k n → tests (countRules s k n) ≡ 0
-  count-passes h = be _ _ 14 (h .count) & more-passes (h .more) & refl
-
 -- ---- a list block
 
 module _ (s : List ℕ) (k h n : ℕ) where

@@ -14,7 +14,7 @@ use Rattle.volume.specs.Blocks.{slots, wordOf, sumOf, slotWord, director
 use Rattle.volume.specs.Names.{folded, slotOf, nameOf, nameGood}
 use Rattle.volume.specs.Files.{heldOf, keysHere, sizeOf, blocksOf, listsOf, keysOf}
 use Rattle.volume.specs.Bitmap.{isFree}
-use Rattle.volume.specs.References.{Ref, to, root, entry, references}
+use Rattle.volume.specs.References.{Ref, to, entry, references}
 
 -- ---- the root, block r
 

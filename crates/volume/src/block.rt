@@ -76,6 +76,13 @@ impl Block {
 
     pub const FILE: u32 = 0xFFFFFFFD;
 
+    // Links: to a path, to a directory, to a file.
+    pub const SOFT_LINK: u32 = 3;
+
+    pub const DIRECTORY_LINK: u32 = 4;
+
+    pub const FILE_LINK: u32 = 0xFFFFFFFC;
+
     // The key of the root of a disk of so many blocks.
     pub fn root(blocks: u32) -> u32
         ensures { λ r. ⌜ r ≡ blocks / 2 ⌝ }

@@ -30,13 +30,13 @@ fn types_fault(image: &[u8], key: u32) -> u32
         return 8;
     }
     let kind = word_of(image, key, Block::KIND);
-    if kind == 3 {
+    if kind == Block::SOFT_LINK {
         return 9;
     }
-    if kind == 4 {
+    if kind == Block::DIRECTORY_LINK {
         return 9;
     }
-    if kind == 0xFFFFFFFC {
+    if kind == Block::FILE_LINK {
         return 9;
     }
     if kind == Block::DIRECTORY {

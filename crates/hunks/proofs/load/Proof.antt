@@ -42,7 +42,8 @@ use Rattle.program.specs.declared.check.Answer.{Answer}
 use Rattle.program.proofs.check.Answer as E
 use Rattle.program.proofs.check.Answer.Laws as E′
 use Rattle.hunks.specs.Records.{filled}
-use Rattle.hunks.specs.Calls.{HandsLoad, Loads}
+use Rattle.hunks.specs.Calls.{Loads}
+use Rattle.hunks.specs.Parts.{HandsLoad}
 use Rattle.hunks.specs.declared.Hunk.{Hunk}
 use Rattle.hunks.specs.declared.Counted.{Counted}
 use Rattle.hunks.proofs.Handing.{load-room, load-returns}

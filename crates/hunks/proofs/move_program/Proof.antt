@@ -42,7 +42,8 @@ use Rattle.program.specs.declared.check.Answer.{Answer}
 use Rattle.program.proofs.check.Answer as E
 use Rattle.program.proofs.check.Answer.Laws as E′
 use Rattle.hunks.specs.Records.{filled}
-use Rattle.hunks.specs.Calls.{HandsMove, Moves}
+use Rattle.hunks.specs.Calls.{Moves}
+use Rattle.hunks.specs.Parts.{HandsMove}
 use Rattle.hunks.specs.declared.Hunk.{Hunk}
 use Rattle.hunks.specs.declared.Counted.{Counted}
 use Rattle.hunks.proofs.Handing.{move-room, move-returns}
