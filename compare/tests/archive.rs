@@ -1,76 +1,131 @@
-//! The declarations for Rust of the archive's calls: they compile, and their structs lie in memory as C's do. The archive is for x86-64 alone, so it is
-//! linked and run by the C program of examples/c, not here.
+//! The archive's calls are declared three times: where they are proved, for C and for Rust. Here the three are held to each other, name by name and
+//! type by type. The archive is for x86-64 alone, so it is linked and run by the C program of examples/c, not here.
 #[path = "../../include/jufferdeeg.rs"]
 #[allow(dead_code)]
 mod jufferdeeg;
 
-use jufferdeeg::{Audited, Found, Hunk, Loaded, Reading};
+use std::fs::read_to_string;
 use std::mem::{offset_of, size_of};
 
-/// Where a C compiler with 8-byte lengths puts fields of these sizes, each aligned to its own size, and where the struct ends.
-fn places(sizes: &[usize]) -> Vec<usize> {
-    let mut at = 0usize;
-    let mut places = Vec::new();
-    let most = *sizes.iter().max().unwrap();
-    for &size in sizes {
-        at = at.next_multiple_of(size);
-        places.push(at);
-        at += size;
-    }
-    places.push(at.next_multiple_of(most));
-    places
+fn text(name: &str) -> String {
+    let path = format!("{}/../{name}", env!("CARGO_MANIFEST_DIR"));
+    read_to_string(&path).unwrap_or_else(|e| panic!("{path}: {e}"))
 }
 
+/// What stands between the first `open` behind `name` and the `close` behind that, without comments.
+fn inside(text: &str, name: &str, open: char, close: char) -> String {
+    let from = text.find(name).unwrap_or_else(|| panic!("there is no {name}"));
+    let rest = &text[from + name.len()..];
+    let start = rest.find(open).unwrap() + 1;
+    let end = rest.find(close).unwrap();
+    let lines = rest[start..end].lines().map(|l| l.split("/*").next().unwrap());
+    lines.collect::<Vec<_>>().join(" ")
+}
+
+/// A type of C by its name in Rust.
+fn in_rust(c: &str) -> String {
+    let plain = |t: &str| match t {
+        "uint8_t" => "u8".to_string(),
+        "uint32_t" => "u32".to_string(),
+        "size_t" => "usize".to_string(),
+        "struct jufferdeeg_hunk" => "Hunk".to_string(),
+        other => panic!("{other} is no type that crosses"),
+    };
+    match (c.strip_suffix('*'), c.strip_prefix("const ")) {
+        (Some(to), Some(_)) => format!("*const {}", plain(to.trim().strip_prefix("const ").unwrap())),
+        (Some(to), None) => format!("*mut {}", plain(to.trim())),
+        _ => plain(c),
+    }
+}
+
+/// `uint32_t number` and `const uint8_t *image`, as name and type.
+fn of_c(one: &str) -> (String, String) {
+    let at = one.rfind([' ', '*']).unwrap() + 1;
+    (one[at..].to_string(), in_rust(one[..at].trim()))
+}
+
+/// `pub number: u32`, as name and type.
+fn of_rust(one: &str) -> (String, String) {
+    let (name, of) = one.trim().trim_start_matches("pub ").split_once(':').unwrap();
+    (name.trim().to_string(), of.trim().to_string())
+}
+
+fn parts(inside: &str, by: char, read: fn(&str) -> (String, String)) -> Vec<(String, String)> {
+    let parts = inside.split(by).map(str::trim).filter(|p| !p.is_empty());
+    parts.map(read).collect()
+}
+
+#[test]
+fn structs_are_declared_alike() {
+    let (c, rust) = (text("include/jufferdeeg.h"), text("include/jufferdeeg.rs"));
+    let (volumes, programs) =
+        (text("crates/jufferdeeg/src/volumes.rt"), text("crates/jufferdeeg/src/programs.rt"));
+    let hunks = text("crates/hunks/src/lib.rt");
+    for (in_c, in_rust, source, in_source) in [
+        ("audited", "Audited", &volumes, "AuditNumbers"),
+        ("found", "Found", &volumes, "FindNumbers"),
+        ("reading", "Reading", &volumes, "ReadNumbers"),
+        ("loaded", "Loaded", &programs, "ProgramNumbers"),
+        ("hunk", "Hunk", &hunks, "Hunk"),
+    ] {
+        let of_source = inside(source, &format!("#[repr(C)]\npub struct {in_source} "), '{', '}');
+        let proved = parts(&of_source, ',', of_rust);
+        assert!(proved.len() >= 3, "{in_source}");
+        let for_c = parts(&inside(&c, &format!("struct jufferdeeg_{in_c} {{"), ' ', '}'), ';', of_c);
+        assert_eq!(for_c, proved, "{in_c}");
+        let for_rust = parts(&inside(&rust, &format!("pub struct {in_rust} "), '{', '}'), ',', of_rust);
+        assert_eq!(for_rust, proved, "{in_rust}");
+    }
+}
+
+/// The parameters where they are proved, a slice as C has it: a pointer and a length.
+fn proved(source: &str, call: &str) -> Vec<String> {
+    let mut types = Vec::new();
+    for (_, of) in parts(&inside(source, &format!("fn {call}"), '(', ')'), ',', of_rust) {
+        let (pointer, slice) = match of.strip_prefix("&mut ") {
+            Some(slice) => ("*mut", slice),
+            None => ("*const", of.strip_prefix('&').unwrap_or("")),
+        };
+        match slice.strip_prefix('[').and_then(|s| s.strip_suffix(']')) {
+            Some(element) => types.extend([format!("{pointer} {element}"), "usize".to_string()]),
+            None => types.push(of),
+        }
+    }
+    types
+}
+
+#[test]
+fn calls_are_declared_alike() {
+    let (c, rust) = (text("include/jufferdeeg.h"), text("include/jufferdeeg.rs"));
+    let (volumes, programs) =
+        (text("crates/jufferdeeg/src/volumes.rt"), text("crates/jufferdeeg/src/programs.rt"));
+    for (call, answer, source) in [
+        ("jufferdeeg_audit", "audited", &volumes),
+        ("jufferdeeg_find", "found", &volumes),
+        ("jufferdeeg_read", "reading", &volumes),
+        ("jufferdeeg_load", "loaded", &programs),
+        ("jufferdeeg_move", "loaded", &programs),
+    ] {
+        let for_c = parts(&inside(&c, &format!("struct jufferdeeg_{answer} {call}"), '(', ')'), ',', of_c);
+        let for_rust = parts(&inside(&rust, &format!("pub fn {call}"), '(', ')'), ',', of_rust);
+        assert_eq!(for_c, for_rust, "{call}");
+        let types: Vec<String> = for_c.into_iter().map(|(_, of)| of).collect();
+        assert_eq!(types, proved(source, call), "{call}");
+    }
+}
+
+/// Rust lays its structs out as C does on x86-64: each field at the next multiple of its own size.
 #[test]
 fn structs_lie_as_in_c() {
-    assert_eq!(size_of::<usize>(), 8);
-    let audited = [
-        offset_of!(Audited, number),
-        offset_of!(Audited, place),
-        offset_of!(Audited, directories),
-        offset_of!(Audited, files),
-        offset_of!(Audited, list_blocks),
-        offset_of!(Audited, data_blocks),
-        offset_of!(Audited, used),
-        offset_of!(Audited, free),
-        size_of::<Audited>(),
-    ];
-    assert_eq!(audited.to_vec(), places(&[4, 8, 4, 4, 4, 4, 4, 4]));
-    let found = [
-        offset_of!(Found, number),
-        offset_of!(Found, place),
-        offset_of!(Found, kind),
-        offset_of!(Found, key),
-        offset_of!(Found, size),
-        offset_of!(Found, compared),
-        size_of::<Found>(),
-    ];
-    assert_eq!(found.to_vec(), places(&[4, 8, 4, 4, 4, 4]));
-    let reading = [
-        offset_of!(Reading, number),
-        offset_of!(Reading, place),
-        offset_of!(Reading, count),
-        size_of::<Reading>(),
-    ];
-    assert_eq!(reading.to_vec(), places(&[4, 8, 8]));
-}
-
-#[test]
-fn structs_of_programs_lie_as_in_c() {
-    let hunk = [
-        offset_of!(Hunk, kind),
-        offset_of!(Hunk, place),
-        offset_of!(Hunk, size),
-        offset_of!(Hunk, base),
-        size_of::<Hunk>(),
-    ];
-    assert_eq!(hunk.to_vec(), places(&[4, 4, 4, 4]));
-    let loaded = [
-        offset_of!(Loaded, number),
-        offset_of!(Loaded, place),
-        offset_of!(Loaded, hunks),
-        offset_of!(Loaded, bytes),
-        size_of::<Loaded>(),
-    ];
-    assert_eq!(loaded.to_vec(), places(&[4, 8, 4, 8]));
+    use jufferdeeg::{Audited, Found, Hunk, Loaded, Reading};
+    assert_eq!(
+        (offset_of!(Audited, place), offset_of!(Audited, directories), offset_of!(Audited, free)),
+        (8, 16, 36)
+    );
+    assert_eq!((offset_of!(Found, place), offset_of!(Found, kind), offset_of!(Found, compared)), (8, 16, 28));
+    assert_eq!((offset_of!(Reading, place), offset_of!(Reading, count)), (8, 16));
+    assert_eq!((offset_of!(Loaded, place), offset_of!(Loaded, hunks), offset_of!(Loaded, bytes)), (8, 16, 24));
+    let sizes =
+        [size_of::<Audited>(), size_of::<Found>(), size_of::<Reading>(), size_of::<Loaded>(), size_of::<Hunk>()];
+    assert_eq!(sizes, [40, 32, 24, 32, 16]);
 }
