@@ -1,0 +1,62 @@
+-- `bench::programs::move_loaded` meets its contract. What is accepted fits memory and table.
+use borrow.Author.Needs.{needs}
+use Rattle.bench.proofs.Lent.{move-fits, move-records}
+use Rattle.bench.proofs.programs.move_loaded.Statement.{statement}
+use Rattle.bench.proofs.programs.move_loaded.Tie as tie
+
+slice-aggregate-move-program : tie.Need-slice-aggregate-move-program
+slice-aggregate-move-program c = search needs
+
+move-program-requires : tie.Need-move-program-requires
+move-program-requires c κs = search needs
+
+enum-known-answer : tie.Need-enum-known-answer
+enum-known-answer c = search needs
+
+slice-aggregate-program : tie.Need-slice-aggregate-program
+slice-aggregate-program c = search needs
+
+program-requires : tie.Need-program-requires
+program-requires c κs = (search (needs, move-fits) depth 7, search (needs, move-records) depth 7)
+
+enum-known-answer-2 : tie.Need-enum-known-answer-2
+enum-known-answer-2 c = search needs
+
+refused-requires : tie.Need-refused-requires
+refused-requires c κs = search needs
+
+same-length : tie.Need-same-length
+same-length c = search needs
+
+same-length-2 : tie.Need-same-length-2
+same-length-2 c = search needs
+
+returns : tie.Need-returns
+returns c = search needs
+
+same-length-3 : tie.Need-same-length-3
+same-length-3 c = search needs
+
+same-length-4 : tie.Need-same-length-4
+same-length-4 c = search needs
+
+returns-2 : tie.Need-returns-2
+returns-2 c = search needs
+
+pub move-loaded-spec : {M : Type 1} → statement M
+move-loaded-spec =
+    tie.close
+    (tie.spec
+    slice-aggregate-move-program
+    move-program-requires
+    enum-known-answer
+    slice-aggregate-program
+    program-requires
+    enum-known-answer-2
+    refused-requires
+    same-length
+    same-length-2
+    returns
+    same-length-3
+    same-length-4
+    returns-2)

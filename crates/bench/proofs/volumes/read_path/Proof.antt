@@ -1,0 +1,62 @@
+-- `bench::volumes::read_path` meets its contract. What is read fits the output.
+use borrow.Author.Needs.{needs}
+use Rattle.bench.proofs.Lent.{cut, read-fits}
+use Rattle.bench.proofs.volumes.read_path.Statement.{statement}
+use Rattle.bench.proofs.volumes.read_path.Tie as tie
+
+read-requires : tie.Need-read-requires
+read-requires c κs = search needs
+
+enum-known-reading : tie.Need-enum-known-reading
+enum-known-reading c = search needs
+
+slice-reshare-prefix-write-all : tie.Need-slice-reshare-prefix-write-all
+slice-reshare-prefix-write-all c = search (needs, read-fits) depth 7
+
+slice-aggregate-write-all : tie.Need-slice-aggregate-write-all
+slice-aggregate-write-all c = cut _ _ (search (needs, read-fits) depth 7)
+
+write-all-requires : tie.Need-write-all-requires
+write-all-requires c κs = search needs
+
+enum-known-reading-2 : tie.Need-enum-known-reading-2
+enum-known-reading-2 c = search needs
+
+slice-aggregate-write-all-2 : tie.Need-slice-aggregate-write-all-2
+slice-aggregate-write-all-2 c = search needs
+
+write-all-requires-2 : tie.Need-write-all-requires-2
+write-all-requires-2 c κs = search needs
+
+refused-requires : tie.Need-refused-requires
+refused-requires c κs = search needs
+
+same-length : tie.Need-same-length
+same-length c = search needs
+
+returns : tie.Need-returns
+returns c = search needs
+
+same-length-2 : tie.Need-same-length-2
+same-length-2 c = search needs
+
+returns-2 : tie.Need-returns-2
+returns-2 c = search needs
+
+pub read-path-spec : {M : Type 1} → statement M
+read-path-spec =
+    tie.close
+    (tie.spec
+    read-requires
+    enum-known-reading
+    slice-reshare-prefix-write-all
+    slice-aggregate-write-all
+    write-all-requires
+    enum-known-reading-2
+    slice-aggregate-write-all-2
+    write-all-requires-2
+    refused-requires
+    same-length
+    returns
+    same-length-2
+    returns-2)

@@ -1,0 +1,72 @@
+// The counter's tool: audits, finds, reads, loads and moves, or does what the reset pin does, on files that the arguments name.
+mod arguments;
+mod bases;
+mod files;
+mod listing;
+mod programs;
+mod reset;
+mod rooms;
+mod saying;
+mod sentences;
+mod usage;
+mod volumes;
+
+use arguments::same;
+
+// Does what the verb says. The rooms are made once and lent to each: for an image, for a program file, for memory and for the work area.
+fn act(
+    verb: &[u8],
+    count: usize,
+    image: &mut [u8],
+    file: &mut [u8],
+    memory: &mut [u8],
+    work: &mut [u8],
+) {
+    if same(verb, b"audit") {
+        return volumes::audit_images(count, image);
+    }
+    if same(verb, b"find") {
+        return volumes::find_paths(count, image);
+    }
+    if same(verb, b"read") {
+        return volumes::read_file(count, image, file);
+    }
+    if same(verb, b"load") {
+        return programs::load(count, file, memory, work);
+    }
+    if same(verb, b"move") {
+        return programs::move_program(count, file, memory, work);
+    }
+    if same(verb, b"reset") {
+        return reset::reset(count, image, file, memory, work);
+    }
+    saying::wrong(verb, b" is no verb; ./bench alone says how it is used");
+}
+
+// The same for the verb among so many arguments, in rooms of its own.
+fn run(count: usize) {
+    let mut verb = io::buffer();
+    let n = os::arg(1, &mut verb);
+    let mut image = rooms::image();
+    let mut file = rooms::file();
+    let mut memory = rooms::memory();
+    let mut work = rooms::memory();
+    act(
+        &verb[..n],
+        count,
+        &mut image,
+        &mut file,
+        &mut memory,
+        &mut work,
+    );
+}
+
+fn main() {
+    let count = os::arg_count();
+    if count < 2 {
+        return usage::say();
+    }
+    if arguments::all_fit(count) {
+        run(count);
+    }
+}

@@ -1,0 +1,157 @@
+// Program files: load and move.
+use crate::arguments::same;
+use crate::bases;
+use crate::files;
+use crate::listing;
+use crate::saying;
+use crate::saying::wrong;
+use answers::Refusal;
+use libc::STDOUT_FILENO;
+use program::check::Answer;
+ghost use Prim.Native.Nat.{_+_, _≤_, _<_};
+
+// ---- the calls, and what is said of them; `who` begins a refusal's line
+
+// The bytes of memory that a good file takes.
+fn needed(file: &[u8]) -> usize {
+    let answer = program::check::check(file);
+    match answer {
+        Answer::Accepted(_, bytes) => bytes,
+        Answer::Refused(_) => 0,
+    }
+}
+
+pub fn refused(who: &[u8], file: &[u8], fault: Refusal) {
+    saying::refused(STDOUT_FILENO, who, fault, needed(file));
+}
+
+// Loads a file and lists it.
+fn load_file(who: &[u8], file: &[u8], bases: &[u32], memory: &mut [u8], work: &mut [u8]) {
+    let mut table = [0u32; 256];
+    let answer = loader::calls::load(file, bases, memory, &mut table, work);
+    match answer {
+        Answer::Accepted(count, bytes) => listing::program(count, bytes, memory, &table),
+        Answer::Refused(fault) => refused(who, file, fault),
+    }
+}
+
+// Moves a loaded file and lists it.
+fn move_loaded(
+    who: &[u8],
+    file: &[u8],
+    old: &[u32],
+    new: &[u32],
+    memory: &mut [u8],
+    work: &mut [u8],
+) {
+    let mut table = [0u32; 256];
+    let answer = loader::calls::move_program(file, old, new, memory, &mut table, work);
+    match answer {
+        Answer::Accepted(count, bytes) => listing::program(count, bytes, memory, &table),
+        Answer::Refused(fault) => refused(who, file, fault),
+    }
+}
+
+// Loads a file at the old bases, moves it to the new ones and lists it.
+fn move_file(
+    who: &[u8],
+    file: &[u8],
+    old: &[u32],
+    new: &[u32],
+    memory: &mut [u8],
+    work: &mut [u8],
+) {
+    let mut table = [0u32; 256];
+    let answer = loader::calls::load(file, old, memory, &mut table, work);
+    match answer {
+        Answer::Accepted(_, _) => move_loaded(who, file, old, new, memory, work),
+        Answer::Refused(fault) => refused(who, file, fault),
+    }
+}
+
+// ---- the verbs, over so many arguments
+
+// Loads the file that argument 2 names.
+fn load_at(bases: &[u32], room: &mut [u8], memory: &mut [u8], work: &mut [u8]) {
+    let mut name = io::buffer();
+    let k = os::arg(2, &mut name);
+    let held = files::read(&name[..k], b"a program file", room);
+    if held.whole {
+        let n = held.bytes;
+        load_file(&name[..k], &room[..n], bases, memory, work);
+    }
+}
+
+pub fn load(count: usize, room: &mut [u8], memory: &mut [u8], work: &mut [u8]) {
+    if count < 4 {
+        return wrong(b"load", b" needs a FILE and a BASE for each hunk");
+    }
+    let mut list = [0u32; 256];
+    let n = bases::list(3, count, &mut list);
+    if n > 0 {
+        load_at(&list[..n], room, memory, work);
+    }
+}
+
+// Moves the file that argument 2 names.
+fn move_at(old: &[u32], new: &[u32], room: &mut [u8], memory: &mut [u8], work: &mut [u8]) {
+    let mut name = io::buffer();
+    let k = os::arg(2, &mut name);
+    let held = files::read(&name[..k], b"a program file", room);
+    if held.whole {
+        let n = held.bytes;
+        move_file(&name[..k], &room[..n], old, new, memory, work);
+    }
+}
+
+// Whether argument i is the word between the lists.
+fn is_to(i: usize) -> bool {
+    let mut word = io::buffer();
+    let n = os::arg(i, &mut word);
+    same(&word[..n], b"to")
+}
+
+// The first argument before `last` that is the word, one base or more before it; or else `last` or more.
+fn middle(last: usize) -> usize
+    ensures { λ r. ⌜ 4 ≤ r ⌝ }
+{
+    let mut i: usize = 4;
+    while i < last {
+        if is_to(i) {
+            return i;
+        }
+        i += 1;
+    }
+    i
+}
+
+// The lists stand around argument `at`.
+fn move_around(at: usize, count: usize, room: &mut [u8], memory: &mut [u8], work: &mut [u8])
+    requires { ⌜ (4 ≤ at) × (at + 1 < count) ⌝ }
+{
+    let mut old = [0u32; 256];
+    let mut new = [0u32; 256];
+    let n = bases::list(3, at, &mut old);
+    if n == 0 {
+        return;
+    }
+    let m = bases::list(at + 1, count, &mut new);
+    if m == 0 {
+        return;
+    }
+    move_at(&old[..n], &new[..m], room, memory, work);
+}
+
+pub fn move_program(count: usize, room: &mut [u8], memory: &mut [u8], work: &mut [u8]) {
+    if count > 5 {
+        let last = count - 1;
+        let at = middle(last);
+        if at < last {
+            return move_around(at, count, room, memory, work);
+        }
+    }
+    wrong(
+        b"move",
+        b" needs a FILE, old bases, the word to, and new bases",
+    );
+}

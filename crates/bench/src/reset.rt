@@ -1,0 +1,79 @@
+// What the reset pin does, in one go: audit, find, read and load. The first refusal ends it.
+use crate::bases;
+use crate::files;
+use crate::programs;
+use crate::saying::counted;
+use crate::saying::refused;
+use crate::saying::wrong;
+use crate::volumes;
+use libc::STDOUT_FILENO;
+use program::check::Answer;
+use reading::read::Reading;
+
+// The last step: the program.
+fn load(file: &[u8], bases: &[u32], memory: &mut [u8], work: &mut [u8]) {
+    let mut table = [0u32; 256];
+    let answer = loader::calls::load(file, bases, memory, &mut table, work);
+    match answer {
+        Answer::Accepted(count, bytes) => {
+            io::write_all(STDOUT_FILENO, b"load: ");
+            counted(STDOUT_FILENO, count as u64, b" hunks, ");
+            counted(STDOUT_FILENO, bytes as u64, b" bytes\n");
+        }
+        Answer::Refused(fault) => programs::refused(b"load", file, fault),
+    }
+}
+
+// The steps from the read on.
+fn read(
+    image: &[u8],
+    path: &[u8],
+    bases: &[u32],
+    output: &mut [u8],
+    memory: &mut [u8],
+    work: &mut [u8],
+) {
+    let reading = reading::read::read(image, path, 0, output);
+    match reading {
+        Reading::Bytes(n) => {
+            io::write_all(STDOUT_FILENO, b"read: ");
+            counted(STDOUT_FILENO, n as u64, b" bytes\n");
+            load(&output[..n], bases, memory, work);
+        }
+        Reading::Refused(fault) => refused(STDOUT_FILENO, b"read", fault, 0),
+    }
+}
+
+// All steps, with the path that argument 3 is.
+fn steps(image: &[u8], bases: &[u32], file: &mut [u8], memory: &mut [u8], work: &mut [u8]) {
+    let mut path = io::buffer();
+    let n = os::arg(3, &mut path);
+    if volumes::audit_image(b"audit", image) {
+        if volumes::find_path(b"find", image, &path[..n]) {
+            read(image, &path[..n], bases, file, memory, work);
+        }
+    }
+}
+
+// The same on the image that argument 2 names.
+fn reset_at(bases: &[u32], room: &mut [u8], file: &mut [u8], memory: &mut [u8], work: &mut [u8]) {
+    let held = files::read_argument(2, b"an image", room);
+    if held.whole {
+        let n = held.bytes;
+        steps(&room[..n], bases, file, memory, work);
+    }
+}
+
+pub fn reset(count: usize, room: &mut [u8], file: &mut [u8], memory: &mut [u8], work: &mut [u8]) {
+    if count < 5 {
+        return wrong(
+            b"reset",
+            b" needs an IMAGE, a PATH and a BASE for each hunk",
+        );
+    }
+    let mut list = [0u32; 256];
+    let n = bases::list(4, count, &mut list);
+    if n > 0 {
+        reset_at(&list[..n], room, file, memory, work);
+    }
+}

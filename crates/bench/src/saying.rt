@@ -1,0 +1,42 @@
+// Parts of lines, and the lines that several verbs say.
+use crate::rooms;
+use crate::sentences;
+use answers::Refusal;
+use libc::STDERR_FILENO;
+
+// The refusal of a room that is too small.
+const ROOM: u32 = 41;
+
+// A number, and the text behind it.
+pub fn counted(fd: i32, n: u64, after: &[u8]) {
+    io::print_decimal(fd, n);
+    io::write_all(fd, after);
+}
+
+// Whatever kept the tool from asking: what it is about, and the text behind it.
+pub fn wrong(about: &[u8], text: &[u8]) {
+    io::write_all(STDERR_FILENO, b"bench: ");
+    io::write_all(STDERR_FILENO, about);
+    io::write_all(STDERR_FILENO, text);
+    io::write_all(STDERR_FILENO, b"\n");
+}
+
+// How much room was needed, and how much there is.
+fn shortfall(fd: i32, needed: usize) {
+    io::write_all(fd, b": ");
+    counted(fd, needed as u64, b" bytes needed, ");
+    counted(fd, rooms::MEMORY as u64, b" lent");
+}
+
+// A refusal. `needed` is the bytes of memory that the program takes; only a 41 asks for it.
+pub fn refused(fd: i32, who: &[u8], fault: Refusal, needed: usize) {
+    io::write_all(fd, who);
+    io::write_all(fd, b": refused ");
+    counted(fd, fault.number as u64, b" at ");
+    counted(fd, fault.place as u64, b" (");
+    sentences::say(fd, fault.number);
+    if fault.number == ROOM {
+        shortfall(fd, needed);
+    }
+    io::write_all(fd, b")\n");
+}

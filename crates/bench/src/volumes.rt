@@ -1,0 +1,221 @@
+// Images: audit, find and read.
+use crate::files;
+use crate::saying::counted;
+use crate::saying::refused;
+use crate::saying::wrong;
+use audit::audit::Audited;
+use audit::audit::Report;
+use libc::STDERR_FILENO;
+use libc::STDOUT_FILENO;
+use lookup::find::Found;
+use reading::read::Reading;
+
+// ---- the calls, and what is said of them; `who` begins the line
+
+// An accepted volume.
+fn accepted(who: &[u8], report: Report) {
+    io::write_all(STDOUT_FILENO, who);
+    io::write_all(STDOUT_FILENO, b": accepted, ");
+    counted(STDOUT_FILENO, report.directories as u64, b" directories, ");
+    counted(STDOUT_FILENO, report.files as u64, b" files, ");
+    counted(STDOUT_FILENO, report.lists as u64, b" list blocks, ");
+    counted(STDOUT_FILENO, report.blocks as u64, b" data blocks, ");
+    counted(STDOUT_FILENO, report.used as u64, b" used, ");
+    counted(STDOUT_FILENO, report.free as u64, b" free\n");
+}
+
+// Audits an image, and answers whether it is accepted. The claim area has more bytes than there are blocks.
+pub fn audit_image(who: &[u8], image: &[u8]) -> bool {
+    let mut claim = io::buffer();
+    let answer = audit::audit::audit(image, &mut claim);
+    match answer {
+        Audited::Accepted(report) => {
+            accepted(who, report);
+            true
+        }
+        Audited::Refused(fault) => {
+            refused(STDOUT_FILENO, who, fault, 0);
+            false
+        }
+    }
+}
+
+fn directory(who: &[u8], key: u32, compared: u32) {
+    io::write_all(STDOUT_FILENO, who);
+    io::write_all(STDOUT_FILENO, b": directory, key ");
+    counted(STDOUT_FILENO, key as u64, b", compared ");
+    counted(STDOUT_FILENO, compared as u64, b"\n");
+}
+
+fn file(who: &[u8], key: u32, size: u32, compared: u32) {
+    io::write_all(STDOUT_FILENO, who);
+    io::write_all(STDOUT_FILENO, b": file, key ");
+    counted(STDOUT_FILENO, key as u64, b", size ");
+    counted(STDOUT_FILENO, size as u64, b", compared ");
+    counted(STDOUT_FILENO, compared as u64, b"\n");
+}
+
+// Finds a path, and answers whether it leads anywhere.
+pub fn find_path(who: &[u8], image: &[u8], path: &[u8]) -> bool {
+    let found = lookup::find::find(image, path);
+    match found {
+        Found::Directory(key, compared) => {
+            directory(who, key, compared);
+            true
+        }
+        Found::File(key, size, compared) => {
+            file(who, key, size, compared);
+            true
+        }
+        Found::Refused(fault) => {
+            refused(STDOUT_FILENO, who, fault, 0);
+            false
+        }
+    }
+}
+
+// ---- the verbs, over so many arguments
+
+// What came of an image.
+enum Seen {
+    Accepted,
+    Refused,
+    NotRead,
+}
+
+// How many images came to what.
+struct Tally {
+    accepted: u64,
+    refused: u64,
+    not_read: u64,
+}
+
+// One more. There are fewer arguments than these numbers can count, so nothing wraps.
+fn plus(n: u64) -> u64 {
+    std::num::wrapping_add_u64(n, 1)
+}
+
+impl Tally {
+    fn with(mut self, seen: Seen) -> Tally {
+        match seen {
+            Seen::Accepted => {
+                self.accepted = plus(self.accepted);
+            }
+            Seen::Refused => {
+                self.refused = plus(self.refused);
+            }
+            Seen::NotRead => {
+                self.not_read = plus(self.not_read);
+            }
+        }
+        self
+    }
+}
+
+// Audits the image of this name.
+fn audit_named(name: &[u8], room: &mut [u8]) -> Seen {
+    let held = files::read(name, b"an image", room);
+    if !held.whole {
+        return Seen::NotRead;
+    }
+    let n = held.bytes;
+    if audit_image(name, &room[..n]) {
+        return Seen::Accepted;
+    }
+    Seen::Refused
+}
+
+// Audits the image that argument i names.
+fn audit_argument(i: usize, room: &mut [u8]) -> Seen {
+    let mut name = io::buffer();
+    let n = os::arg(i, &mut name);
+    audit_named(&name[..n], room)
+}
+
+// Audits the images from argument 2 on.
+fn audit_each(count: usize, room: &mut [u8]) -> Tally {
+    let mut tally = Tally {
+        accepted: 0,
+        refused: 0,
+        not_read: 0,
+    };
+    let mut i: usize = 2;
+    while i < count {
+        tally = tally.with(audit_argument(i, room));
+        i += 1;
+    }
+    tally
+}
+
+pub fn audit_images(count: usize, room: &mut [u8]) {
+    if count < 3 {
+        return wrong(b"audit", b" needs an IMAGE");
+    }
+    let tally = audit_each(count, room);
+    if count > 3 {
+        counted(STDOUT_FILENO, (count - 2) as u64, b" images: ");
+        counted(STDOUT_FILENO, tally.accepted, b" accepted, ");
+        counted(STDOUT_FILENO, tally.refused, b" refused, ");
+        counted(STDOUT_FILENO, tally.not_read, b" not read\n");
+    }
+}
+
+// Finds the path that argument i is.
+fn find_argument(i: usize, image: &[u8]) {
+    let mut path = io::buffer();
+    let n = os::arg(i, &mut path);
+    let text = &path[..n];
+    find_path(text, image, text);
+}
+
+// Finds the paths from argument 3 on.
+fn find_each(count: usize, image: &[u8]) {
+    let mut i: usize = 3;
+    while i < count {
+        find_argument(i, image);
+        i += 1;
+    }
+}
+
+pub fn find_paths(count: usize, room: &mut [u8]) {
+    if count < 4 {
+        return wrong(b"find", b" needs an IMAGE and a PATH");
+    }
+    let held = files::read_argument(2, b"an image", room);
+    if held.whole {
+        let n = held.bytes;
+        find_each(count, &room[..n]);
+    }
+}
+
+// Reads a file and writes its bytes, and nothing else, to standard output.
+fn read_path(image: &[u8], path: &[u8], output: &mut [u8]) {
+    let reading = reading::read::read(image, path, 0, output);
+    match reading {
+        Reading::Bytes(n) => {
+            io::write_all(STDOUT_FILENO, &output[..n]);
+        }
+        Reading::Refused(fault) => {
+            io::write_all(STDERR_FILENO, b"bench: ");
+            refused(STDERR_FILENO, path, fault, 0);
+        }
+    }
+}
+
+// The same for the path that argument 3 is.
+fn read_argument(image: &[u8], output: &mut [u8]) {
+    let mut path = io::buffer();
+    let n = os::arg(3, &mut path);
+    read_path(image, &path[..n], output);
+}
+
+pub fn read_file(count: usize, room: &mut [u8], output: &mut [u8]) {
+    if count != 4 {
+        return wrong(b"read", b" needs an IMAGE and one PATH");
+    }
+    let held = files::read_argument(2, b"an image", room);
+    if held.whole {
+        let n = held.bytes;
+        read_argument(&room[..n], output);
+    }
+}
