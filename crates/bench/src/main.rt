@@ -13,34 +13,57 @@ mod volumes;
 
 use arguments::same;
 
+enum Verb {
+    Audit,
+    Find,
+    Read,
+    Load,
+    Move,
+    Reset,
+    Unknown,
+}
+
+fn verb_of(text: &[u8]) -> Verb {
+    if same(text, b"audit") {
+        return Verb::Audit;
+    }
+    if same(text, b"find") {
+        return Verb::Find;
+    }
+    if same(text, b"read") {
+        return Verb::Read;
+    }
+    if same(text, b"load") {
+        return Verb::Load;
+    }
+    if same(text, b"move") {
+        return Verb::Move;
+    }
+    if same(text, b"reset") {
+        return Verb::Reset;
+    }
+    Verb::Unknown
+}
+
 // Does what the verb says. The rooms are made once and lent to each: for an image, for a program file, for memory and for the work area.
 fn act(
-    verb: &[u8],
+    text: &[u8],
     count: usize,
     image: &mut [u8],
     file: &mut [u8],
     memory: &mut [u8],
     work: &mut [u8],
 ) {
-    if same(verb, b"audit") {
-        return volumes::audit_images(count, image);
+    let verb = verb_of(text);
+    match verb {
+        Verb::Audit => volumes::audit_images(count, image),
+        Verb::Find => volumes::find_paths(count, image),
+        Verb::Read => volumes::read_file(count, image, file),
+        Verb::Load => programs::load(count, file, memory, work),
+        Verb::Move => programs::move_program(count, file, memory, work),
+        Verb::Reset => reset::reset(count, image, file, memory, work),
+        Verb::Unknown => saying::wrong(text, b" is no verb; ./bench alone says how it is used"),
     }
-    if same(verb, b"find") {
-        return volumes::find_paths(count, image);
-    }
-    if same(verb, b"read") {
-        return volumes::read_file(count, image, file);
-    }
-    if same(verb, b"load") {
-        return programs::load(count, file, memory, work);
-    }
-    if same(verb, b"move") {
-        return programs::move_program(count, file, memory, work);
-    }
-    if same(verb, b"reset") {
-        return reset::reset(count, image, file, memory, work);
-    }
-    saying::wrong(verb, b" is no verb; ./bench alone says how it is used");
 }
 
 // The same for the verb among so many arguments, in rooms of its own.

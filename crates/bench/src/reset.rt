@@ -10,16 +10,23 @@ use libc::STDOUT_FILENO;
 use program::check::Answer;
 use reading::read::Reading;
 
+fn was_read(bytes: usize) {
+    io::write_all(STDOUT_FILENO, b"read: ");
+    counted(STDOUT_FILENO, bytes as u64, b" bytes\n");
+}
+
+fn loaded(count: u32, bytes: usize) {
+    io::write_all(STDOUT_FILENO, b"load: ");
+    counted(STDOUT_FILENO, count as u64, b" hunks, ");
+    counted(STDOUT_FILENO, bytes as u64, b" bytes\n");
+}
+
 // The last step: the program.
 fn load(file: &[u8], bases: &[u32], memory: &mut [u8], work: &mut [u8]) {
     let mut table = [0u32; 256];
     let answer = loader::calls::load(file, bases, memory, &mut table, work);
     match answer {
-        Answer::Accepted(count, bytes) => {
-            io::write_all(STDOUT_FILENO, b"load: ");
-            counted(STDOUT_FILENO, count as u64, b" hunks, ");
-            counted(STDOUT_FILENO, bytes as u64, b" bytes\n");
-        }
+        Answer::Accepted(count, bytes) => loaded(count, bytes),
         Answer::Refused(fault) => programs::refused(b"load", file, fault),
     }
 }
@@ -36,8 +43,7 @@ fn read(
     let reading = reading::read::read(image, path, 0, output);
     match reading {
         Reading::Bytes(n) => {
-            io::write_all(STDOUT_FILENO, b"read: ");
-            counted(STDOUT_FILENO, n as u64, b" bytes\n");
+            was_read(n);
             load(&output[..n], bases, memory, work);
         }
         Reading::Refused(fault) => refused(STDOUT_FILENO, b"read", fault, 0),

@@ -1,43 +1,17 @@
 // How the tool is used.
 use libc::STDOUT_FILENO;
 
-// The verbs.
-fn verbs() {
-    io::write_all(
-        STDOUT_FILENO,
-        b"./bench audit IMAGE...                 is each image a volume, and what does it hold\n",
-    );
-    io::write_all(
-        STDOUT_FILENO,
-        b"./bench find IMAGE PATH...             what each path leads to; its parts are split by /\n",
-    );
-    io::write_all(
-        STDOUT_FILENO,
-        b"./bench read IMAGE PATH                the bytes of a file, and nothing else\n",
-    );
-    io::write_all(
-        STDOUT_FILENO,
-        b"./bench load FILE BASE...              the words of a program loaded there, and its hunks\n",
-    );
-    io::write_all(
-        STDOUT_FILENO,
-        b"./bench move FILE BASE... to BASE...   the same, moved from the first bases to the second\n",
-    );
-    io::write_all(
-        STDOUT_FILENO,
-        b"./bench reset IMAGE PATH BASE...       audit, find, read and load, a line each\n",
-    );
-}
-
-// The verbs, what a base is, and the rooms.
 pub fn say() {
-    verbs();
     io::write_all(
         STDOUT_FILENO,
-        b"A BASE is 1 to 8 hex digits, 0x before them or not; one for each hunk, at most 256 in a list.\n",
-    );
-    io::write_all(
-        STDOUT_FILENO,
-        b"Rooms in bytes: image 1802240, program file 1048576, program memory 1048576, argument 4096.\n",
+        b"\
+./bench audit IMAGE...                 is each image a volume, and what does it hold\n\
+./bench find IMAGE PATH...             what each path leads to; its parts are split by /\n\
+./bench read IMAGE PATH                the bytes of a file, and nothing else\n\
+./bench load FILE BASE...              the words of a program loaded there, and its hunks\n\
+./bench move FILE BASE... to BASE...   the same, moved from the first bases to the second\n\
+./bench reset IMAGE PATH BASE...       audit, find, read and load, a line each\n\
+A BASE is 1 to 8 hex digits, 0x before them or not; one for each hunk, at most 256 in a list.\n\
+Rooms in bytes: image 1802240, program file 1048576, program memory 1048576, argument 4096.\n",
     );
 }

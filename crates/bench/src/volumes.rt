@@ -147,16 +147,20 @@ fn audit_each(count: usize, room: &mut [u8]) -> Tally {
     tally
 }
 
+fn summary(images: usize, tally: Tally) {
+    counted(STDOUT_FILENO, images as u64, b" images: ");
+    counted(STDOUT_FILENO, tally.accepted, b" accepted, ");
+    counted(STDOUT_FILENO, tally.refused, b" refused, ");
+    counted(STDOUT_FILENO, tally.not_read, b" not read\n");
+}
+
 pub fn audit_images(count: usize, room: &mut [u8]) {
     if count < 3 {
         return wrong(b"audit", b" needs an IMAGE");
     }
     let tally = audit_each(count, room);
     if count > 3 {
-        counted(STDOUT_FILENO, (count - 2) as u64, b" images: ");
-        counted(STDOUT_FILENO, tally.accepted, b" accepted, ");
-        counted(STDOUT_FILENO, tally.refused, b" refused, ");
-        counted(STDOUT_FILENO, tally.not_read, b" not read\n");
+        summary(count - 2, tally);
     }
 }
 

@@ -10,17 +10,8 @@ read-requires c κs = search needs
 enum-known-reading : tie.Need-enum-known-reading
 enum-known-reading c = search needs
 
-slice-aggregate-write-all : tie.Need-slice-aggregate-write-all
-slice-aggregate-write-all c = search needs
-
-write-all-requires : tie.Need-write-all-requires
-write-all-requires c κs = search needs
-
-slice-aggregate-counted : tie.Need-slice-aggregate-counted
-slice-aggregate-counted c = search needs
-
-counted-requires : tie.Need-counted-requires
-counted-requires c κs = search needs
+was-read-requires : tie.Need-was-read-requires
+was-read-requires c κs = search needs
 
 slice-reshare-prefix-load : tie.Need-slice-reshare-prefix-load
 slice-reshare-prefix-load c = search (needs, read-fits) depth 7
@@ -64,10 +55,7 @@ read-spec =
     (tie.spec
     read-requires
     enum-known-reading
-    slice-aggregate-write-all
-    write-all-requires
-    slice-aggregate-counted
-    counted-requires
+    was-read-requires
     slice-reshare-prefix-load
     slice-aggregate-load
     load-requires
