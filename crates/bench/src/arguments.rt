@@ -1,4 +1,5 @@
 // The program's arguments: 1 is the verb.
+use crate::saying;
 use libc::STDERR_FILENO;
 
 // Whether two texts are the same.
@@ -23,9 +24,9 @@ fn fits(i: usize) -> bool {
     if os::errno() == 0 {
         return true;
     }
-    io::write_all(STDERR_FILENO, b"bench: argument ");
-    io::print_decimal(STDERR_FILENO, i as u64);
-    io::write_all(STDERR_FILENO, b": longer than 4096 bytes\n");
+    saying::begin();
+    io::write_all(STDERR_FILENO, b"argument ");
+    saying::counted(STDERR_FILENO, i as u64, b": longer than 4096 bytes\n");
     false
 }
 

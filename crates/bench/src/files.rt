@@ -10,6 +10,12 @@ pub struct Held {
     pub bytes: usize,
 }
 
+// What a file is to be, which says for what the room is.
+pub enum Kind {
+    Image,
+    Program,
+}
+
 // One more byte of the file, to see that it has ended.
 fn more(fd: i32) -> isize {
     let mut byte = [0u8; 1];
@@ -17,17 +23,23 @@ fn more(fd: i32) -> isize {
 }
 
 // More bytes than the room has.
-fn too_long(name: &[u8], what: &[u8], room: usize) {
-    io::write_all(STDERR_FILENO, b"bench: ");
+fn too_long(name: &[u8], kind: Kind, room: usize) {
+    saying::begin();
     io::write_all(STDERR_FILENO, name);
     io::write_all(STDERR_FILENO, b": longer than ");
     saying::counted(STDERR_FILENO, room as u64, b" bytes, the room for ");
-    io::write_all(STDERR_FILENO, what);
-    io::write_all(STDERR_FILENO, b"\n");
+    match kind {
+        Kind::Image => {
+            io::write_all(STDERR_FILENO, b"an image\n");
+        }
+        Kind::Program => {
+            io::write_all(STDERR_FILENO, b"a program file\n");
+        }
+    }
 }
 
 // Reads an open file to its end.
-fn fill(fd: i32, name: &[u8], what: &[u8], room: &mut [u8]) -> Held
+fn fill(fd: i32, name: &[u8], kind: Kind, room: &mut [u8]) -> Held
     ensures { λ r. ⌜ Counts (r .bytes) (now (room .exit)) ⌝ }
 {
     let n = io::read_full(fd, room);
@@ -35,7 +47,7 @@ fn fill(fd: i32, name: &[u8], what: &[u8], room: &mut [u8]) -> Held
     if rest < 0 {
         wrong(name, b": cannot be read");
     } else if rest > 0 {
-        too_long(name, what, room.len());
+        too_long(name, kind, room.len());
     }
     Held {
         whole: rest == 0,
@@ -43,8 +55,8 @@ fn fill(fd: i32, name: &[u8], what: &[u8], room: &mut [u8]) -> Held
     }
 }
 
-// Reads the named file. Where it cannot be had whole, the reason is said; `what` is what the room is for.
-pub fn read(name: &[u8], what: &[u8], room: &mut [u8]) -> Held
+// Reads the named file. Where it cannot be had whole, the reason is said.
+pub fn read(name: &[u8], kind: Kind, room: &mut [u8]) -> Held
     ensures { λ r. ⌜ Counts (r .bytes) (now (room .exit)) ⌝ }
 {
     let fd = os::open_read(name);
@@ -55,16 +67,16 @@ pub fn read(name: &[u8], what: &[u8], room: &mut [u8]) -> Held
             bytes: io::count(0, room),
         };
     }
-    let held = fill(fd, name, what, room);
+    let held = fill(fd, name, kind, room);
     libc::close(fd);
     held
 }
 
 // Reads the file that argument i names.
-pub fn read_argument(i: usize, what: &[u8], room: &mut [u8]) -> Held
+pub fn read_argument(i: usize, kind: Kind, room: &mut [u8]) -> Held
     ensures { λ r. ⌜ Counts (r .bytes) (now (room .exit)) ⌝ }
 {
     let mut name = io::buffer();
     let n = os::arg(i, &mut name);
-    read(&name[..n], what, room)
+    read(&name[..n], kind, room)
 }

@@ -2,6 +2,7 @@
 use crate::arguments::same;
 use crate::bases;
 use crate::files;
+use crate::files::Kind;
 use crate::listing;
 use crate::saying;
 use crate::saying::wrong;
@@ -25,47 +26,40 @@ pub fn refused(who: &[u8], file: &[u8], fault: Refusal) {
     saying::refused(STDOUT_FILENO, who, fault, needed(file));
 }
 
+// The same of the file that argument 2 names.
+fn refused_file(file: &[u8], fault: Refusal) {
+    let mut name = io::buffer();
+    let n = os::arg(2, &mut name);
+    refused(&name[..n], file, fault);
+}
+
 // Loads a file and lists it.
-fn load_file(who: &[u8], file: &[u8], bases: &[u32], memory: &mut [u8], work: &mut [u8]) {
+fn load_file(file: &[u8], bases: &[u32], memory: &mut [u8], work: &mut [u8]) {
     let mut table = [0u32; 256];
     let answer = loader::calls::load(file, bases, memory, &mut table, work);
     match answer {
         Answer::Accepted(count, bytes) => listing::program(count, bytes, memory, &table),
-        Answer::Refused(fault) => refused(who, file, fault),
+        Answer::Refused(fault) => refused_file(file, fault),
     }
 }
 
 // Moves a loaded file and lists it.
-fn move_loaded(
-    who: &[u8],
-    file: &[u8],
-    old: &[u32],
-    new: &[u32],
-    memory: &mut [u8],
-    work: &mut [u8],
-) {
+fn move_loaded(file: &[u8], old: &[u32], new: &[u32], memory: &mut [u8], work: &mut [u8]) {
     let mut table = [0u32; 256];
     let answer = loader::calls::move_program(file, old, new, memory, &mut table, work);
     match answer {
         Answer::Accepted(count, bytes) => listing::program(count, bytes, memory, &table),
-        Answer::Refused(fault) => refused(who, file, fault),
+        Answer::Refused(fault) => refused_file(file, fault),
     }
 }
 
 // Loads a file at the old bases, moves it to the new ones and lists it.
-fn move_file(
-    who: &[u8],
-    file: &[u8],
-    old: &[u32],
-    new: &[u32],
-    memory: &mut [u8],
-    work: &mut [u8],
-) {
+fn move_file(file: &[u8], old: &[u32], new: &[u32], memory: &mut [u8], work: &mut [u8]) {
     let mut table = [0u32; 256];
     let answer = loader::calls::load(file, old, memory, &mut table, work);
     match answer {
-        Answer::Accepted(_, _) => move_loaded(who, file, old, new, memory, work),
-        Answer::Refused(fault) => refused(who, file, fault),
+        Answer::Accepted(_, _) => move_loaded(file, old, new, memory, work),
+        Answer::Refused(fault) => refused_file(file, fault),
     }
 }
 
@@ -73,12 +67,10 @@ fn move_file(
 
 // Loads the file that argument 2 names.
 fn load_at(bases: &[u32], room: &mut [u8], memory: &mut [u8], work: &mut [u8]) {
-    let mut name = io::buffer();
-    let k = os::arg(2, &mut name);
-    let held = files::read(&name[..k], b"a program file", room);
+    let held = files::read_argument(2, Kind::Program, room);
     if held.whole {
         let n = held.bytes;
-        load_file(&name[..k], &room[..n], bases, memory, work);
+        load_file(&room[..n], bases, memory, work);
     }
 }
 
@@ -95,12 +87,10 @@ pub fn load(count: usize, room: &mut [u8], memory: &mut [u8], work: &mut [u8]) {
 
 // Moves the file that argument 2 names.
 fn move_at(old: &[u32], new: &[u32], room: &mut [u8], memory: &mut [u8], work: &mut [u8]) {
-    let mut name = io::buffer();
-    let k = os::arg(2, &mut name);
-    let held = files::read(&name[..k], b"a program file", room);
+    let held = files::read_argument(2, Kind::Program, room);
     if held.whole {
         let n = held.bytes;
-        move_file(&name[..k], &room[..n], old, new, memory, work);
+        move_file(&room[..n], old, new, memory, work);
     }
 }
 

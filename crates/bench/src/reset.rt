@@ -1,6 +1,7 @@
 // What the reset pin does, in one go: audit, find, read and load. The first refusal ends it.
 use crate::bases;
 use crate::files;
+use crate::files::Kind;
 use crate::programs;
 use crate::saying::counted;
 use crate::saying::refused;
@@ -63,7 +64,7 @@ fn steps(image: &[u8], bases: &[u32], file: &mut [u8], memory: &mut [u8], work: 
 
 // The same on the image that argument 2 names.
 fn reset_at(bases: &[u32], room: &mut [u8], file: &mut [u8], memory: &mut [u8], work: &mut [u8]) {
-    let held = files::read_argument(2, b"an image", room);
+    let held = files::read_argument(2, Kind::Image, room);
     if held.whole {
         let n = held.bytes;
         steps(&room[..n], bases, file, memory, work);

@@ -13,9 +13,14 @@ pub fn counted(fd: i32, n: u64, after: &[u8]) {
     io::write_all(fd, after);
 }
 
-// Whatever kept the tool from asking: what it is about, and the text behind it.
-pub fn wrong(about: &[u8], text: &[u8]) {
+// The begin of every line on standard error.
+pub fn begin() {
     io::write_all(STDERR_FILENO, b"bench: ");
+}
+
+// What kept the tool from asking: what it is about, and the text behind it.
+pub fn wrong(about: &[u8], text: &[u8]) {
+    begin();
     io::write_all(STDERR_FILENO, about);
     io::write_all(STDERR_FILENO, text);
     io::write_all(STDERR_FILENO, b"\n");

@@ -1,5 +1,7 @@
 // Images: audit, find and read.
 use crate::files;
+use crate::files::Kind;
+use crate::saying;
 use crate::saying::counted;
 use crate::saying::refused;
 use crate::saying::wrong;
@@ -9,6 +11,7 @@ use libc::STDERR_FILENO;
 use libc::STDOUT_FILENO;
 use lookup::find::Found;
 use reading::read::Reading;
+ghost use Rattle.bench.specs.Tallies.{Below, OneMore};
 
 // ---- the calls, and what is said of them; `who` begins the line
 
@@ -80,32 +83,31 @@ pub fn find_path(who: &[u8], image: &[u8], path: &[u8]) -> bool {
 enum Seen {
     Accepted,
     Refused,
-    NotRead,
+    Unread,
 }
 
 // How many images came to what.
 struct Tally {
-    accepted: u64,
-    refused: u64,
-    not_read: u64,
-}
-
-// One more. There are fewer arguments than these numbers can count, so nothing wraps.
-fn plus(n: u64) -> u64 {
-    std::num::wrapping_add_u64(n, 1)
+    accepted: usize,
+    refused: usize,
+    unread: usize,
 }
 
 impl Tally {
-    fn with(mut self, seen: Seen) -> Tally {
+    // One image more.
+    fn with(mut self, seen: Seen) -> Tally
+        requires { ⌜ Below self 18446744073709551615 ⌝ }
+        ensures { λ r. ⌜ OneMore self r ⌝ }
+    {
         match seen {
             Seen::Accepted => {
-                self.accepted = plus(self.accepted);
+                self.accepted += 1;
             }
             Seen::Refused => {
-                self.refused = plus(self.refused);
+                self.refused += 1;
             }
-            Seen::NotRead => {
-                self.not_read = plus(self.not_read);
+            Seen::Unread => {
+                self.unread += 1;
             }
         }
         self
@@ -114,9 +116,9 @@ impl Tally {
 
 // Audits the image of this name.
 fn audit_named(name: &[u8], room: &mut [u8]) -> Seen {
-    let held = files::read(name, b"an image", room);
+    let held = files::read(name, Kind::Image, room);
     if !held.whole {
-        return Seen::NotRead;
+        return Seen::Unread;
     }
     let n = held.bytes;
     if audit_image(name, &room[..n]) {
@@ -137,7 +139,7 @@ fn audit_each(count: usize, room: &mut [u8]) -> Tally {
     let mut tally = Tally {
         accepted: 0,
         refused: 0,
-        not_read: 0,
+        unread: 0,
     };
     let mut i: usize = 2;
     while i < count {
@@ -149,9 +151,9 @@ fn audit_each(count: usize, room: &mut [u8]) -> Tally {
 
 fn summary(images: usize, tally: Tally) {
     counted(STDOUT_FILENO, images as u64, b" images: ");
-    counted(STDOUT_FILENO, tally.accepted, b" accepted, ");
-    counted(STDOUT_FILENO, tally.refused, b" refused, ");
-    counted(STDOUT_FILENO, tally.not_read, b" not read\n");
+    counted(STDOUT_FILENO, tally.accepted as u64, b" accepted, ");
+    counted(STDOUT_FILENO, tally.refused as u64, b" refused, ");
+    counted(STDOUT_FILENO, tally.unread as u64, b" not read\n");
 }
 
 pub fn audit_images(count: usize, room: &mut [u8]) {
@@ -185,7 +187,7 @@ pub fn find_paths(count: usize, room: &mut [u8]) {
     if count < 4 {
         return wrong(b"find", b" needs an IMAGE and a PATH");
     }
-    let held = files::read_argument(2, b"an image", room);
+    let held = files::read_argument(2, Kind::Image, room);
     if held.whole {
         let n = held.bytes;
         find_each(count, &room[..n]);
@@ -200,7 +202,7 @@ fn read_path(image: &[u8], path: &[u8], output: &mut [u8]) {
             io::write_all(STDOUT_FILENO, &output[..n]);
         }
         Reading::Refused(fault) => {
-            io::write_all(STDERR_FILENO, b"bench: ");
+            saying::begin();
             refused(STDERR_FILENO, path, fault, 0);
         }
     }
@@ -217,7 +219,7 @@ pub fn read_file(count: usize, room: &mut [u8], output: &mut [u8]) {
     if count != 4 {
         return wrong(b"read", b" needs an IMAGE and one PATH");
     }
-    let held = files::read_argument(2, b"an image", room);
+    let held = files::read_argument(2, Kind::Image, room);
     if held.whole {
         let n = held.bytes;
         read_argument(&room[..n], output);

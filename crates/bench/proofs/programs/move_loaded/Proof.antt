@@ -22,8 +22,8 @@ program-requires c κs = (search (needs, move-fits) depth 7, search (needs, move
 enum-known-answer-2 : tie.Need-enum-known-answer-2
 enum-known-answer-2 c = search needs
 
-refused-requires : tie.Need-refused-requires
-refused-requires c κs = search needs
+refused-file-requires : tie.Need-refused-file-requires
+refused-file-requires c κs = search needs
 
 same-length : tie.Need-same-length
 same-length c = search needs
@@ -53,7 +53,7 @@ move-loaded-spec =
     slice-aggregate-program
     program-requires
     enum-known-answer-2
-    refused-requires
+    refused-file-requires
     same-length
     same-length-2
     returns

@@ -3,11 +3,12 @@ use Prim.Native.Nat.{_-_}
 use mathlib.Core.Path.{_≡_}
 use borrow.Author.Needs.{needs}
 use lib.ListN.{length}
+use Rattle.bench.specs.Tallies.{Below}
 use Rattle.bench.proofs.volumes.audit_each.Statement.{statement}
 use Rattle.bench.proofs.volumes.audit_each.Tie as tie
 
 abbrev Inv-loop : tie.InvT-loop
-Inv-loop count room₀ tally₀ i₀ room tally i = length room ≡ length room₀
+Inv-loop count room₀ tally₀ i₀ room tally i = (length room ≡ length room₀) × (Below tally i)
 
 abbrev μ-loop : tie.MeasureT-loop
 μ-loop count room₀ tally₀ i₀ room tally i = count - i

@@ -22,11 +22,8 @@ write-all-requires c κs = search needs
 enum-known-reading-2 : tie.Need-enum-known-reading-2
 enum-known-reading-2 c = search needs
 
-slice-aggregate-write-all-2 : tie.Need-slice-aggregate-write-all-2
-slice-aggregate-write-all-2 c = search needs
-
-write-all-requires-2 : tie.Need-write-all-requires-2
-write-all-requires-2 c κs = search needs
+begin-requires : tie.Need-begin-requires
+begin-requires c κs = search needs
 
 refused-requires : tie.Need-refused-requires
 refused-requires c κs = search needs
@@ -53,8 +50,7 @@ read-path-spec =
     slice-aggregate-write-all
     write-all-requires
     enum-known-reading-2
-    slice-aggregate-write-all-2
-    write-all-requires-2
+    begin-requires
     refused-requires
     same-length
     returns
