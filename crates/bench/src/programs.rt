@@ -4,6 +4,7 @@ use crate::bases;
 use crate::files;
 use crate::files::Kind;
 use crate::listing;
+use crate::rooms;
 use crate::saying;
 use crate::saying::wrong;
 use answers::Refusal;
@@ -35,7 +36,7 @@ fn refused_file(file: &[u8], fault: Refusal) {
 
 // Loads a file and lists it.
 fn load_file(file: &[u8], bases: &[u32], memory: &mut [u8], work: &mut [u8]) {
-    let mut table = [0u32; 256];
+    let mut table = rooms::table();
     let answer = loader::calls::load(file, bases, memory, &mut table, work);
     match answer {
         Answer::Accepted(count, bytes) => listing::program(count, bytes, memory, &table),
@@ -45,7 +46,7 @@ fn load_file(file: &[u8], bases: &[u32], memory: &mut [u8], work: &mut [u8]) {
 
 // Moves a loaded file and lists it.
 fn move_loaded(file: &[u8], old: &[u32], new: &[u32], memory: &mut [u8], work: &mut [u8]) {
-    let mut table = [0u32; 256];
+    let mut table = rooms::table();
     let answer = loader::calls::move_program(file, old, new, memory, &mut table, work);
     match answer {
         Answer::Accepted(count, bytes) => listing::program(count, bytes, memory, &table),
@@ -55,7 +56,7 @@ fn move_loaded(file: &[u8], old: &[u32], new: &[u32], memory: &mut [u8], work: &
 
 // Loads a file at the old bases, moves it to the new ones and lists it.
 fn move_file(file: &[u8], old: &[u32], new: &[u32], memory: &mut [u8], work: &mut [u8]) {
-    let mut table = [0u32; 256];
+    let mut table = rooms::table();
     let answer = loader::calls::load(file, old, memory, &mut table, work);
     match answer {
         Answer::Accepted(_, _) => move_loaded(file, old, new, memory, work),
@@ -78,7 +79,7 @@ pub fn load(count: usize, room: &mut [u8], memory: &mut [u8], work: &mut [u8]) {
     if count < 4 {
         return wrong(b"load", b" needs a FILE and a BASE for each hunk");
     }
-    let mut list = [0u32; 256];
+    let mut list = rooms::bases();
     let n = bases::list(3, count, &mut list);
     if n > 0 {
         load_at(&list[..n], room, memory, work);
@@ -119,8 +120,8 @@ fn middle(last: usize) -> usize
 fn move_around(at: usize, count: usize, room: &mut [u8], memory: &mut [u8], work: &mut [u8])
     requires { ⌜ (4 ≤ at) × (at + 1 < count) ⌝ }
 {
-    let mut old = [0u32; 256];
-    let mut new = [0u32; 256];
+    let mut old = rooms::bases();
+    let mut new = rooms::bases();
     let n = bases::list(3, at, &mut old);
     if n == 0 {
         return;

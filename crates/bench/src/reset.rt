@@ -3,6 +3,7 @@ use crate::bases;
 use crate::files;
 use crate::files::Kind;
 use crate::programs;
+use crate::rooms;
 use crate::saying::counted;
 use crate::saying::refused;
 use crate::saying::wrong;
@@ -24,7 +25,7 @@ fn loaded(count: u32, bytes: usize) {
 
 // The last step: the program.
 fn load(file: &[u8], bases: &[u32], memory: &mut [u8], work: &mut [u8]) {
-    let mut table = [0u32; 256];
+    let mut table = rooms::table();
     let answer = loader::calls::load(file, bases, memory, &mut table, work);
     match answer {
         Answer::Accepted(count, bytes) => loaded(count, bytes),
@@ -78,7 +79,7 @@ pub fn reset(count: usize, room: &mut [u8], file: &mut [u8], memory: &mut [u8], 
             b" needs an IMAGE, a PATH and a BASE for each hunk",
         );
     }
-    let mut list = [0u32; 256];
+    let mut list = rooms::bases();
     let n = bases::list(4, count, &mut list);
     if n > 0 {
         reset_at(&list[..n], room, file, memory, work);

@@ -11,6 +11,12 @@ const FILE: usize = 1048576;
 // Memory for a program, and as much for the work area.
 pub const MEMORY: usize = 1048576;
 
+// The longest list of bases.
+const BASES: usize = 256;
+
+// The numbers of a table: four for each of 64 records.
+const TABLE: usize = 256;
+
 pub fn image() -> [u8; IMAGE]
     ensures { λ r. ⌜ 1802240 ≡ length r ⌝ }
 {
@@ -27,4 +33,16 @@ pub fn memory() -> [u8; MEMORY]
     ensures { λ r. ⌜ 1048576 ≡ length r ⌝ }
 {
     [0; MEMORY]
+}
+
+pub fn bases() -> [u32; BASES]
+    ensures { λ r. ⌜ 256 ≡ length r ⌝ }
+{
+    [0; BASES]
+}
+
+pub fn table() -> [u32; TABLE]
+    ensures { λ r. ⌜ 256 ≡ length r ⌝ }
+{
+    [0; TABLE]
 }

@@ -4,6 +4,9 @@ use Rattle.bench.proofs.Lent.{load-fits, load-records}
 use Rattle.bench.proofs.programs.load_file.Statement.{statement}
 use Rattle.bench.proofs.programs.load_file.Tie as tie
 
+table-requires : tie.Need-table-requires
+table-requires c κs = search needs
+
 slice-aggregate-load : tie.Need-slice-aggregate-load
 slice-aggregate-load c = search needs
 
@@ -47,6 +50,7 @@ pub load-file-spec : {M : Type 1} → statement M
 load-file-spec =
     tie.close
     (tie.spec
+    table-requires
     slice-aggregate-load
     load-requires
     enum-known-answer

@@ -4,6 +4,9 @@ use Rattle.bench.proofs.Lent.{move-fits, move-records}
 use Rattle.bench.proofs.programs.move_loaded.Statement.{statement}
 use Rattle.bench.proofs.programs.move_loaded.Tie as tie
 
+table-requires : tie.Need-table-requires
+table-requires c κs = search needs
+
 slice-aggregate-move-program : tie.Need-slice-aggregate-move-program
 slice-aggregate-move-program c = search needs
 
@@ -47,6 +50,7 @@ pub move-loaded-spec : {M : Type 1} → statement M
 move-loaded-spec =
     tie.close
     (tie.spec
+    table-requires
     slice-aggregate-move-program
     move-program-requires
     enum-known-answer
