@@ -1,0 +1,253 @@
+//! What is measured: calls on inputs drawn from fixed seeds, each made by the Rattle library and by the Rust of
+//! compare/. Where a case is made, both are called once and have to give the same.
+
+use std::rc::Rc;
+
+use compare::disk::Disk;
+use compare::programs::{bytes, file, worked_file, Block, Body, Hunk, Program};
+use compare::rng::Rng;
+use compare::volumes::{chain, full, mixed, Filling, Kind, Order, Plan, Style, Volume};
+use compare::words::{sum, BLOCK_BYTES};
+use compare::{audit, loader, reading};
+
+use crate::rattle;
+
+const DISK: Disk = Disk::FLOPPY;
+
+/// One of several ways to do the same.
+pub struct Side {
+    pub name: &'static str,
+    pub run: Box<dyn FnMut()>,
+}
+
+fn side(name: &'static str, run: impl FnMut() + 'static) -> Side {
+    Side { name, run: Box::new(run) }
+}
+
+/// Something to measure: Rattle first, Rust second.
+pub struct Case {
+    pub name: String,
+    pub sides: Vec<Side>,
+}
+
+fn style(order: Order) -> Style {
+    Style { filling: Filling::Random, order }
+}
+
+fn image(rng: &mut Rng, plan: &Plan) -> Vec<u8> {
+    Volume::new(rng, &DISK, plan, style(Order::Shuffled)).image
+}
+
+/// Images with no free block.
+pub fn full_images(count: usize) -> Vec<Vec<u8>> {
+    let mut rng = Rng::new(1);
+    let mut one = || {
+        let plan = full(&mut rng, &DISK);
+        image(&mut rng, &plan)
+    };
+    (0..count).map(|_| one()).collect()
+}
+
+/// An image of which so many blocks are in use, at least 2.
+pub fn filled_image(used: u32) -> Vec<u8> {
+    let mut rng = Rng::new(2);
+    let plan = mixed(&mut rng, &DISK, used - 2);
+    image(&mut rng, &plan)
+}
+
+/// An image with so many entries, all on one chain.
+pub fn chain_image(length: u32) -> Vec<u8> {
+    let mut rng = Rng::new(3);
+    let plan = chain(&mut rng, length);
+    image(&mut rng, &plan)
+}
+
+/// The largest file that a disk can hold, as `big`, and its size.
+pub fn big_file(order: Order) -> (Vec<u8>, usize) {
+    let size = 1_731 * DISK.data_bytes();
+    let mut plan = Plan::default();
+    plan.add_named(None, b"big", Kind::File(size));
+    (Volume::new(&mut Rng::new(4), &DISK, &plan, style(order)).image, size as usize)
+}
+
+/// A program of 8 hunks with 32,768 stored words and so many targets each, its bases, and others.
+pub fn program(targets: u32) -> (Vec<u8>, Vec<u32>, Vec<u32>) {
+    const HUNKS: u32 = 8;
+    const WORDS: u32 = 32_768;
+    let mut rng = Rng::new(5);
+    let hunk = |rng: &mut Rng| {
+        let stored = (0..WORDS).map(|_| rng.draw() as u32).collect();
+        // evenly spread, the first group of offsets at multiples of 4 and the others not
+        let offsets: Vec<u32> =
+            (0..targets).map(|i| (u64::from(i) * u64::from(WORDS - 1) / u64::from(targets)) as u32 * 4).collect();
+        let group = |k: u32| {
+            let part = offsets.iter().enumerate().filter(|(i, _)| *i as u32 % HUNKS == k);
+            (k, part.map(|(_, &offset)| offset).collect::<Vec<u32>>())
+        };
+        let groups = (0..HUNKS).map(group).filter(|(_, offsets)| !offsets.is_empty()).collect();
+        Hunk { size: WORDS, name: None, body: Body::Code(stored), blocks: vec![Block::Relocations(groups)] }
+    };
+    let hunks = (0..HUNKS).map(|_| hunk(&mut rng)).collect();
+    let bases = |first: u32| (0..HUNKS).map(|k| first + k * 4 * WORDS).collect();
+    (file(&Program { hunks }.written()), bases(0x10_0000), bases(0x84_0000))
+}
+
+/// A program of one hunk of 65,536 words, nothing stored and no targets: what is left is clearing.
+pub fn bss_program() -> Vec<u8> {
+    bytes(&[0x3F3, 0, 1, 0, 0, 65_536, 0x3EB, 65_536, 0x3F2])
+}
+
+/// Audits all images, one after the other.
+pub fn audits(name: &str, images: Vec<Vec<u8>>) -> Case {
+    let images = Rc::new(images);
+    for image in images.iter() {
+        let (mut ours, mut theirs) = (vec![0xAA; 1_760], vec![0x55; 1_760]);
+        let answer = rattle::audit(image, &mut ours);
+        let wanted = audit::audit(&DISK, image, &mut theirs).expect("a volume");
+        let numbers =
+            [wanted.directories, wanted.files, wanted.list_blocks, wanted.data_blocks, wanted.used, wanted.free];
+        let given =
+            [answer.directories, answer.files, answer.list_blocks, answer.data_blocks, answer.used, answer.free];
+        assert_eq!((answer.number, given), (0, numbers));
+        assert_eq!(ours, theirs);
+    }
+    let (first, second, third) = (images.clone(), images.clone(), images);
+    let (mut ours, mut theirs) = (vec![0; 1_760], vec![0; 1_760]);
+    let sides = vec![
+        side("Rattle", move || {
+            for image in first.iter() {
+                assert_eq!(rattle::audit(image, &mut ours).number, 0);
+            }
+        }),
+        side("Rust", move || {
+            for image in second.iter() {
+                assert!(audit::audit(&DISK, image, &mut theirs).is_ok());
+            }
+        }),
+        side("sums alone, in Rust", move || {
+            for image in third.iter() {
+                let blocks = image.chunks_exact(BLOCK_BYTES);
+                std::hint::black_box(blocks.map(sum).fold(0, |all, one| all ^ one));
+            }
+        }),
+    ];
+    Case { name: name.to_string(), sides }
+}
+
+/// Reads `big` whole.
+pub fn reads(name: &str, (image, size): (Vec<u8>, usize)) -> Case {
+    let image = Rc::new(image);
+    let (mut ours, mut theirs) = (vec![0; size], vec![0; size]);
+    let answer = rattle::read(&image, b"big", 0, &mut ours);
+    assert_eq!((answer.number, answer.count), (0, size));
+    assert_eq!(reading::read(&DISK, &image, b"big", 0, &mut theirs), Ok(size));
+    assert_eq!(ours, theirs);
+    let other = image.clone();
+    let sides = vec![
+        side("Rattle", move || assert_eq!(rattle::read(&image, b"big", 0, &mut ours).count, size)),
+        side("Rust", move || assert_eq!(reading::read(&DISK, &other, b"big", 0, &mut theirs), Ok(size))),
+    ];
+    Case { name: name.to_string(), sides }
+}
+
+/// Lent areas of 8 hunks with 32,768 words each.
+struct Areas {
+    memory: Vec<u8>,
+    table: Vec<[u32; 4]>,
+    work: Vec<u8>,
+}
+
+impl Areas {
+    fn new() -> Areas {
+        Areas { memory: vec![0x55; 1 << 20], table: vec![[0; 4]; 64], work: vec![0xAA; 1 << 20] }
+    }
+
+    fn ours(&mut self) -> rattle::Lent<'_> {
+        rattle::Lent { memory: &mut self.memory, table: &mut self.table, work: &mut self.work }
+    }
+
+    fn theirs(&mut self) -> loader::Lent<'_> {
+        loader::Lent { memory: &mut self.memory, table: self.table.as_flattened_mut(), work: &mut self.work }
+    }
+
+    fn hold(&self, other: &Areas) {
+        assert!(self.memory == other.memory && self.table == other.table && self.work == other.work);
+    }
+}
+
+/// Loads a program.
+pub fn loads(name: &str, file: Vec<u8>, bases: Vec<u32>) -> Case {
+    let given = Rc::new((file, bases));
+    let (mut ours, mut theirs) = (Areas::new(), Areas::new());
+    let (file, bases) = (&given.0, &given.1);
+    assert_eq!(rattle::load(file, bases, ours.ours()).number, 0);
+    assert!(loader::load(file, bases, theirs.theirs()).is_ok());
+    ours.hold(&theirs);
+    let (first, second) = (given.clone(), given);
+    let sides = vec![
+        side("Rattle", move || assert_eq!(rattle::load(&first.0, &first.1, ours.ours()).number, 0)),
+        side("Rust", move || assert!(loader::load(&second.0, &second.1, theirs.theirs()).is_ok())),
+    ];
+    Case { name: name.to_string(), sides }
+}
+
+/// Moves a program; any memory will do.
+pub fn moves(name: &str, file: Vec<u8>, old: Vec<u32>, new: Vec<u32>) -> Case {
+    let given = Rc::new((file, old, new));
+    let (mut ours, mut theirs) = (Areas::new(), Areas::new());
+    let (file, old, new) = (&given.0, &given.1, &given.2);
+    assert_eq!(rattle::relocate(file, old, new, ours.ours()).number, 0);
+    assert!(loader::relocate(file, old, new, theirs.theirs()).is_ok());
+    ours.hold(&theirs);
+    let (first, second) = (given.clone(), given);
+    let sides = vec![
+        side("Rattle", move || assert_eq!(rattle::relocate(&first.0, &first.1, &first.2, ours.ours()).number, 0)),
+        side("Rust", move || assert!(loader::relocate(&second.0, &second.1, &second.2, theirs.theirs()).is_ok())),
+    ];
+    Case { name: name.to_string(), sides }
+}
+
+/// The cases of the main table.
+pub fn main_cases() -> Vec<Case> {
+    let (file, old, new) = program(4_096);
+    vec![
+        audits("audit of a hundred full images", full_images(100)),
+        audits("audit of one full image", full_images(1)),
+        reads("read of a file of 844,728 bytes, blocks in any order", big_file(Order::Shuffled)),
+        reads("read of a file of 844,728 bytes, blocks in order", big_file(Order::Rising)),
+        loads("load of 1 MiB with 32,768 targets", file.clone(), old.clone()),
+        moves("move of 1 MiB with 32,768 targets", file, old, new),
+        loads("load of 256 KiB with nothing stored", bss_program(), vec![0]),
+        loads("load of the manual's program, 148 bytes, room of 1 MiB", worked_file(), vec![0x3000, 0x7000]),
+    ]
+}
+
+/// A case for counting instructions, by a short name.
+pub fn case_named(name: &str) -> Option<Case> {
+    let (file, old, new) = program(4_096);
+    Some(match name {
+        "audit" => audits(name, full_images(1)),
+        "chain" => audits(name, vec![chain_image(1_756)]),
+        "read" => reads(name, big_file(Order::Shuffled)),
+        "load" => loads(name, file, old),
+        "move" => moves(name, file, old, new),
+        _ => return None,
+    })
+}
+
+/// The cases of each growing number: what grows, to how much, and the case.
+pub fn growing() -> Vec<(&'static str, u32, Case)> {
+    let mut all = Vec::new();
+    for used in [2, 220, 440, 660, 880, 1_100, 1_320, 1_540, 1_758] {
+        all.push(("used blocks", used, audits("audit", vec![filled_image(used)])));
+    }
+    for length in [1, 4, 16, 64, 128, 256, 512, 1_024, 1_756] {
+        all.push(("entries on one chain", length, audits("audit", vec![chain_image(length)])));
+    }
+    for targets in [0, 512, 1_024, 2_048, 4_096, 8_192, 16_384] {
+        let (file, old, new) = program(targets);
+        all.push(("targets, load", 8 * targets, loads("load", file.clone(), old.clone())));
+        all.push(("targets, move", 8 * targets, moves("move", file, old, new)));
+    }
+    all
+}

@@ -1,0 +1,77 @@
+//! Measures the Rattle library against the Rust of compare/. See the README here.
+
+mod cases;
+mod plot;
+mod rattle;
+
+use std::time::{Duration, Instant};
+
+use cases::Case;
+
+/// How long a measured stretch should take at least, in which a short call is made many times.
+const STRETCH: Duration = Duration::from_millis(5);
+
+fn timed(run: &mut dyn FnMut(), times: u32) -> Duration {
+    let start = Instant::now();
+    (0..times).for_each(|_| run());
+    start.elapsed()
+}
+
+/// The least time of each side over some rounds, in nanoseconds a call; in a round every side has its turn.
+fn least(case: &mut Case, rounds: u32) -> Vec<f64> {
+    let times: Vec<u32> = case
+        .sides
+        .iter_mut()
+        .map(|side| (STRETCH.as_nanos() / timed(&mut side.run, 1).as_nanos().max(1)) as u32 + 1)
+        .collect();
+    let mut least = vec![f64::INFINITY; times.len()];
+    for _ in 0..rounds {
+        for (index, side) in case.sides.iter_mut().enumerate() {
+            let spent = timed(&mut side.run, times[index]).as_nanos() as f64 / f64::from(times[index]);
+            least[index] = least[index].min(spent);
+        }
+    }
+    least
+}
+
+fn main_table() {
+    println!("| call | Rattle | Rust | Rattle / Rust |");
+    println!("|---|---|---|---|");
+    let micro = |time: f64| format!("{:.0} µs", time / 1e3);
+    for mut case in cases::main_cases() {
+        let least = least(&mut case, 25);
+        println!("| {} | {} | {} | {:.2} |", case.name, micro(least[0]), micro(least[1]), least[0] / least[1]);
+        for (side, time) in case.sides.iter().zip(&least).skip(2) {
+            println!("| ({}) | | {} | |", side.name, micro(*time));
+        }
+    }
+}
+
+fn growth() {
+    println!("what,number,rattle_ns,rust_ns");
+    for (what, number, mut case) in cases::growing() {
+        let least = least(&mut case, 25);
+        println!("{what},{number},{:.0},{:.0}", least[0], least[1]);
+    }
+}
+
+/// Makes one call so many times, for a counter of instructions: two runs differ by what the further calls take.
+fn repeat(name: &str, side: &str, times: &str) -> Option<()> {
+    let mut case = cases::case_named(name)?;
+    let side = case.sides.iter_mut().find(|one| one.name.eq_ignore_ascii_case(side))?;
+    (0..times.parse().ok()?).for_each(|_| (side.run)());
+    Some(())
+}
+
+fn main() {
+    let words: Vec<String> = std::env::args().skip(1).collect();
+    match &words.iter().map(String::as_str).collect::<Vec<&str>>()[..] {
+        ["time"] => main_table(),
+        ["growth"] => growth(),
+        ["plot", file] => print!("{}", plot::plot(&std::fs::read_to_string(file).expect("a file of numbers"))),
+        ["repeat", name, side, times] if repeat(name, side, times).is_some() => {}
+        _ => {
+            eprintln!("benchmarks time | growth | plot FILE | repeat audit|chain|read|load|move Rattle|Rust TIMES")
+        }
+    }
+}
