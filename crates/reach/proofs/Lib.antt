@@ -1,4 +1,4 @@
--- That the walk decides the law. The theorems are `accepts`, `report`, `why` and `law-bare`.
+-- That the walk decides the law. The theorems are `accepts`, `report`, `why`, `refused-first` and `law-bare`.
 
 -- facts on lists: places, membership, nothing twice
 pub mod Lists
@@ -20,5 +20,7 @@ pub mod Accepts
 pub mod Reports
 -- `why`: a refusal has a cause
 pub mod Refuses
+-- `refused-first`: a refusal is the first node that fails, and its number
+pub mod Firsts
 -- `law-bare`: the same law, of nodes that carry less
 pub mod Bare
