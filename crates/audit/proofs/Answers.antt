@@ -16,6 +16,7 @@ use Rattle.walk.specs.declared.Counts.{Counts}
 use Rattle.walk.specs.Nodes.{walkOf}
 use Rattle.walk.proofs.Accepts.{accepted-lawful}
 use Rattle.walk.proofs.Reports.{walked-report}
+use Rattle.walk.proofs.Refuses.{refused-first}
 use Rattle.audit.specs.declared.bitmap.Mapped.{Mapped}
 use Rattle.audit.specs.declared.bitmap.Mapped.the-variants.{Right, Wrong}
 use Rattle.audit.specs.declared.audit.Report.{Report}
@@ -62,7 +63,10 @@ module _ (d : Disk) (s : List ℕ) (n : ℕ) where
 
       go : (u : Outcome Counts) → walkOf d s ≡ u → Answers (walked d s u)
       go (done c m) e = says c m e (bitsOf d s (pageOf d s) c) refl
-      go (refused v k) e = let l = walk-number d s v k e in rw (by-walk v (l .0) (l .1)) (o, e)
+      go (refused v k) e =
+          let w = refused-first d s v k .0 e in
+          let l = walk-number d s v k w in
+          rw (by-walk v (l .0) (l .1)) (o, w)
 
   answers : Answers (auditOf d s n)
   unfolding auditOf pick
@@ -86,7 +90,7 @@ module _ (d : Disk) (s : List ℕ) (n : ℕ) where
   refuses v k size e (q, l) = rw (ne-eqb (length s) (imageBytes d) l) (ap₂ refuse (sym e) (sym q))
   refuses v k area e (q, l, h) = rw (eq-eqb (length s) (imageBytes d) l, lt-ltb n (claimBytes d) h) (ap₂ refuse (sym e) (sym q))
   refuses v k tag e (q, l, h, t) = rw (eq-eqb (length s) (imageBytes d) l, le-ltb n (claimBytes d) h, ne-eqb (wordAt s 0) (tagOf d) t) (ap₂ refuse (sym e) (sym q))
-  refuses v k walk e (o, w) = opens o (refused v k) w
+  refuses v k walk e (o, w) = opens o (refused v k) (refused-first d s v k .1 w)
   refuses v k bits e (o, h, w) =
       let t = through d s (accepted-lawful d s .1 h) in
       opens o (done (t .0) (t .1)) (t .2) ∙ ap (mapped (t .1)) (bits-wrong d s (t .0) (t .1) (walked-report d s (t .0) (t .1) (t .2)) k .1 w) ∙ ap (λ (u : ℕ). refuse u k) (sym e)

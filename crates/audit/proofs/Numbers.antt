@@ -1,20 +1,18 @@
 -- The numbers of refusals: the walk's are 4 to 16 (`walk-number`), and each test knows its own (`numbered`, `by-walk`). Assumes nothing.
-use Prim.Native.Nat.{ℕ, zero, suc, _≤_, _<_}
+use Prim.Native.Nat.{ℕ, zero, suc, _≤_}
 use mathlib.Core.Path.{_≡_, refl, subst}
-use mathlib.Core.Logic.{_≢_, _⊎_, inl, inr}
+use mathlib.Core.Logic.{_≢_}
 use mathlib.Core.Bool.{Bool, true, false}
 use mathlib.Core.List.{List}
 use native.Mathlib.Omega.{arith}
 use lib.Dec.{T, eqb, leb, leb→le}
 use borrow.Author.Tests.{eqb-true, ne-eqb}
 use Rattle.answers.specs.Tests.{pick, must, never, first}
-use Rattle.reach.specs.Walk.{refused}
-use Rattle.reach.specs.Law.{Twice}
+use Rattle.reach.specs.Visits.{Judged, early, twice, late}
 use Rattle.volume.specs.declared.disk.Disk.{Disk}
-use Rattle.volume.specs.Disks.{firstKey}
 use Rattle.volume.specs.Rules.{rootFault, mapFault, bitmapFault, entryFault, fileFault, listFault, dataFault}
-use Rattle.walk.specs.Nodes.{Node, root, bitmap, entry, list, datum, hangsFault, faultOf, graph, walkOf}
-use Rattle.walk.proofs.Refuses.{refused-why}
+use Rattle.walk.specs.Nodes.{Node, root, bitmap, entry, list, datum, hangsFault, faultOf, graph}
+use Rattle.walk.specs.Refusals.{FirstRefusal}
 use Rattle.audit.specs.Verdicts.{Test, size, area, tag, walk, bits, testOf}
 
 -- what a list of the walk's tests gives
@@ -91,13 +89,13 @@ module _ (d : Disk) (s : List ℕ) where
   fault-given (list k h m c) = list-given k h _
   fault-given (datum k h n c) = data-given k h _ n _
 
-  pub walk-number : (v k : ℕ) → walkOf d s ≡ refused v k → (4 ≤ v) × (v ≤ 16)
-  walk-number v k e = let w = refused-why d s v k e in go (w .node) (w .cause)
+  pub walk-number : (v k : ℕ) → FirstRefusal d s v k → (4 ≤ v) × (v ≤ 16)
+  walk-number v k w = go (w .fails) .bounds (w .refuses)
     where
-      go : (n : Node) → ((v ≡ 5) × ((k < firstKey) ⊎ (d .blocks ≤ k))) ⊎ ((v ≡ 6) × Twice (graph d s) k) ⊎ ((v ≢ 0) × (faultOf d s n ≡ v)) → (4 ≤ v) × (v ≤ 16)
-      go n (inl h) = let z = h .0 in (omega arith, omega arith)
-      go n (inr (inl h)) = let z = h .0 in (omega arith, omega arith)
-      go n (inr (inr h)) = subst Given (h .1) (fault-given n) .bounds (h .0)
+      go : Judged (graph d s) (w .seen) (w .node) v → Given v
+      go (early b h) = subst Given b (must-given 5 tt tt _)
+      go (twice b m t) = subst Given t (some 6 tt tt)
+      go (late b m a) = subst Given a (fault-given (w .node))
 
 -- ---- a test's number
 

@@ -8,12 +8,10 @@ use native.Mathlib.Omega.{arith}
 use lib.ListN.{length}
 use Rattle.answers.specs.Tests.{pick}
 use Rattle.words.specs.Word.{wordAt}
-use Rattle.reach.specs.Walk.{refused}
 use Rattle.volume.specs.declared.disk.Disk.{Disk}
 use Rattle.volume.specs.Disks.{imageBytes, claimBytes, tagOf}
-use Rattle.walk.specs.Nodes.{walkOf}
-use Rattle.walk.specs.Reports.{Refused as RefusedAt}
-use Rattle.walk.proofs.Refuses.{refused-why}
+use Rattle.walk.specs.Refusals.{FirstRefusal, Refused}
+use Rattle.walk.proofs.Refuses.{refused-first, refused-why}
 use Rattle.audit.specs.Audits.{refuse, auditOf}
 use Rattle.audit.specs.Verdicts.{FirstWrong, Opened, Sound, Test, size, area, tag, walk, bits, testOf, Says}
 use Rattle.audit.proofs.Answers.{answers-exactly}
@@ -35,11 +33,11 @@ module _ (d : Disk) (s : List ℕ) (n v k : ℕ) where
 
   -- 4 to 16 are the walk's, and have a cause
   module _ (l : 4 ≤ v) (h : v ≤ 16) where
-    pub refused-walk : (auditOf d s n ≡ refuse v k) ↔ (Opened d s n × (walkOf d s ≡ refused v k))
+    pub refused-walk : (auditOf d s n ≡ refuse v k) ↔ (Opened d s n × FirstRefusal d s v k)
     refused-walk = subst (λ (t : Test). (auditOf d s n ≡ refuse v k) ↔ Says d s n v k t) (by-walk v l h) refused-exactly
 
-    pub refused-cause : auditOf d s n ≡ refuse v k → RefusedAt d s v k
-    refused-cause r = refused-why d s v k (refused-walk .0 r .1)
+    pub refused-cause : auditOf d s n ≡ refuse v k → Refused d s v k
+    refused-cause r = refused-why d s v k (refused-first d s v k .1 (refused-walk .0 r .1))
 
 -- ---- each number by itself
 

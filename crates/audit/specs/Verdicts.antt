@@ -10,15 +10,15 @@ use lib.ListN.{length, getD}
 use Rattle.answers.specs.Tests.{pick}
 use Rattle.words.specs.Word.{wordAt}
 use Rattle.reach.specs.References.{_∈_, Uniq, Reached, Owned}
-use Rattle.reach.specs.Walk.{refused}
 use Rattle.reach.specs.Law.{Fine}
 use Rattle.volume.specs.declared.disk.Disk.{Disk}
 use Rattle.volume.specs.Disks.{firstKey, bitSpan, imageBytes, claimBytes, tagOf, rootOf}
 use Rattle.volume.specs.Blocks.{wordOf}
 use Rattle.volume.specs.Bitmap.{isFree}
 use Rattle.volume.specs.References.{Ref, references}
-use Rattle.walk.specs.Nodes.{graph, walkOf}
+use Rattle.walk.specs.Nodes.{graph}
 use Rattle.walk.specs.Reports.{count, isDirectory, isFile, isList, isData, Used}
+use Rattle.walk.specs.Refusals.{FirstRefusal}
 use Rattle.audit.specs.declared.audit.Report.{Report}
 
 -- the key of the bitmap block
@@ -88,10 +88,10 @@ pub data Test : Type 0 where
 abbrev pub testOf : ℕ → Test
 testOf v = pick (eqb v 1) size (pick (eqb v 2) area (pick (eqb v 3) tag (pick (eqb v 17) bits walk)))
 
--- of an image s and a claim area of n bytes: what it says that a test refuses with v at k. Of the walk, `Refused` of crate `walk` says more
+-- of an image s and a claim area of n bytes: what it says that a test refuses with v at k
 abbrev pub Says : Disk → List ℕ → ℕ → ℕ → ℕ → Test → Type 0
 Says d s n v k size = (k ≡ 0) × (length s ≢ imageBytes d)
 Says d s n v k area = (k ≡ 0) × (length s ≡ imageBytes d) × (n < claimBytes d)
 Says d s n v k tag = (k ≡ 0) × (length s ≡ imageBytes d) × (claimBytes d ≤ n) × (wordAt s 0 ≢ tagOf d)
-Says d s n v k walk = Opened d s n × (walkOf d s ≡ refused v k)
+Says d s n v k walk = Opened d s n × FirstRefusal d s v k
 Says d s n v k bits = Opened d s n × Sound d s × FirstWrong d s k

@@ -34,5 +34,5 @@ pub mod Decides
 pub mod Tallies
 -- `walked-report`: what an accepted walk hands back
 pub mod Reports
--- `refused-why`: what a refusal means
+-- `refused-first`, `refused-why`: what a refusal means
 pub mod Refuses

@@ -1,21 +1,20 @@
--- The theorem `refused-why`: a refusal has a cause. Assumes nothing.
+-- `refused-first`: a refusal is given exactly at the first node that fails. `refused-why`: it has a cause. Assumes nothing.
 use Prim.Native.Nat.{ℕ, _≤_, _<_}
 use mathlib.Core.Path.{_≡_, sym, ap, _∙_}
-use mathlib.Core.Logic.{_≢_, _⊎_, inl, inr}
+use mathlib.Core.Logic.{_≢_, _⊎_, inl, inr, _↔_}
 use mathlib.Core.Bool.{Bool, true, false}
-use mathlib.Core.List.{List, [], _∷_}
+use mathlib.Core.List.{List}
 use native.Mathlib.Omega.{arith}
 use native.Mathlib.Decide.{decLt}
-use lib.ListN.{replicate}
 use Rattle.answers.specs.Tests.{must}
-use Rattle.reach.specs.Walk.{refused, audit}
+use Rattle.reach.specs.Walk.{refused}
 use Rattle.reach.specs.Law.{Twice}
-use Rattle.reach.proofs.Runs.{never-spent, run-runs}
 use Rattle.reach.proofs.Refuses.{why}
+use Rattle.reach.proofs.Firsts as firsts
 use Rattle.volume.specs.declared.disk.Disk.{Disk}
 use Rattle.volume.specs.Disks.{firstKey, inRange}
-use Rattle.walk.specs.Nodes.{Node, root, keyOf, keyFault, faultOf, nothing, graph, walkOf}
-use Rattle.walk.specs.Reports.{Refused}
+use Rattle.walk.specs.Nodes.{Node, keyOf, keyFault, faultOf, nothing, graph, walkOf}
+use Rattle.walk.specs.Refusals.{FirstRefusal, Refused}
 use Rattle.walk.proofs.Passes.{key-passes}
 use Rattle.walk.proofs.Accepts.{room}
 
@@ -37,11 +36,14 @@ module _ (d : Disk) (k v : ℕ) (h : v ≢ 0) (e : keyFault d k ≡ v) where
       go (no l) (yes u) = absurd (h (sym e ∙ key-passes d k (omega arith, u)))
       go (no l) (no u) = inr (omega arith)
 
+pub refused-first : (d : Disk) (s : List ℕ) (v k : ℕ) → (walkOf d s ≡ refused v k) ↔ FirstRefusal d s v k
+unfolding walkOf
+refused-first d s v k = firsts.refused-first (graph d s) (d .blocks) (room d s) nothing v k
+
 module _ (d : Disk) (s : List ℕ) (v k : ℕ) (e : walkOf d s ≡ refused v k) where
   -- a refusal is no 0
   some : v ≢ 0
-  unfolding walkOf audit
-  some z = never-spent (graph d s) (run-runs (graph d s) (replicate (d .blocks) 0) nothing (root ∷ [])) k (e ∙ ap (λ x. refused x k) z)
+  some = refused-first d s v k .0 e .refuses
 
   pub refused-why : Refused d s v k
   unfolding walkOf

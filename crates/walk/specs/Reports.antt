@@ -1,21 +1,18 @@
--- What an accepted walk hands back, said of blocks and kinds alone: a claim byte for each block, and the counts. Then what a refusal means
--- (the build paper, "Order of the walk" and "Numbers").
-use Prim.Native.Nat.{ℕ, suc, _+_, _≤_, _<_}
+-- What an accepted walk hands back, said of blocks and kinds alone: a claim byte for each block, and the counts (the build paper, "Order of
+-- the walk").
+use Prim.Native.Nat.{ℕ, suc, _+_, _<_}
 use mathlib.Core.Path.{_≡_}
-use mathlib.Core.Logic.{_≢_, _⊎_}
+use mathlib.Core.Logic.{_⊎_}
 use mathlib.Core.Bool.{Bool, true, false, not}
 use mathlib.Core.List.{List, [], _∷_, map}
 use lib.ListN.{length, getD}
 use Rattle.answers.specs.Tests.{pick}
 use Rattle.reach.specs.References.{_∈_, Uniq, Reached}
 use Rattle.reach.specs.Walk.{free}
-use Rattle.reach.specs.Law.{Twice}
 use Rattle.volume.specs.declared.disk.Disk.{Disk}
-use Rattle.volume.specs.Disks.{firstKey}
 use Rattle.volume.specs.Blocks.{directory}
 use Rattle.volume.specs.References.{root, bitmap, entry, list, datum, Ref, references}
 use Rattle.walk.specs.declared.Counts.{Counts}
-use Rattle.walk.specs.Nodes.{Node, keyOf, faultOf, graph}
 
 -- how many of a list pass a test
 unfoldable pub count : (Ref → Bool) → List Ref → ℕ
@@ -59,12 +56,3 @@ pub record Walked (d : Disk) (s c : List ℕ) (n : Counts) : Type 0 where
   pub blocks : n .blocks ≡ count isData reached
   pub total : n .directories + n .files + n .lists + n .blocks + 2 ≡ length reached
   pub used : free c + length reached ≡ d .blocks
-
--- ---- a refusal
-
--- of the number v and the block k: a reached node with that key is out of range, or is referred to twice, or fails with v a test of its own
-pub record Refused (d : Disk) (s : List ℕ) (v k : ℕ) : Type 0 where
-  pub node : Node
-  pub reached : Reached (graph d s .references) node
-  pub keyed : keyOf d node ≡ k
-  pub cause : ((v ≡ 5) × ((k < firstKey) ⊎ (d .blocks ≤ k))) ⊎ ((v ≡ 6) × Twice (graph d s) k) ⊎ ((v ≢ 0) × (faultOf d s node ≡ v))
