@@ -1,4 +1,4 @@
--- The theorem `accepts`: the walk accepts exactly if the law holds.
+-- The theorem `accepts`: the walk accepts exactly if the law holds. Assumes nothing.
 use mathlib.Core.Path.{_≡_, refl, sym, ap, _∙_, subst, subst₂}
 use mathlib.Core.Logic.{_≢_, inl, inr, _↔_}
 use mathlib.Core.List.{List, [], _∷_, head-eq-of-cons-eq, cons≢nil}
@@ -10,7 +10,7 @@ use Rattle.reach.specs.Walk.{Graph, Outcome, done, refused, verdict, aud
 use Rattle.reach.specs.Law.{Law}
 use Rattle.reach.proofs.Lists.{at-one}
 use Rattle.reach.proofs.Runs.{Run, end, stop, enter, passes}
-use Rattle.reach.proofs.Tree.{Item, at-number, number-at, tree, up, down, unfolded, told}
+use Rattle.reach.proofs.Tree.{Item, at-number, number-at, tree, up, down, unfolded, told, InTree}
 use Rattle.reach.proofs.Found.{Found, found-all, distinct-one, now-here}
 use Rattle.reach.proofs.Kept.{Claim}
 use Rattle.reach.proofs.Whole.{Fit, fit-next, fit-start, whole, whole-runs, Fits, whole-fits, audit-whole}
@@ -19,15 +19,12 @@ module _ {Node S : Type 0} (G : Graph Node S) where
   open References (G .references) using (root, key, refs)
   open References (tree (G .references)) using (root as start, key as K, refs as kids)
 
-  abbrev InTree : Item Node → Type 0
-  InTree p = Reached (tree (G .references)) p
-
   -- ---- what is found at the end is the law
 
   sound : (c : List ℕ) (s : List (Item Node)) → Found G c s [] → Law G
   sound c s i = record { fine = λ n r. i .good _ (found-all G c s i (up (G .references) r .1)); owned = record { once = once′; none = none′ } }
     where
-      child : (m n : Node) (j : ℕ) → (a : List (Node × ℕ)) → InTree (a, m) → At j n (refs m) → InTree ((m, 0 + j) ∷ a, n)
+      child : (m n : Node) (j : ℕ) → (a : List (Node × ℕ)) → InTree G (a, m) → At j n (refs m) → InTree G ((m, 0 + j) ∷ a, n)
       child m n j a r h = ref j r (at-number 0 (a, m) (refs m) j n h)
 
       once′ : (m m′ n n′ : Node) (j j′ : ℕ) → Reached (G .references) m → Reached (G .references) m′ → At j n (refs m) → At j′ n′ (refs m′) → key n ≡ key n′ → (key m ≡ key m′) × (j ≡ j′)
@@ -47,7 +44,7 @@ module _ {Node S : Type 0} (G : Graph Node S) where
   -- ---- under the law no test fails
 
   -- no two items of the tree have one key
-  law-one : Law G → {p q : Item Node} → InTree p → InTree q → K p ≡ K q → p ≡ q
+  law-one : Law G → {p q : Item Node} → InTree G p → InTree G q → K p ≡ K q → p ≡ q
   law-one w (top e) (top e′) k = e ∙ sym e′
   law-one w (top e) (ref {m = m} {n = q} j d h) k = absurd (w .owned .none (m .1) (q .1) j (down (G .references) d) (number-at 0 m (refs (m .1)) j q h .1) (sym k ∙ ap K e))
   law-one w (ref {m = m} {n = p} j d h) (top e) k = absurd (w .owned .none (m .1) (p .1) j (down (G .references) d) (number-at 0 m (refs (m .1)) j p h .1) (k ∙ ap K e))
@@ -63,7 +60,7 @@ module _ {Node S : Type 0} (G : Graph Node S) where
     next-passes : Law G → (c : List ℕ) (s : List (Item Node)) (p : Item Node) (ps : List (Item Node)) → Fit G N c s (p ∷ ps) → verdict (unfolded G) c p ≡ 0
     next-passes w c s p ps i = passes (unfolded G) c p (g .0) (unclaimed (i .kept .bytes (K p) (subst (λ x. K p < x) (sym (i .size)) (room (p .1) (g .0))))) (g .1)
       where
-        r : InTree p
+        r : InTree G p
         r = i .kept .todo p (inl refl)
 
         g : (G .before (p .1) ≡ 0) × (G .after (p .1) ≡ 0)

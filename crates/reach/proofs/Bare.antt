@@ -1,5 +1,5 @@
 -- The theorem `law-bare`: a node may carry context that only its tests need; what is reached and what is owned can then be said of
--- bare nodes. `to-bare` and `from-bare` go between the two reached sets.
+-- bare nodes. `to-bare` and `from-bare` go between the two reached sets. Assumes nothing.
 use mathlib.Core.Path.{_≡_, refl, sym, ap, _∙_, subst}
 use mathlib.Core.Logic.{_≢_, _↔_}
 use mathlib.Core.List.{map}

@@ -1,15 +1,15 @@
--- What the walk of the tree has found out: enough for the law. At the end all that is reached is found (`found-all`).
+-- What the walk of the tree has found out: enough for the law. At the end all that is reached is found (`found-all`). Assumes nothing.
 use mathlib.Core.Path.{_≡_, sym, ap, _∙_, subst}
 use mathlib.Core.Logic.{_≢_, _⊎_, inl, inr}
 use mathlib.Core.List.{List, [], _∷_, _++_}
 use Prim.Native.Nat.{ℕ}
 use lib.ListN.{getD, set}
-use Rattle.reach.specs.References.{References, _∈_, Reached, top, ref}
+use Rattle.reach.specs.References.{References, _∈_, top, ref}
 use Rattle.reach.specs.Walk.{Graph, verdict}
 use Rattle.reach.proofs.Lists.{in-left, in-right, at-in}
 use Rattle.reach.proofs.Claims.{mark-same, mark-other, apart-bytes}
 use Rattle.reach.proofs.Runs.{passed}
-use Rattle.reach.proofs.Tree.{Item, tree, unfolded}
+use Rattle.reach.proofs.Tree.{Item, tree, unfolded, InTree}
 
 pub now-here : {X : Type 0} → ⊥ ⊎ X → X
 now-here (inl h) = absurd h
@@ -17,9 +17,6 @@ now-here (inr h) = h
 
 module _ {Node S : Type 0} (G : Graph Node S) where
   open References (tree (G .references)) using (root as start, key as K, refs as kids)
-
-  abbrev InTree : Item Node → Type 0
-  InTree p = Reached (tree (G .references)) p
 
   -- no two items have one key
   abbrev pub Distinct : List (Item Node) → Type 0
@@ -68,6 +65,6 @@ module _ {Node S : Type 0} (G : Graph Node S) where
       marked′ q (inr h) = mark-other c (K p) (K q) (apart-bytes c (K p) (K q) zero′ (i .marked q h)) ∙ i .marked q h
 
   -- with nothing left to do, all that is reached is found
-  pub found-all : (c : List ℕ) (s : List (Item Node)) → Found c s [] → {p : Item Node} → InTree p → p ∈ s
+  pub found-all : (c : List ℕ) (s : List (Item Node)) → Found c s [] → {p : Item Node} → InTree G p → p ∈ s
   found-all c s i (top e) = subst (λ x. x ∈ s) (sym e) (now-here (i .rooted))
   found-all c s i (ref {m = m} {n = n} j d h) = now-here (i .closed m n (found-all c s i d) (at-in n j (kids m) h))

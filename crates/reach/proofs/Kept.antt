@@ -1,23 +1,20 @@
--- What the walk of the tree keeps true: all is reached, nothing stands twice, and each claim has an item that made it.
+-- What the walk of the tree keeps true: all is reached, nothing stands twice, and each claim has an item that made it. Assumes nothing.
 use mathlib.Core.Path.{_≡_, refl, sym, ap, ap₂, _∙_, subst}
 use mathlib.Core.Logic.{_≢_, _⊎_, inl, inr}
 use mathlib.Core.List.{List, _∷_, _++_, head-eq-of-cons-eq, tail-eq-of-cons-eq}
 use Prim.Native.Nat.{ℕ, _+_, _<_}
 use native.Mathlib.Decide.{ℕ-discrete}
 use lib.ListN.{length, getD, set, length-set}
-use Rattle.reach.specs.References.{References, At, _∈_, Uniq, Reached, ref}
+use Rattle.reach.specs.References.{References, At, _∈_, Uniq, ref}
 use Rattle.reach.specs.Walk.{Graph, verdict}
 use Rattle.reach.proofs.Lists.{in-either, in-at, uniq-append}
 use Rattle.reach.proofs.Claims.{mark-same, mark-other}
 use Rattle.reach.proofs.Runs.{passed}
-use Rattle.reach.proofs.Tree.{Item, number-at, number-uniq, tree, unfolded}
+use Rattle.reach.proofs.Tree.{Item, number-at, number-uniq, tree, unfolded, InTree}
 
 module _ {Node S : Type 0} (G : Graph Node S) where
   open References (G .references) using (refs)
   open References (tree (G .references)) using (key as K, refs as kids)
-
-  abbrev InTree : Item Node → Type 0
-  InTree p = Reached (tree (G .references)) p
 
   -- the claim byte of k is 0; or it is 1, and one of the items s has that key
   abbrev pub Claim : List ℕ → List (Item Node) → ℕ → Type 0
@@ -26,8 +23,8 @@ module _ {Node S : Type 0} (G : Graph Node S) where
   -- c: the claims; s: the items done; xs: the items to do
   pub record Kept (c : List ℕ) (s : List (Item Node)) (xs : List (Item Node)) : Type 0 where
     -- all is reached
-    pub todo : (p : Item Node) → p ∈ xs → InTree p
-    pub seen : (p : Item Node) → p ∈ s → InTree p
+    pub todo : (p : Item Node) → p ∈ xs → InTree G p
+    pub seen : (p : Item Node) → p ∈ s → InTree G p
     pub bytes : (k : ℕ) → k < length c → Claim c s k
     -- nothing stands twice in what is to do, or there and in what is done
     pub uniq : Uniq xs
@@ -48,15 +45,15 @@ module _ {Node S : Type 0} (G : Graph Node S) where
       fresh : (x : Item Node) → x ∈ kids p → (x ∈ (p ∷ ps)) ⊎ (x ∈ s) → ⊥
       fresh x m h = i .apart p (inl refl) (i .parent x (p .1) _ (p .0) h (kid x m .2))
 
-      todo′ : (x : Item Node) → x ∈ (kids p ++ ps) → InTree x
+      todo′ : (x : Item Node) → x ∈ (kids p ++ ps) → InTree G x
       todo′ x m = go (in-either x (kids p) ps m)
         where
-          go : (x ∈ kids p) ⊎ (x ∈ ps) → InTree x
+          go : (x ∈ kids p) ⊎ (x ∈ ps) → InTree G x
           go (inl h) = ref (kid x h .0) (i .todo p (inl refl)) (kid x h .1)
           go (inr h) = i .todo x (inr h)
 
-      seen′ : (x : Item Node) → x ∈ (p ∷ s) → InTree x
-      seen′ x (inl h) = subst (λ y. InTree y) (sym h) (i .todo p (inl refl))
+      seen′ : (x : Item Node) → x ∈ (p ∷ s) → InTree G x
+      seen′ x (inl h) = subst (InTree G) (sym h) (i .todo p (inl refl))
       seen′ x (inr h) = i .seen x h
 
       bytes′ : (k : ℕ) → k < length (set c (K p) 1) → Claim (set c (K p) 1) (p ∷ s) k

@@ -1,18 +1,18 @@
--- The theorem `why`: a refusal has a cause. The node fails that test, or its key is referred to twice.
+-- The theorem `why`: a refusal has a cause. The node fails that test, or its key is referred to twice. Assumes nothing.
 use mathlib.Core.Path.{_≡_, refl, sym, ap, _∙_, subst, subst₂}
 use mathlib.Core.Logic.{_≢_, _⊎_, inl, inr}
 use mathlib.Core.List.{List, _∷_}
 use Prim.Native.Nat.{ℕ, zero, suc, _<_}
 use native.Mathlib.Omega.{arith}
 use lib.ListN.{getD}
-use Rattle.reach.specs.References.{References, At, _∈_, Reached, top, ref}
+use Rattle.reach.specs.References.{References, At, _∈_, top, ref}
 use Rattle.answers.specs.Tests.{first}
 use Rattle.answers.proofs.Tests.{first-refuses}
 use Rattle.reach.specs.Walk.{Graph, Outcome, done, refused, claimed, verdict, audit}
 use Rattle.reach.specs.Law.{Place, Twice, Why}
 use Rattle.reach.proofs.Lists.{at-one}
 use Rattle.reach.proofs.Runs.{Run, end, stop, enter}
-use Rattle.reach.proofs.Tree.{Item, number-at, tree, down, unfolded, told}
+use Rattle.reach.proofs.Tree.{Item, number-at, tree, down, unfolded, told, InTree}
 use Rattle.reach.proofs.Found.{distinct-one}
 use Rattle.reach.proofs.Kept.{Claim}
 use Rattle.reach.proofs.Whole.{Fit, fit-next, fit-start, whole, whole-runs, audit-whole}
@@ -21,16 +21,13 @@ module _ {Node S : Type 0} (G : Graph Node S) where
   open References (G .references) using (key, refs)
   open References (tree (G .references)) using (key as K, refs as kids)
 
-  abbrev InTree : Item Node → Type 0
-  InTree p = Reached (tree (G .references)) p
-
   -- ---- where a key is referred to
 
-  abbrev place : (p m : Item Node) (j : ℕ) (k : ℕ) → InTree m → At j p (kids m) → K p ≡ k → Place G k
+  abbrev place : (p m : Item Node) (j : ℕ) (k : ℕ) → InTree G m → At j p (kids m) → K p ≡ k → Place G k
   place p m j k r h e = record { from = m .1; to = p .1; nth = j; reached = down (G .references) r; stands = number-at 0 m (refs (m .1)) j p h .1; keyed = e }
 
   -- two items with one key, the one done and the other to do
-  twice : (N : ℕ) (c : List ℕ) (s : List (Item Node)) (p q : Item Node) (ps : List (Item Node)) → Fit G N c s (p ∷ ps) → InTree p → InTree q → q ∈ s → K q ≡ K p → Twice G (K p)
+  twice : (N : ℕ) (c : List ℕ) (s : List (Item Node)) (p q : Item Node) (ps : List (Item Node)) → Fit G N c s (p ∷ ps) → InTree G p → InTree G q → q ∈ s → K q ≡ K p → Twice G (K p)
   twice N c s p q ps i (top e) (top e′) m k = absurd (i .kept .apart p (inl refl) (subst (λ x. x ∈ s) (e′ ∙ sym e) m))
   twice N c s p q ps i (top e) (ref {m = m′} {n = q′} j′ d′ h′) m k = (place q m′ j′ (K p) d′ h′ k, inl (ap K e))
   twice N c s p q ps i (ref {m = m′} {n = p′} j d h) (top e) m k = (place p m′ j (K p) d h refl, inl (sym k ∙ ap K e))
@@ -63,7 +60,7 @@ module _ {Node S : Type 0} (G : Graph Node S) where
     unfolding verdict first
     cause c s p ps v i e = record { node = p .1; reached = down (G .references) r; keyed = refl; cause = go (G .before (p .1)) refl (getD c (K p) 1) refl e }
       where
-        r : InTree p
+        r : InTree G p
         r = i .kept .todo p (inl refl)
 
         claimed-by : Claim G c s (K p) → getD c (K p) 1 ≢ 0 → Twice G (K p)

@@ -1,4 +1,4 @@
--- The theorem `report`: an accepted walk hands back just what is reached.
+-- The theorem `report`: an accepted walk hands back just what is reached. Assumes nothing.
 use mathlib.Core.Path.{_≡_, refl, sym, ap, _∙_, subst}
 use mathlib.Core.Logic.{_≢_, _⊎_, inl, inr}
 use mathlib.Core.List.{List, [], _∷_, map}

@@ -1,5 +1,5 @@
 -- The walk with no fuel: the equations that code is proved by (`run-end`, `run-stop`, `run-enter`, `run-append`, `run-visit`), and
--- the relation `Run` that a proof goes by induction on.
+-- the relation `Run` that a proof goes by induction on. Assumes nothing.
 use mathlib.Core.Path.{_≡_, refl, sym, ap, _∙_}
 use mathlib.Core.Logic.{_≢_}
 use mathlib.Core.List.{List, [], _∷_, _++_, append-assoc}
@@ -85,9 +85,6 @@ module _ {Node S : Type 0} (G : Graph Node S) where
   unfolding run
   runs-run {c} d = runs-walk d (suc (free c)) (le-refl _)
 
-  pub fuel-free : (f : ℕ) (c : List ℕ) (s : S) (ns : List Node) → free c < f → walk G f c s ns ≡ run G c s ns
-  fuel-free f c s ns h = runs-walk (run-runs c s ns) f h
-
   -- ---- the equations
 
   pub run-end : (c : List ℕ) (s : S) → run G c s [] ≡ done c s
@@ -112,17 +109,6 @@ module _ {Node S : Type 0} (G : Graph Node S) where
   -- the shape of recursive code: a node, then its references, then the rest
   pub run-visit : (c : List ℕ) (s : S) (n : Node) (ns : List Node) → verdict G c n ≡ 0 → run G c s (n ∷ ns) ≡ andThen G (run G (set c (key n) 1) (G .note n s) (refs n)) ns
   run-visit c s n ns e = run-enter c s n ns e ∙ run-append _ _ _ _
-
-  number : Outcome S → ℕ
-  number (done c s) = 1
-  number (refused v k) = v
-
-  -- no refusal has number 0: the fuel is never spent
-  pub never-spent : {c : List ℕ} {s : S} {ns : List Node} {r : Outcome S} → Run c s ns r → (k : ℕ) → r ≢ refused 0 k
-  unfolding number
-  never-spent end k e = absurd (omega (arith, ap number e))
-  never-spent (stop v h) k e = absurd (omega (arith, ap number e))
-  never-spent (enter h d) k e = never-spent d k e
 
   -- ---- what holds at the start, and at every step, holds at the end
 

@@ -1,5 +1,5 @@
 -- A graph unfolded into a tree: an item is a node with the way to it, latest step first. What is reached in the one is reached in
--- the other (`up`, `down`), and the walk of the tree is the walk of the graph (`same-run`).
+-- the other (`up`, `down`), and the walk of the tree is the walk of the graph (`same-run`). Assumes nothing.
 use mathlib.Core.Path.{_≡_, refl, sym, ap, ap₂, _∙_, subst}
 use mathlib.Core.List.{List, [], _∷_, _++_, map, foldr, head-eq-of-cons-eq}
 use Prim.Native.Nat.{ℕ, zero, suc, _+_}
@@ -73,6 +73,10 @@ module _ {Node S : Type 0} (G : Graph Node S) where
   -- a walk of the tree counts nothing, and keeps the items
   abbrev pub unfolded : Graph (Item Node) (List (Item Node))
   unfolded = record { references = tree (G .references); before = λ p. G .before (p .1); taken = G .taken; taken-refuses = G .taken-refuses; after = λ p. G .after (p .1); note = λ p t. p ∷ t }
+
+  -- an item that the tree's root leads to
+  abbrev pub InTree : Item Node → Type 0
+  InTree p = Reached (tree (G .references)) p
 
   module _ (s₀ : S) where
     -- the counts of the items kept

@@ -1,24 +1,21 @@
 -- The whole walk of the tree: all that holds while it goes on (`Fit`) holds at its end (`whole-fits`), and its outcome is the audit's
--- (`audit-whole`).
+-- (`audit-whole`). Assumes nothing.
 use mathlib.Core.Path.{_≡_, refl, sym, ap, _∙_, subst}
 use mathlib.Core.Logic.{_⊎_, inl, inr}
 use mathlib.Core.List.{List, [], _∷_, _++_, nil≢cons}
 use Prim.Native.Nat.{ℕ, _+_, _<_}
 use native.Mathlib.Omega.{arith}
 use lib.ListN.{length, set, replicate, length-set, length-replicate, getD-replicate}
-use Rattle.reach.specs.References.{References, _∈_, Reached, top}
+use Rattle.reach.specs.References.{References, _∈_, top}
 use Rattle.reach.specs.Walk.{Graph, Outcome, verdict, run, audit, free}
 use Rattle.reach.proofs.Claims.{free-set, free-all}
 use Rattle.reach.proofs.Runs.{Run, run-runs, runs-run, passed, Ends, invariant}
-use Rattle.reach.proofs.Tree.{Item, tree, unfolded, told, same-run}
+use Rattle.reach.proofs.Tree.{Item, tree, unfolded, told, same-run, InTree}
 use Rattle.reach.proofs.Found.{Found, found-next}
 use Rattle.reach.proofs.Kept.{Kept, kept-next}
 
 module _ {Node S : Type 0} (G : Graph Node S) where
   open References (tree (G .references)) using (root as start, key as K, refs as kids)
-
-  abbrev InTree : Item Node → Type 0
-  InTree p = Reached (tree (G .references)) p
 
   -- of N claim bytes
   pub record Fit (N : ℕ) (c : List ℕ) (s : List (Item Node)) (xs : List (Item Node)) : Type 0 where
@@ -40,7 +37,7 @@ module _ {Node S : Type 0} (G : Graph Node S) where
         kept = record { todo = todo′; seen = λ p h. absurd h; bytes = λ k h. inl (getD-replicate N k 0 1 (subst (λ x. k < x) (length-replicate N 0) h)); uniq = ((λ h. h), tt); apart = λ p h h′. h′; parent = parent′ };
       }
     where
-      todo′ : (p : Item Node) → p ∈ (start ∷ []) → InTree p
+      todo′ : (p : Item Node) → p ∈ (start ∷ []) → InTree G p
       todo′ p (inl h) = top h
       todo′ p (inr h) = absurd h
 

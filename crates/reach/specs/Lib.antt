@@ -4,7 +4,7 @@
 pub mod References
 -- the tests, and the walk that makes them
 pub mod Walk
--- the order of the walk, and the first node that fails, with no walk
+-- the order of the walk, and the first node that fails: no fuel, no claims
 pub mod Visits
 -- the law, which mentions no walk; what an acceptance reports, and what a refusal means
 pub mod Law
