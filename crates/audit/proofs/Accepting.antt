@@ -27,7 +27,7 @@ use Rattle.audit.specs.declared.audit.Audited.{Audited}
 use Rattle.audit.specs.declared.audit.Audited.the-variants.{Accepted, Refused}
 use Rattle.audit.specs.Bits.{bitsOf}
 use Rattle.audit.specs.Audits.{numbersOf, reportOf, claimsOf, leaves, auditOf, Audits}
-use Rattle.audit.specs.Verdicts.{pageOf, freeFrom, Opened, Reported, Claimed}
+use Rattle.audit.specs.Verdicts.{bitmapKeyOf, freeFrom, Opened, Reported, Claimed}
 use Rattle.audit.proofs.Bitmaps.{claim-byte, right-exactly, bits-right, count-free}
 use Rattle.audit.proofs.Answers.{through, answers-exactly}
 
@@ -62,10 +62,10 @@ module _ (d : Disk) (s : List ℕ) where
         go (inl h) = absurd (omega (arith, used-inside k (h .1) .0))
         go (inr h) = h .0
 
-    free-blocks : (f : ℕ) → bitsOf d s (pageOf d s) c ≡ Right f → free c ≡ firstKey + freeFrom s (pageOf d s) firstKey (bitSpan d)
+    free-blocks : (f : ℕ) → bitsOf d s (bitmapKeyOf d s) c ≡ Right f → free c ≡ firstKey + freeFrom s (bitmapKeyOf d s) firstKey (bitSpan d)
     free-blocks f b =
-        count-free s (pageOf d s) c (bitSpan d) (omega (arith, walked-report d s c m e .size, enough)) (boot-byte 0 (omega arith)) (boot-byte 1 (omega arith))
-        (right-exactly s (pageOf d s) c firstKey 0 (bitSpan d) f .0 b .0)
+        count-free s (bitmapKeyOf d s) c (bitSpan d) (omega (arith, walked-report d s c m e .size, enough)) (boot-byte 0 (omega arith)) (boot-byte 1 (omega arith))
+        (right-exactly s (bitmapKeyOf d s) c firstKey 0 (bitSpan d) f .0 b .0)
 
   -- ---- an image is accepted exactly if it is a volume as the law says
 
@@ -83,7 +83,7 @@ module _ (d : Disk) (s : List ℕ) where
         back v =
             let p = volume-decided d s .0 v in
             let t = through d s (p .0) in
-            let f = freeFrom s (pageOf d s) firstKey (bitSpan d) in
+            let f = freeFrom s (bitmapKeyOf d s) firstKey (bitSpan d) in
             let m = bits-right d s (t .0) (t .1) (walked-report d s (t .0) (t .1) (t .2)) f .1 (p .3, refl) in
             let o : Opened d s n = record { long = p .1; room = l; tag = p .2 } in
             (reportOf (t .1) f, answers-exactly d s n (Accepted (reportOf (t .1) f)) .1 (record { opened = o; claims = t .0; counts = t .1; free = f; walks = t .2; maps = m; told = refl }))
@@ -122,7 +122,7 @@ module _ (d : Disk) (s : List ℕ) where
         let z = answers-exactly d s n (Accepted p) .0 q in
         subst (Reported d s) (sym (z .told)) (reported (z .claims) (z .counts) (z .walks) (z .free) (z .maps))
       where
-        reported : (c : List ℕ) (m : Counts) → walkOf d s ≡ done c m → (f : ℕ) → bitsOf d s (pageOf d s) c ≡ Right f → Reported d s (reportOf m f)
+        reported : (c : List ℕ) (m : Counts) → walkOf d s ≡ done c m → (f : ℕ) → bitsOf d s (bitmapKeyOf d s) c ≡ Right f → Reported d s (reportOf m f)
         reported c m e f b =
             let w = walked-report d s c m e in
             let x = bits-right d s c m w f .0 b in

@@ -24,7 +24,7 @@ use Rattle.audit.specs.declared.audit.Audited.{Audited}
 use Rattle.audit.specs.declared.audit.Audited.the-variants.{Accepted, Refused}
 use Rattle.audit.specs.Bits.{bitsOf}
 use Rattle.audit.specs.Audits.{refuse, reportOf, mapped, walked, auditOf}
-use Rattle.audit.specs.Verdicts.{pageOf, Opened, Test, size, area, tag, walk, bits, testOf, Says}
+use Rattle.audit.specs.Verdicts.{bitmapKeyOf, Opened, Test, size, area, tag, walk, bits, testOf, Says}
 use Rattle.audit.proofs.Bitmaps.{bits-wrong}
 use Rattle.audit.proofs.Numbers.{Numbered, numbered, walk-number, by-walk}
 
@@ -44,7 +44,7 @@ module _ (d : Disk) (s : List ℕ) (n : ℕ) where
     pub counts : Counts
     pub free : ℕ
     pub walks : walkOf d s ≡ done claims counts
-    pub maps : bitsOf d s (pageOf d s) claims ≡ Right free
+    pub maps : bitsOf d s (bitmapKeyOf d s) claims ≡ Right free
     pub told : p ≡ reportOf counts free
 
   abbrev pub Answers : Audited → Type 0
@@ -57,12 +57,12 @@ module _ (d : Disk) (s : List ℕ) (n : ℕ) where
   unfolding pick
   walked-says o = go (walkOf d s) refl
     where
-      says : (c : List ℕ) (m : Counts) → walkOf d s ≡ done c m → (b : Mapped) → bitsOf d s (pageOf d s) c ≡ b → Answers (mapped m b)
+      says : (c : List ℕ) (m : Counts) → walkOf d s ≡ done c m → (b : Mapped) → bitsOf d s (bitmapKeyOf d s) c ≡ b → Answers (mapped m b)
       says c m e (Right f) b = record { opened = o; claims = c; counts = m; free = f; walks = e; maps = b; told = refl }
       says c m e (Wrong k) b = (o, accepted-lawful d s .0 (subst Through (sym e) tt), bits-wrong d s c m (walked-report d s c m e) k .0 b)
 
       go : (u : Outcome Counts) → walkOf d s ≡ u → Answers (walked d s u)
-      go (done c m) e = says c m e (bitsOf d s (pageOf d s) c) refl
+      go (done c m) e = says c m e (bitsOf d s (bitmapKeyOf d s) c) refl
       go (refused v k) e =
           let w = refused-first d s v k .0 e in
           let l = walk-number d s v k w in

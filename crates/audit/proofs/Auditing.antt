@@ -48,28 +48,28 @@ module _ (d : Disk) (s cl cl₁ : List ℕ) (f : ℕ) (m : Met d s root cl f cl�
   pub root-inside : f ≡ 0 → (k : ℕ) → k ≡ rootOf d → length s ≡ imageBytes d → Holds s k
   root-inside z k e l = omega (arith, root-range z k e)
 
-  module _ (z : f ≡ 0) (k page : ℕ) (e : k ≡ rootOf d) (p : page ≡ wordOf s k 79) (g : ℕ) (cl₂ : List ℕ) (n : Met d s (bitmap page) cl₁ g cl₂) where
+  module _ (z : f ≡ 0) (k bitmapKey : ℕ) (e : k ≡ rootOf d) (p : bitmapKey ≡ wordOf s k 79) (g : ℕ) (cl₂ : List ℕ) (n : Met d s (bitmap bitmapKey) cl₁ g cl₂) where
     abbrev inside : List Node
     inside = slotNodes s (rootOf d) 0 slots
 
-    rooted : (r : Walked) (cl₃ : List ℕ) → Walks d s (bitmap page ∷ inside) [] nothing cl₁ r cl₃ → Walks d s (root ∷ []) [] nothing cl r cl₃
+    rooted : (r : Walked) (cl₃ : List ℕ) → Walks d s (bitmap bitmapKey ∷ inside) [] nothing cl₁ r cl₃ → Walks d s (root ∷ []) [] nothing cl r cl₃
     unfolding noted leadsTo
     rooted r cl₃ w = met-goes d s root cl cl₁ f m [] nothing cl₃ r z (rw (p, e) at w)
 
-    pub bitmap-stops : (r : Walked) (cl″ : List ℕ) → (g ≡ 0 → ⊥) → r ≡ Stopped (refusal g page) → Walks d s (root ∷ []) [] nothing cl r cl″
-    bitmap-stops r cl″ t q = rooted r cl″ (walks-stopped d s _ _ [] nothing cl₁ cl″ r _ (walks-part d s (bitmap page ∷ []) [] inside nothing cl₁ cl″ r (met-stops d s (bitmap page) cl₁ cl₂ g n [] nothing cl″ r t q)) q)
+    pub bitmap-stops : (r : Walked) (cl″ : List ℕ) → (g ≡ 0 → ⊥) → r ≡ Stopped (refusal g bitmapKey) → Walks d s (root ∷ []) [] nothing cl r cl″
+    bitmap-stops r cl″ t q = rooted r cl″ (walks-stopped d s _ _ [] nothing cl₁ cl″ r _ (walks-part d s (bitmap bitmapKey ∷ []) [] inside nothing cl₁ cl″ r (met-stops d s (bitmap bitmapKey) cl₁ cl₂ g n [] nothing cl″ r t q)) q)
 
     pub root-ready : Sized d → length s ≡ imageBytes d → cl ≡ replicate (claimBytes d) 0 → length cl₁ ≡ length cl → length cl₂ ≡ length cl₁ → g ≡ 0 → Ready d s cl₂ nothing
     unfolding noted
     root-ready h i c l l′ y =
-        ready-met d s (bitmap page) nothing cl₁ cl₂ g (ready-met d s root nothing cl cl₁ f (record { sized = h; image = i; claim = rw c (length-replicate _ 0); room = rw c (omega (arith, free-all (d .blocks))) }) m z l nothing refl) n y l′ nothing refl
+        ready-met d s (bitmap bitmapKey) nothing cl₁ cl₂ g (ready-met d s root nothing cl cl₁ f (record { sized = h; image = i; claim = rw c (length-replicate _ 0); room = rw c (omega (arith, free-all (d .blocks))) }) m z l nothing refl) n y l′ nothing refl
 
     pub root-goes : (t : ℕ) (r : Walked) (cl₃ : List ℕ) → g ≡ 0 → t ≡ rootOf d → Walks d s (slotNodes s t 0 slots) [] nothing cl₂ r cl₃ → Walks d s (root ∷ []) [] nothing cl r cl₃
     unfolding noted leadsTo
     root-goes t r cl₃ y u w =
         rooted r cl₃
         (walks-then d s _ inside inside [] [] nothing nothing cl₁ cl₂ cl₃ (Done nothing) r
-        (walks-part d s (bitmap page ∷ []) [] inside nothing cl₁ cl₂ (Done nothing) (met-goes d s (bitmap page) cl₁ cl₂ g n [] nothing cl₂ (Done nothing) y (walks-none d s [] nothing cl₂)))
+        (walks-part d s (bitmap bitmapKey ∷ []) [] inside nothing cl₁ cl₂ (Done nothing) (met-goes d s (bitmap bitmapKey) cl₁ cl₂ g n [] nothing cl₂ (Done nothing) y (walks-none d s [] nothing cl₂)))
         refl (sym (append-nil _)) (rw u at w))
 
 -- ---- the walk's outcome
@@ -95,13 +95,13 @@ module _ (d : Disk) (s cl cl′ : List ℕ) (w : Walked) (z : cl ≡ replicate (
     walk-few y = omega (arith, h .count c e, ap free z ∙ free-all (d .blocks), y .most)
 
     -- the bitmap's key is in range
-    pub page-inside : (k page : ℕ) → k ≡ rootOf d → page ≡ wordOf s k 79 → page < d .blocks
+    pub bitmap-inside : (k bitmapKey : ℕ) → k ≡ rootOf d → bitmapKey ≡ wordOf s k 79 → bitmapKey < d .blocks
     unfolding leadsTo
-    page-inside k page g p =
+    bitmap-inside k bitmapKey g p =
         let f = accepted-lawful d s .0 (subst Through (sym (walk-done c e)) tt) .0 in
         rw (p, g) (range-is d _ (must-passed _ 4 (f (bitmap (wordOf s (rootOf d) 79)) (ref 0 (top refl) refl) .0)) .1)
 
-    module _ (k page : ℕ) (g : k ≡ rootOf d) (p : page ≡ wordOf s k 79) (b : Mapped) (q : b ≡ bitsOf d s page cl′) where
+    module _ (k bitmapKey : ℕ) (g : k ≡ rootOf d) (p : bitmapKey ≡ wordOf s k 79) (b : Mapped) (q : b ≡ bitsOf d s bitmapKey cl′) where
       bits-so : bitsOf d s (wordOf s (rootOf d) 79) cl′ ≡ b
       bits-so = sym (q ∙ rw (p, g) refl)
 

@@ -22,7 +22,7 @@ use Rattle.walk.proofs.Volumes.{Bits}
 use Rattle.audit.specs.declared.bitmap.Mapped.{Mapped}
 use Rattle.audit.specs.declared.bitmap.Mapped.the-variants.{Right, Wrong}
 use Rattle.audit.specs.Bits.{bitWrong, bitsFrom, bitsOf}
-use Rattle.audit.specs.Verdicts.{pageOf, freeFrom, BitRight, BitWrong, FirstWrong}
+use Rattle.audit.specs.Verdicts.{bitmapKeyOf, freeFrom, BitRight, BitWrong, FirstWrong}
 
 -- ---- of any claims
 
@@ -31,9 +31,9 @@ unfolding pick
 step-count true f n = omega arith
 step-count false f n = refl
 
-module _ (s : List ℕ) (page : ℕ) (cl : List ℕ) where
+module _ (s : List ℕ) (bitmapKey : ℕ) (cl : List ℕ) where
   abbrev pub wrongAt : ℕ → Bool
-  wrongAt k = bitWrong (isFree s page k) (getD cl k 0)
+  wrongAt k = bitWrong (isFree s bitmapKey k) (getD cl k 0)
 
   -- the bits of the n blocks from block k on
   abbrev pub AllRight : ℕ → ℕ → Type 0
@@ -46,13 +46,13 @@ module _ (s : List ℕ) (page : ℕ) (cl : List ℕ) where
     pub before : (i : ℕ) → k ≤ i → i < j → wrongAt i ≡ false
 
   abbrev Say : ℕ → ℕ → ℕ → Mapped → Type 0
-  Say k f n (Right m) = AllRight k n × (m ≡ f + freeFrom s page k n)
+  Say k f n (Right m) = AllRight k n × (m ≡ f + freeFrom s bitmapKey k n)
   Say k f n (Wrong j) = Lowest k n j
 
-  bits-say : (k f n : ℕ) → Say k f n (bitsFrom s page cl k f n)
+  bits-say : (k f n : ℕ) → Say k f n (bitsFrom s bitmapKey cl k f n)
   unfolding bitsFrom freeFrom pick
   bits-say k f zero = ((λ j l h. absurd (omega arith)), omega arith)
-  bits-say k f (suc n) = go (wrongAt k) refl (bitsFrom s page cl (suc k) (pick (isFree s page k) (f + 1) f) n) (bits-say (suc k) (pick (isFree s page k) (f + 1) f) n)
+  bits-say k f (suc n) = go (wrongAt k) refl (bitsFrom s bitmapKey cl (suc k) (pick (isFree s bitmapKey k) (f + 1) f) n) (bits-say (suc k) (pick (isFree s bitmapKey k) (f + 1) f) n)
     where
       -- right here, and right up to i
       upto : (i : ℕ) → wrongAt k ≡ false → ((j : ℕ) → suc k ≤ j → j < i → wrongAt j ≡ false) → (j : ℕ) → k ≤ j → j < i → wrongAt j ≡ false
@@ -62,9 +62,9 @@ module _ (s : List ℕ) (page : ℕ) (cl : List ℕ) where
           at (yes q) = h j q u
           at (no q) = let z : j ≡ k = omega arith in rw z e
 
-      go : (b : Bool) → wrongAt k ≡ b → (r : Mapped) → Say (suc k) (pick (isFree s page k) (f + 1) f) n r → Say k f (suc n) (pick b (Wrong k) r)
+      go : (b : Bool) → wrongAt k ≡ b → (r : Mapped) → Say (suc k) (pick (isFree s bitmapKey k) (f + 1) f) n r → Say k f (suc n) (pick b (Wrong k) r)
       go true e r h = record { low = omega arith; high = omega arith; wrong = e; before = λ i l u. absurd (omega arith) }
-      go false e (Right m) h = ((λ j l u. upto (suc k + n) e (h .0) j l (omega arith)), h .1 ∙ step-count (isFree s page k) f (freeFrom s page (suc k) n))
+      go false e (Right m) h = ((λ j l u. upto (suc k + n) e (h .0) j l (omega arith)), h .1 ∙ step-count (isFree s bitmapKey k) f (freeFrom s bitmapKey (suc k) n))
       go false e (Wrong j) h = let a = h .low in let b = h .high in record { low = omega arith; high = omega arith; wrong = h .wrong; before = upto j e (h .before) }
 
   clash : {A : Type 0} (j : ℕ) → wrongAt j ≡ true → wrongAt j ≡ false → A
@@ -79,15 +79,15 @@ module _ (s : List ℕ) (page : ℕ) (cl : List ℕ) where
       go (no p) (no q) = omega arith
 
   module _ (k f n : ℕ) where
-    pub right-exactly : (m : ℕ) → (bitsFrom s page cl k f n ≡ Right m) ↔ (AllRight k n × (m ≡ f + freeFrom s page k n))
-    right-exactly m = ((λ e. subst (Say k f n) e (bits-say k f n)), λ h. go h (bitsFrom s page cl k f n) (bits-say k f n))
+    pub right-exactly : (m : ℕ) → (bitsFrom s bitmapKey cl k f n ≡ Right m) ↔ (AllRight k n × (m ≡ f + freeFrom s bitmapKey k n))
+    right-exactly m = ((λ e. subst (Say k f n) e (bits-say k f n)), λ h. go h (bitsFrom s bitmapKey cl k f n) (bits-say k f n))
       where
-        go : AllRight k n × (m ≡ f + freeFrom s page k n) → (r : Mapped) → Say k f n r → r ≡ Right m
+        go : AllRight k n × (m ≡ f + freeFrom s bitmapKey k n) → (r : Mapped) → Say k f n r → r ≡ Right m
         go h (Right i) e = ap Right (e .1 ∙ sym (h .1))
         go h (Wrong j) e = clash j (e .wrong) (h .0 j (e .low) (e .high))
 
-    pub wrong-exactly : (j : ℕ) → (bitsFrom s page cl k f n ≡ Wrong j) ↔ Lowest k n j
-    wrong-exactly j = ((λ e. subst (Say k f n) e (bits-say k f n)), λ h. go h (bitsFrom s page cl k f n) (bits-say k f n))
+    pub wrong-exactly : (j : ℕ) → (bitsFrom s bitmapKey cl k f n ≡ Wrong j) ↔ Lowest k n j
+    wrong-exactly j = ((λ e. subst (Say k f n) e (bits-say k f n)), λ h. go h (bitsFrom s bitmapKey cl k f n) (bits-say k f n))
       where
         go : Lowest k n j → (r : Mapped) → Say k f n r → r ≡ Wrong j
         go h (Right i) e = clash j (h .wrong) (e .0 j (h .low) (h .high))
@@ -125,32 +125,32 @@ module _ (d : Disk) (s c : List ℕ) (n : Counts) (w : Walked d s c n) where
   claim-byte k l = let e = w .size in subst (λ (b : ℕ). ((b ≡ 1) × Used d s k) ⊎ ((b ≡ 0) × (¬ Used d s k))) (byte-any c k 1 0 (omega arith)) (w .byte k l)
 
   abbrev bad : ℕ → Bool
-  bad k = wrongAt s (pageOf d s) c k
+  bad k = wrongAt s (bitmapKeyOf d s) c k
 
   bit : (k : ℕ) → k < d .blocks → ((bad k ≡ false) ↔ BitRight d s k) × ((bad k ≡ true) ↔ BitWrong d s k)
   bit k l =
-      either-way (judged (isFree s (pageOf d s) k) (getD c k 0) (Used d s k) (claim-byte k l)) (λ a b. clash s (pageOf d s) c k b a)
-      (fits-or-fails (isFree s (pageOf d s) k) (Used d s k))
+      either-way (judged (isFree s (bitmapKeyOf d s) k) (getD c k 0) (Used d s k) (claim-byte k l)) (λ a b. clash s (bitmapKeyOf d s) c k b a)
+      (fits-or-fails (isFree s (bitmapKeyOf d s) k) (Used d s k))
 
-  pub bits-right : (f : ℕ) → (bitsOf d s (pageOf d s) c ≡ Right f) ↔ (Bits d s × (f ≡ freeFrom s (pageOf d s) firstKey (bitSpan d)))
+  pub bits-right : (f : ℕ) → (bitsOf d s (bitmapKeyOf d s) c ≡ Right f) ↔ (Bits d s × (f ≡ freeFrom s (bitmapKeyOf d s) firstKey (bitSpan d)))
   bits-right f = (
-    (λ e. let r = right-exactly s (pageOf d s) c firstKey 0 (bitSpan d) f .0 e in ((λ k l u. bit k u .0 .0 (r .0 k l (omega arith))), r .1 ∙ zero-add _)),
-    (λ h. right-exactly s (pageOf d s) c firstKey 0 (bitSpan d) f .1 ((λ k l u. bit k (omega arith) .0 .1 (h .0 k l (omega arith))), h .1 ∙ sym (zero-add _))),
+    (λ e. let r = right-exactly s (bitmapKeyOf d s) c firstKey 0 (bitSpan d) f .0 e in ((λ k l u. bit k u .0 .0 (r .0 k l (omega arith))), r .1 ∙ zero-add _)),
+    (λ h. right-exactly s (bitmapKeyOf d s) c firstKey 0 (bitSpan d) f .1 ((λ k l u. bit k (omega arith) .0 .1 (h .0 k l (omega arith))), h .1 ∙ sym (zero-add _))),
   )
 
-  pub bits-wrong : (k : ℕ) → (bitsOf d s (pageOf d s) c ≡ Wrong k) ↔ FirstWrong d s k
+  pub bits-wrong : (k : ℕ) → (bitsOf d s (bitmapKeyOf d s) c ≡ Wrong k) ↔ FirstWrong d s k
   bits-wrong k = (
-    (λ e. there (wrong-exactly s (pageOf d s) c firstKey 0 (bitSpan d) k .0 e)),
-    (λ h. wrong-exactly s (pageOf d s) c firstKey 0 (bitSpan d) k .1 (back h)),
+    (λ e. there (wrong-exactly s (bitmapKeyOf d s) c firstKey 0 (bitSpan d) k .0 e)),
+    (λ h. wrong-exactly s (bitmapKeyOf d s) c firstKey 0 (bitSpan d) k .1 (back h)),
   )
     where
-      there : Lowest s (pageOf d s) c firstKey (bitSpan d) k → FirstWrong d s k
+      there : Lowest s (bitmapKeyOf d s) c firstKey (bitSpan d) k → FirstWrong d s k
       there h =
           let a = h .low in
           let l : k < d .blocks = omega (arith, h .high) in
           record { low = a; high = l; wrong = bit k l .1 .0 (h .wrong); before = λ j q u. bit j (omega arith) .0 .0 (h .before j q u) }
 
-      back : FirstWrong d s k → Lowest s (pageOf d s) c firstKey (bitSpan d) k
+      back : FirstWrong d s k → Lowest s (bitmapKeyOf d s) c firstKey (bitSpan d) k
       back h =
           let a = h .low in
           let l = h .high in
@@ -158,7 +158,7 @@ module _ (d : Disk) (s c : List ℕ) (n : Counts) (w : Walked d s c n) where
 
 -- ---- as many free blocks as claim bytes that are 0
 
-module _ (s : List ℕ) (page : ℕ) where
+module _ (s : List ℕ) (bitmapKey : ℕ) where
   count-byte : (b : Bool) (x f : ℕ) (c : List ℕ) → bitWrong b x ≡ false → free c ≡ f → free (x ∷ c) ≡ pick b (suc f) f
   unfolding bitWrong pick free
   count-byte true zero f c e h = ap suc h
@@ -167,15 +167,15 @@ module _ (s : List ℕ) (page : ℕ) where
   count-byte false (suc x) f c e h = h
 
   -- of the bytes of the blocks from block k on
-  count-bytes : (c : List ℕ) (k : ℕ) → ((i : ℕ) → i < length c → bitWrong (isFree s page (k + i)) (getD c i 0) ≡ false) → free c ≡ freeFrom s page k (length c)
+  count-bytes : (c : List ℕ) (k : ℕ) → ((i : ℕ) → i < length c → bitWrong (isFree s bitmapKey (k + i)) (getD c i 0) ≡ false) → free c ≡ freeFrom s bitmapKey k (length c)
   unfolding freeFrom free
   count-bytes [] k h = refl
   count-bytes (x ∷ c) k h =
-      count-byte (isFree s page k) x _ c (rw (add-zero k) at (h 0 (omega arith)))
+      count-byte (isFree s bitmapKey k) x _ c (rw (add-zero k) at (h 0 (omega arith)))
       (count-bytes c (suc k) (λ i l. let e : k + suc i ≡ suc k + i = omega arith in rw e at (h (suc i) (omega arith))))
 
   -- the boot blocks are never claimed
-  pub count-free : (c : List ℕ) (n : ℕ) → length c ≡ firstKey + n → getD c 0 0 ≡ 0 → getD c 1 0 ≡ 0 → AllRight s page c firstKey n → free c ≡ firstKey + freeFrom s page firstKey n
+  pub count-free : (c : List ℕ) (n : ℕ) → length c ≡ firstKey + n → getD c 0 0 ≡ 0 → getD c 1 0 ≡ 0 → AllRight s bitmapKey c firstKey n → free c ≡ firstKey + freeFrom s bitmapKey firstKey n
   unfolding free
   count-free [] n l a b h = absurd (omega arith)
   count-free (x ∷ []) n l a b h = absurd (omega arith)

@@ -38,29 +38,29 @@ unfolding pick
 count-most true n = omega arith
 count-most false n = omega arith
 
-module _ (d : Disk) (s : List ℕ) (page : ℕ) (cl : List ℕ) where
+module _ (d : Disk) (s : List ℕ) (bitmapKey : ℕ) (cl : List ℕ) where
   pub record BitsInv (free k : ℕ) : Type 0 where
     pub low : firstKey ≤ k
     pub high : k ≤ d .blocks
     pub few : free + firstKey ≤ k
-    pub left : bitsFrom s page cl k free (d .blocks - k) ≡ bitsOf d s page cl
+    pub left : bitsFrom s bitmapKey cl k free (d .blocks - k) ≡ bitsOf d s bitmapKey cl
 
   pub bits-start : Sized d → BitsInv 0 firstKey
   bits-start h = record { low = omega arith; high = omega (arith, h .least); few = omega arith; left = refl }
 
   module _ (free k : ℕ) (v : BitsInv free k) where
-    pub bits-asks : Sized d → length s ≡ imageBytes d → page < d .blocks → k < d .blocks → (firstKey ≤ k) × (k < mostBlocks) × Holds s page
+    pub bits-asks : Sized d → length s ≡ imageBytes d → bitmapKey < d .blocks → k < d .blocks → (firstKey ≤ k) × (k < mostBlocks) × Holds s bitmapKey
     bits-asks h l p q = (v .low, omega (arith, h .most), omega arith)
 
     pub bits-few : Sized d → free < 4294967295
     bits-few h = omega (arith, v .few, v .high, h .most)
 
-    module _ (q : k < d .blocks) (f w : Bool) (e : f ≡ isFree s page k) (g : w ≡ bitWrong f (getD cl k 0)) where
-      one-more : bitsFrom s page cl k free (d .blocks - k) ≡ pick w (Wrong k) (bitsFrom s page cl (k + 1) (pick f (free + 1) free) (d .blocks - (k + 1)))
+    module _ (q : k < d .blocks) (f w : Bool) (e : f ≡ isFree s bitmapKey k) (g : w ≡ bitWrong f (getD cl k 0)) where
+      one-more : bitsFrom s bitmapKey cl k free (d .blocks - k) ≡ pick w (Wrong k) (bitsFrom s bitmapKey cl (k + 1) (pick f (free + 1) free) (d .blocks - (k + 1)))
       unfolding bitsFrom
       one-more = let n : d .blocks - k ≡ suc (d .blocks - (k + 1)) = omega arith in rw (n, ← e, ← g, add-one k) refl
 
-      pub bits-wrong : w ≡ true → Wrong k ≡ bitsOf d s page cl
+      pub bits-wrong : w ≡ true → Wrong k ≡ bitsOf d s bitmapKey cl
       unfolding pick
       bits-wrong h = sym (rw h at one-more) ∙ v .left
 
@@ -74,6 +74,6 @@ module _ (d : Disk) (s : List ℕ) (page : ℕ) (cl : List ℕ) where
             left = rw c (sym (rw h at one-more) ∙ v .left);
           }
 
-    pub bits-end : d .blocks ≤ k → Right free ≡ bitsOf d s page cl
+    pub bits-end : d .blocks ≤ k → Right free ≡ bitsOf d s bitmapKey cl
     unfolding bitsFrom
     bits-end h = let n : d .blocks - k ≡ 0 = omega arith in rw n at (v .left)

@@ -18,10 +18,10 @@ bitWrong free byte = pick free (not (eqb byte 0)) (eqb byte 0)
 
 -- the bits of n blocks from block k on, with f free blocks before them
 unfoldable pub bitsFrom : List ℕ → ℕ → List ℕ → ℕ → ℕ → ℕ → Mapped
-bitsFrom s page claims k f zero = Right f
-bitsFrom s page claims k f (suc n) =
-    pick (bitWrong (isFree s page k) (getD claims k 0)) (Wrong k)
-    (bitsFrom s page claims (suc k) (pick (isFree s page k) (f + 1) f) n)
+bitsFrom s bitmapKey claims k f zero = Right f
+bitsFrom s bitmapKey claims k f (suc n) =
+    pick (bitWrong (isFree s bitmapKey k) (getD claims k 0)) (Wrong k)
+    (bitsFrom s bitmapKey claims (suc k) (pick (isFree s bitmapKey k) (f + 1) f) n)
 
 abbrev pub bitsOf : Disk → List ℕ → ℕ → List ℕ → Mapped
-bitsOf d s page claims = bitsFrom s page claims firstKey 0 (bitSpan d)
+bitsOf d s bitmapKey claims = bitsFrom s bitmapKey claims firstKey 0 (bitSpan d)

@@ -22,13 +22,13 @@ use Rattle.walk.specs.Refusals.{FirstRefusal}
 use Rattle.audit.specs.declared.audit.Report.{Report}
 
 -- the key of the bitmap block
-abbrev pub pageOf : Disk → List ℕ → ℕ
-pageOf d s = wordOf s (rootOf d) 79
+abbrev pub bitmapKeyOf : Disk → List ℕ → ℕ
+bitmapKeyOf d s = wordOf s (rootOf d) 79
 
--- how many of the n blocks from block k on the bitmap block `page` calls free
+-- how many of the n blocks from block k on the bitmap block `bitmapKey` calls free
 unfoldable pub freeFrom : List ℕ → ℕ → ℕ → ℕ → ℕ
-freeFrom s page k zero = 0
-freeFrom s page k (suc n) = pick (isFree s page k) (suc (freeFrom s page (suc k) n)) (freeFrom s page (suc k) n)
+freeFrom s bitmapKey k zero = 0
+freeFrom s bitmapKey k (suc n) = pick (isFree s bitmapKey k) (suc (freeFrom s bitmapKey (suc k) n)) (freeFrom s bitmapKey (suc k) n)
 
 -- ---- accepted
 
@@ -46,7 +46,7 @@ pub record Reported (d : Disk) (s : List ℕ) (p : Report) : Type 0 where
   pub blocks : p .blocks ≡ count isData reached
   pub used : p .used ≡ length reached
   -- the free blocks: together these are all but the boot blocks
-  pub free : p .free ≡ freeFrom s (pageOf d s) firstKey (bitSpan d)
+  pub free : p .free ≡ freeFrom s (bitmapKeyOf d s) firstKey (bitSpan d)
   pub whole : p .used + p .free ≡ bitSpan d
 
 -- a claim area of n bytes: 1 for each block that is reached, and 0 elsewhere, also behind the last block
@@ -58,11 +58,11 @@ pub record Claimed (d : Disk) (s : List ℕ) (n : ℕ) (claim : List ℕ) : Type
 
 -- the bit of block k is 0 exactly if k is reached
 abbrev pub BitRight : Disk → List ℕ → ℕ → Type 0
-BitRight d s k = (isFree s (pageOf d s) k ≡ false) ↔ Used d s k
+BitRight d s k = (isFree s (bitmapKeyOf d s) k ≡ false) ↔ Used d s k
 
 -- k is called free though it is reached, or in use though it is not
 abbrev pub BitWrong : Disk → List ℕ → ℕ → Type 0
-BitWrong d s k = ((isFree s (pageOf d s) k ≡ true) × Used d s k) ⊎ ((isFree s (pageOf d s) k ≡ false) × (¬ Used d s k))
+BitWrong d s k = ((isFree s (bitmapKeyOf d s) k ≡ true) × Used d s k) ⊎ ((isFree s (bitmapKeyOf d s) k ≡ false) × (¬ Used d s k))
 
 -- k is the lowest block whose bit is wrong
 pub record FirstWrong (d : Disk) (s : List ℕ) (k : ℕ) : Type 0 where

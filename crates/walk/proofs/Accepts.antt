@@ -19,7 +19,7 @@ use Rattle.volume.specs.Files.{keysHere, blocksOf, keysDown}
 use Rattle.volume.specs.References.{Kind, Ref, to, slotRefs, listed as listedRefs, refersTo, references}
 use Rattle.volume.proofs.Passes.{list-passed, file-passed}
 use Rattle.walk.specs.Nodes.{Node, root, bitmap, entry, list, datum, keyOf, bare, chained, before, keyNodes, listing, listedBy, contents, leadsTo, keyFault, faultOf, nothing, graph, walkOf}
-use Rattle.walk.proofs.Nodes.{linked-bare, slots-bare, keys-bare}
+use Rattle.walk.proofs.Nodes.{NodeReached, linked-bare, slots-bare, keys-bare}
 use Rattle.walk.proofs.Passes.{key-passed, hung-passed}
 
 module _ (d : Disk) (s : List ℕ) where
@@ -65,10 +65,10 @@ module _ (d : Disk) (s : List ℕ) where
   -- ---- where every node passes, what is reached is one, with its context or without
 
   module _ (fine : Fine (graph d s)) where
-    pub block-reached : {n : Node} → Reached (graph d s .references) n → Reached (references d s) (bare d n)
+    pub block-reached : {n : Node} → NodeReached d s n → Reached (references d s) (bare d n)
     block-reached r = to-bare (graph d s) (references d s) (bare d) refl key-bare refs-bare fine r
 
-    pub node-reached : {r : Ref} → Reached (references d s) r → (n : Node) × Reached (graph d s .references) n × (r ≡ bare d n)
+    pub node-reached : {r : Ref} → Reached (references d s) r → (n : Node) × NodeReached d s n × (r ≡ bare d n)
     node-reached r = from-bare (graph d s) (references d s) (bare d) refl key-bare refs-bare fine r
 
     pub node-key : {r : Ref} (h : Reached (references d s) r) → keyOf d (node-reached h .0) ≡ r .key

@@ -1,4 +1,4 @@
--- What the context of a node says of the volume (`Coherent`), and that with a node it holds of what that leads to.
+-- What the context of a node says of the volume (`Coherent`), and that with a node it holds of what that leads to. Assumes nothing.
 use Prim.Native.Nat.{ℕ, zero, suc, _+_, _-_, _<_}
 use mathlib.Core.Path.{_≡_, refl, sym, ap, _∙_, subst}
 use mathlib.Core.Logic.{_≢_, _⊎_, inl, inr}

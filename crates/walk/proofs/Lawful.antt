@@ -10,7 +10,7 @@ use Rattle.reach.specs.References.{At, Reached, top, ref}
 use Rattle.reach.specs.Law.{Fine}
 use Rattle.reach.proofs.Lists.{at-in, at-map}
 use Rattle.volume.specs.declared.disk.Disk.{Disk}
-use Rattle.volume.specs.Blocks.{wordOf, slotWord, sumOf, directory}
+use Rattle.volume.specs.Blocks.{wordOf, slotWord, directory}
 use Rattle.volume.specs.Names.{nameOf, same}
 use Rattle.volume.specs.Files.{listBlocks, blocksOf}
 use Rattle.volume.specs.References.{Kind, to, references}
@@ -19,6 +19,7 @@ use Rattle.volume.specs.Rules.{fileFault}
 use Rattle.volume.proofs.Names.{same-map}
 use Rattle.volume.proofs.Passes.{Placed, _&_, root-passes, bitmap-passed, entry-passes, file-passes, list-passes, data-passes}
 use Rattle.walk.specs.Nodes.{Node, root, bitmap, entry, list, datum, keyOf, bare, leadsTo, keyFault, faultOf, graph}
+use Rattle.walk.proofs.Nodes.{NodeReached}
 use Rattle.walk.proofs.Passes.{key-passes, hung-passes}
 use Rattle.walk.proofs.Accepts.{key-bare, refs-bare}
 use Rattle.walk.proofs.Chains.{chain-some, twin-none}
@@ -27,14 +28,12 @@ use Rattle.walk.proofs.Places.{Holder, chain-apart}
 use Rattle.walk.proofs.Coherent.{Coherent, leads-coherent}
 
 module _ (d : Disk) (s : List ℕ) (v : Volume d s) where
-  abbrev B : Node → Type 0
-  B n = Reached (references d s) (bare d n)
+  -- the block of n is reached, in its kind
+  abbrev BlockReached : Node → Type 0
+  BlockReached n = Reached (references d s) (bare d n)
 
-  key-lawful : (n : Node) → B n → keyFault d (keyOf d n) ≡ 0
+  key-lawful : (n : Node) → BlockReached n → keyFault d (keyOf d n) ≡ 0
   key-lawful n r = key-passes d (keyOf d n) (rw (key-bare d s n) at (v .keys (bare d n) r))
-
-  sum-lawful : (n : Node) → B n → sumOf s (keyOf d n) ≡ 0
-  sum-lawful n r = rw (key-bare d s n) at (v .sums (bare d n) r)
 
   held-by : (t : ℕ) → Holder d s t → Directory d s t
   held-by t (inl e) = rw e (v .holds)
@@ -73,7 +72,7 @@ module _ (d : Disk) (s : List ℕ) (v : Volume d s) where
 
   -- ---- every node
 
-  fault-lawful : (n : Node) → B n → Coherent d s n → faultOf d s n ≡ 0
+  fault-lawful : (n : Node) → BlockReached n → Coherent d s n → faultOf d s n ≡ 0
   unfolding faultOf
   fault-lawful root r c = let f = root-passes d s (v .sums (bare d root) r) (v .top) in f .0 & f .1
   fault-lawful (bitmap k) r c = bitmap-passed s k .1 (v .sums (bare d (bitmap k)) r)
@@ -81,11 +80,11 @@ module _ (d : Disk) (s : List ℕ) (v : Volume d s) where
   fault-lawful (list k h m b) r c = list-passes s k h (blocksOf d s h - m) (v .sums (bare d (list k h m b)) r, c .0, spread-first d s h (listBlocks (blocksOf d s h - m)) k m b (c .1) .0)
   fault-lawful (datum k h n b) r c = data-passes d s k h n (wordOf s b 4) (v .sums (bare d (datum k h n b)) r, c .0, (c .1, c .2))
 
-  coherent : {n : Node} → Reached (graph d s .references) n → B n × Coherent d s n
+  coherent : {n : Node} → NodeReached d s n → BlockReached n × Coherent d s n
   coherent (top e) = (top (ap (bare d) e), subst (Coherent d s) (sym e) tt)
   coherent (ref {m = m} {n = n} i r h) = go (coherent r)
     where
-      go : B m × Coherent d s m → B n × Coherent d s n
+      go : BlockReached m × Coherent d s m → BlockReached n × Coherent d s n
       go w =
           let e = refs-bare d s m (key-lawful m (w .0)) (fault-lawful m (w .0) (w .1)) in
           (ref i (w .0) (subst (At i (bare d n)) e (at-map (bare d) i n (leadsTo d s m) h)), leads-coherent d s m (w .0) (v .files) (w .1) n (at-in n i (leadsTo d s m) h))

@@ -1,4 +1,4 @@
--- Facts on the places of a list: a place of a part, and what stands behind a part.
+-- Facts on the places of a list: a place of a part, and what stands behind a part. Assumes nothing.
 use Prim.Native.Nat.{ℕ, zero, suc, _<_}
 use mathlib.Core.List.{List, [], _∷_, _++_}
 use native.Mathlib.Omega.{arith}

@@ -1,18 +1,22 @@
--- What stands among the nodes that a node leads to, and what is left of these when their context is forgotten (`slots-bare`, `keys-bare`,
--- `linked-bare`). Assumes nothing.
+-- Nodes that are reached; what stands among the nodes that a node leads to, and what is left of these when their context is forgotten
+-- (`slots-bare`, `keys-bare`, `linked-bare`). Assumes nothing.
 use Prim.Native.Nat.{ℕ, zero, suc, _+_, _≤_, _<_}
 use mathlib.Core.Path.{_≡_, refl, ap, ap₂, _∙_, subst}
 use mathlib.Core.Logic.{_≢_, _⊎_, inl, inr}
 use mathlib.Core.List.{List, [], _∷_, _++_, map, map-append}
 use native.Mathlib.Omega.{arith}
 use native.Mathlib.Decide.{decLt}
-use Rattle.reach.specs.References.{_∈_}
+use Rattle.reach.specs.References.{_∈_, Reached}
 use Rattle.reach.proofs.Lists.{in-left, in-right, in-either}
 use Rattle.volume.specs.declared.disk.Disk.{Disk}
 use Rattle.volume.specs.Blocks.{slotWord, keyWord}
 use Rattle.volume.specs.Files.{keysDown}
 use Rattle.volume.specs.References.{Kind, to, link, slotRefs}
-use Rattle.walk.specs.Nodes.{Node, entry, datum, bare, linked, chained, slotNodes, before, keyNodes}
+use Rattle.walk.specs.Nodes.{Node, entry, datum, bare, linked, chained, slotNodes, before, keyNodes, graph}
+
+-- the root leads to the node n
+abbrev pub NodeReached : Disk → List ℕ → Node → Type 0
+NodeReached d s n = Reached (graph d s .references) n
 
 -- ---- a link
 

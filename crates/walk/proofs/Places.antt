@@ -1,5 +1,5 @@
 -- No key stands twice on a chain of a volume whose blocks are owned once (`chain-apart`): each place but the first is referred to by the one
--- before, and the first by a slot.
+-- before, and the first by a slot. Assumes nothing.
 use Prim.Native.Nat.{ℕ, zero, suc, _<_}
 use mathlib.Core.Path.{_≡_, refl, sym, ap, _∙_, subst}
 use mathlib.Core.Logic.{_≢_, _⊎_, inl, inr}
@@ -21,9 +21,6 @@ use Rattle.walk.proofs.Nodes.{slot-in, slots-bare}
 use Rattle.walk.proofs.Chains.{chain-next, chain-before}
 
 module _ (d : Disk) (s : List ℕ) where
-  abbrev B : Ref → Type 0
-  B r = Reached (references d s) r
-
   -- t is the root, or a reached directory
   abbrev pub Holder : ℕ → Type 0
   Holder t = (t ≡ rootOf d) ⊎ (Reached (references d s) (to Kind.entry t) × (directory s t ≡ true))
@@ -56,7 +53,7 @@ module _ (d : Disk) (s : List ℕ) where
     pub reached : Reached (references d s) from
     pub stands : At nth (to Kind.entry k) (refersTo s (from .kind) (from .key))
 
-  pub referred : (k : ℕ) → From k → B (to Kind.entry k)
+  pub referred : (k : ℕ) → From k → Reached (references d s) (to Kind.entry k)
   referred k f = ref (f .nth) (f .reached) (f .stands)
 
   module _ (t i : ℕ) (holder : Holder t) (l : i < slots) where

@@ -18,6 +18,7 @@ use Rattle.volume.specs.References.{Kind, Ref, to, refersTo, references}
 use Rattle.walk.specs.declared.Counts.{Counts}
 use Rattle.walk.specs.Nodes.{Node, root, bitmap, entry, list, datum, keyOf, bare, leadsTo, nothing, graph, walkOf}
 use Rattle.walk.specs.Reports.{count, Used, Walked}
+use Rattle.walk.proofs.Nodes.{NodeReached}
 use Rattle.walk.proofs.Accepts.{key-bare, accepted-lawful, block-reached, node-reached, node-key}
 use Rattle.walk.proofs.Tallies.{Tally, isRoot, isBitmap, noted-counts, count-one}
 use Rattle.walk.proofs.Volumes.{file-reached}
@@ -27,12 +28,6 @@ module _ (d : Disk) (s : List ℕ) where
   keys-bare : (l : List Node) → map (keyOf d) l ≡ map (λ r. r .key) (map (bare d) l)
   keys-bare [] = refl
   keys-bare (n ∷ l) = ap₂ (λ k l. k ∷ l) (sym (key-bare d s n)) (keys-bare l)
-
-  abbrev R : Node → Type 0
-  R n = Reached (graph d s .references) n
-
-  abbrev B : Ref → Type 0
-  B r = Reached (references d s) r
 
   -- ---- one root, and one bitmap block
 
@@ -58,18 +53,18 @@ module _ (d : Disk) (s : List ℕ) where
     fine : Fine (graph d s)
     fine = accepted-lawful d s .0 (subst Accepted (sym e) tt) .0
 
-    coherent : {n : Node} → R n → Coherent d s n
+    coherent : {n : Node} → NodeReached d s n → Coherent d s n
     coherent (top e) = subst (Coherent d s) (sym e) tt
     coherent (ref {m = m} {n = n} i r h) = leads-coherent d s m (block-reached d s fine r) (file-reached d s fine) (coherent r) n (at-in n i (leadsTo d s m) h)
 
     abbrev refs : List Ref
     refs = map (bare d) (rep .nodes)
 
-    all′ : (r : Ref) → B r → r ∈ refs
+    all′ : (r : Ref) → Reached (references d s) r → r ∈ refs
     all′ r h = let u = node-reached d s fine h in subst (λ x. x ∈ refs) (sym (u .2)) (in-map (bare d) (u .0) (rep .nodes) (rep .all (u .0) (u .1)))
 
     -- a reference is a reached node's
-    back : (r : Ref) → r ∈ refs → (n : Node) × R n × (r ≡ bare d n)
+    back : (r : Ref) → r ∈ refs → (n : Node) × NodeReached d s n × (r ≡ bare d n)
     back r h = let w = map-in (bare d) r (rep .nodes) h in (w .0, rep .only (w .0) (w .1), w .2)
 
     keys′ : Uniq (map (λ r. r .key) refs)
@@ -80,7 +75,7 @@ module _ (d : Disk) (s : List ℕ) where
     byte′ : (k : ℕ) → k < d .blocks → ((getD c k 1 ≡ 1) × Used d s k) ⊎ ((getD c k 1 ≡ 0) × (¬ Used d s k))
     byte′ k l = go (rep .byte k l)
       where
-        go : ((getD c k 1 ≡ 0) × ((n : Node) → R n → keyOf d n ≢ k)) ⊎ ((getD c k 1 ≡ 1) × ((n : Node) × R n × (keyOf d n ≡ k))) → ((getD c k 1 ≡ 1) × Used d s k) ⊎ ((getD c k 1 ≡ 0) × (¬ Used d s k))
+        go : ((getD c k 1 ≡ 0) × ((n : Node) → NodeReached d s n → keyOf d n ≢ k)) ⊎ ((getD c k 1 ≡ 1) × ((n : Node) × NodeReached d s n × (keyOf d n ≡ k))) → ((getD c k 1 ≡ 1) × Used d s k) ⊎ ((getD c k 1 ≡ 0) × (¬ Used d s k))
         go (inl z) = inr (z .0, λ u. let w = node-reached d s fine (u .1) in z .1 (w .0) (w .1) (node-key d s fine (u .1) ∙ u .2))
         go (inr o) = inl (o .0, (bare d (o .1 .0), block-reached d s fine (o .1 .1), key-bare d s (o .1 .0) ∙ o .1 .2))
 
@@ -90,7 +85,7 @@ module _ (d : Disk) (s : List ℕ) where
     tally = subst (Tally d s (rep .nodes)) (sym (rep .noted)) (noted-counts d s (rep .nodes))
 
     -- a test that reached nodes pass with one key only counts one
-    once : (f : Ref → Bool) (x : Ref) → B x → f x ≡ true → ((y : Node) → R y → f (bare d y) ≡ true → bare d y .key ≡ x .key) → count f refs ≡ 1
+    once : (f : Ref → Bool) (x : Ref) → Reached (references d s) x → f x ≡ true → ((y : Node) → NodeReached d s y → f (bare d y) ≡ true → bare d y .key ≡ x .key) → count f refs ≡ 1
     once f x r t h = count-one f (x .key) x refs (all′ x r) refl t keys′ (λ y a. let w = back y a in subst (λ z. f z ≡ true → z .key ≡ x .key) (sym (w .2)) (h (w .0) (w .1)))
 
     total′ : n .directories + n .files + n .lists + n .blocks + 2 ≡ length refs
@@ -108,7 +103,7 @@ module _ (d : Disk) (s : List ℕ) where
           byte = byte′;
           reached = refs;
           all = all′;
-          only = λ r a. let w = back r a in subst B (sym (w .2)) (block-reached d s fine (w .1));
+          only = λ r a. let w = back r a in subst (Reached (references d s)) (sym (w .2)) (block-reached d s fine (w .1));
           keys = keys′;
           directories = tally .directories;
           files = tally .files;

@@ -1,5 +1,5 @@
 -- Counting references: every reference is of one kind (`count-kinds`), a walk's counts are those of its references (`noted-counts`), and what
--- has one key is counted once (`count-one`).
+-- has one key is counted once (`count-one`). Assumes nothing.
 use Prim.Native.Nat.{ℕ, suc, _+_}
 use mathlib.Core.Path.{_≡_, refl, sym, ap, _∙_, subst}
 use mathlib.Core.Logic.{_≢_, inl, inr}

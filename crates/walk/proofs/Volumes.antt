@@ -23,7 +23,7 @@ use Rattle.volume.specs.Rules.{rootFault, mapFault}
 use Rattle.volume.proofs.Passes.{Placed, root-passed, entry-passed, file-passed, list-passed, data-passed}
 use Rattle.walk.specs.Nodes.{Node, root, bitmap, entry, list, datum, keyOf, bare, before, keyNodes, listing, listed, contents, leadsTo, faultOf, graph}
 use Rattle.walk.specs.Reports.{Used}
-use Rattle.walk.proofs.Nodes.{linked-in}
+use Rattle.walk.proofs.Nodes.{NodeReached, linked-in}
 use Rattle.walk.proofs.Passes.{Hung, key-passed, hung-passed, sum-passed}
 use Rattle.walk.proofs.Accepts.{node-reached, node-key}
 use Rattle.walk.proofs.Spreads.{Run, Spread, here, file-spreads}
@@ -35,12 +35,9 @@ abbrev pub Bits : Disk → List ℕ → Type 0
 Bits d s = (k : ℕ) → firstKey ≤ k → k < d .blocks → (isFree s (wordOf s (rootOf d) 79) k ≡ false) ↔ Used d s k
 
 module _ (d : Disk) (s : List ℕ) (fine : Fine (graph d s)) where
-  abbrev R : Node → Type 0
-  R n = Reached (graph d s .references) n
-
   -- ---- a file
 
-  sound : (n : Node) → R n → Sound d s n
+  sound : (n : Node) → NodeReached d s n → Sound d s n
   unfolding faultOf
   sound root r = tt
   sound (bitmap k) r = tt
@@ -48,19 +45,19 @@ module _ (d : Disk) (s : List ℕ) (fine : Fine (graph d s)) where
   sound (list k h m c) r = tt
   sound (datum k h n c) r = let p = data-passed d s k h n (wordOf s c 4) (fine (datum k h n c) r .1) in (p .1, p .2 .0, p .2 .1)
 
-  module _ (h b m c : ℕ) (r : (x : Node) → x ∈ listed d s h b m c → R x) where
+  module _ (h b m c : ℕ) (r : (x : Node) → x ∈ listed d s h b m c → NodeReached d s x) where
     abbrev n : ℕ
     n = here d s h m
 
     run-reached : Run d s h m c (keysDown s b 0 n)
     run-reached = run-listed d s h b m c .1 (λ x a. sound x (r x (in-left x (keyNodes s h b m c 0 n) (listing (wordOf s b 126) h (m + n) (before s b c n)) a)))
 
-    behind-reached : wordOf s b 126 ≢ 0 → R (list (wordOf s b 126) h (m + n) (before s b c n))
+    behind-reached : wordOf s b 126 ≢ 0 → NodeReached d s (list (wordOf s b 126) h (m + n) (before s b c n))
     behind-reached w =
         let x = list (wordOf s b 126) h (m + n) (before s b c n) in
         r x (in-right x (keyNodes s h b m c 0 n) (listing (wordOf s b 126) h (m + n) (before s b c n)) (linked-in (wordOf s b 126) (λ k. list k h (m + n) (before s b c n)) w))
 
-  spread-reached : (h q b m c : ℕ) → q ≡ listBlocks (blocksOf d s h - m) → ((x : Node) → x ∈ listed d s h b m c → R x) → Lists s b (blocksOf d s h - m) → Spread d s h q b m c
+  spread-reached : (h q b m c : ℕ) → q ≡ listBlocks (blocksOf d s h - m) → ((x : Node) → x ∈ listed d s h b m c → NodeReached d s x) → Lists s b (blocksOf d s h - m) → Spread d s h q b m c
   unfolding faultOf leadsTo
   spread-reached h zero b m c e r l = (l, run-reached h b m c r)
   spread-reached h (suc q) b m c e r l =
@@ -80,12 +77,12 @@ module _ (d : Disk) (s : List ℕ) (fine : Fine (graph d s)) where
   IsEntry Kind.datum = ⊥
 
   abbrev EntryNode : ℕ → Type 0
-  EntryNode k = (t : ℕ) × (i : ℕ) × (p : ℕ) × R (entry k t i p)
+  EntryNode k = (t : ℕ) × (i : ℕ) × (p : ℕ) × NodeReached d s (entry k t i p)
 
-  entry-node : (k : ℕ) (n : Node) → R n → to Kind.entry k ≡ bare d n → EntryNode k
+  entry-node : (k : ℕ) (n : Node) → NodeReached d s n → to Kind.entry k ≡ bare d n → EntryNode k
   entry-node k root r e = absurd (subst IsEntry (ap (λ x. x .kind) e) tt)
   entry-node k (bitmap x) r e = absurd (subst IsEntry (ap (λ x. x .kind) e) tt)
-  entry-node k (entry x t i p) r e = (t, i, p, subst (λ y. R (entry y t i p)) (ap (λ x. x .key) (sym e)) r)
+  entry-node k (entry x t i p) r e = (t, i, p, subst (λ y. NodeReached d s (entry y t i p)) (ap (λ x. x .key) (sym e)) r)
   entry-node k (list x h m c) r e = absurd (subst IsEntry (ap (λ x. x .kind) e) tt)
   entry-node k (datum x h n c) r e = absurd (subst IsEntry (ap (λ x. x .kind) e) tt)
 
@@ -100,7 +97,7 @@ module _ (d : Disk) (s : List ℕ) (fine : Fine (graph d s)) where
     placed : Placed d s k (node .0) (node .1)
     placed = entry-passed d s k (node .0) (node .1) (hung .0)
 
-    content : (b : Bool) → directory s k ≡ b → (n : Node) → n ∈ contents d s k b → R n
+    content : (b : Bool) → directory s k ≡ b → (n : Node) → n ∈ contents d s k b → NodeReached d s n
     content b = contents-reached d s k (node .0) (node .1) (node .2) b (node .3)
 
     directory-reached : directory s k ≡ true → (wordOf s k 126 ≡ 0) × Directory d s k

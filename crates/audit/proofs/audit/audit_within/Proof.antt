@@ -2,7 +2,7 @@
 use native.Mathlib.Omega.{arith}
 use mathlib.Core.Path.{_∙_}
 use lib.ListN.{length-replicate}
-use Rattle.audit.proofs.Auditing.{within-stopped, walk-few, page-inside, within-right, within-wrong}
+use Rattle.audit.proofs.Auditing.{within-stopped, walk-few, bitmap-inside, within-right, within-wrong}
 use borrow.Author.Needs.{needs}
 use Rattle.audit.proofs.audit.audit_within.Statement.{statement}
 use Rattle.audit.proofs.audit.audit_within.Tie as tie
@@ -23,7 +23,7 @@ word-of-requires : tie.Need-word-of-requires
 word-of-requires c κs = search needs
 
 check-bits-requires : tie.Need-check-bits-requires
-check-bits-requires c κs = (c .before .before .before .before .before .before .before .before .before .before .before .before .pre .0, c .before .before .before .before .before .before .before .before .before .before .before .before .pre .1, c .before .before .before .before .before .before .before .before .walk-volume .kept .1 .1 .0 ∙ rw (c .before .before .before .before .before .before .before .before .before .before .before .before .pre .2) (length-replicate _ 0), page-inside _ _ _ _ _ (c .before .before .before .before .before .before .before .before .before .before .before .before .pre .2) (c .before .before .before .before .before .before .before .before .walk-volume .ensures) _ (c .before .before .before .before .w2 .given .1) _ _ (c .before .before .root .ensures) (c .before .word-of .ensures))
+check-bits-requires c κs = (c .before .before .before .before .before .before .before .before .before .before .before .before .pre .0, c .before .before .before .before .before .before .before .before .before .before .before .before .pre .1, c .before .before .before .before .before .before .before .before .walk-volume .kept .1 .1 .0 ∙ rw (c .before .before .before .before .before .before .before .before .before .before .before .before .pre .2) (length-replicate _ 0), bitmap-inside _ _ _ _ _ (c .before .before .before .before .before .before .before .before .before .before .before .before .pre .2) (c .before .before .before .before .before .before .before .before .walk-volume .ensures) _ (c .before .before .before .before .w2 .given .1) _ _ (c .before .before .root .ensures) (c .before .word-of .ensures))
 
 enum-known-m : tie.Need-enum-known-m
 enum-known-m c = search needs
