@@ -37,6 +37,7 @@ use Rattle.program.specs.declared.check.Answer.{Answer}
 use Rattle.program.specs.declared.check.Answer.the-variants.{Accepted, Refused}
 use Rattle.program.specs.Page as paper
 use Rattle.program.specs.Check.{checkOf, numbersOf}
+use Rattle.program.specs.Verdicts.{Because}
 use Rattle.program.proofs.Pages as pages
 use Rattle.program.proofs.Refusing as faults
 use Rattle.loader.specs.Calls.{loadAnswer, moveAnswer}
@@ -108,7 +109,7 @@ module _ (file : List ℕ) where
   page = pages.page file
 
   -- each refusal exactly then: of the file, of a load, of a move
-  pub check-refused-exactly : (f : Refusal) → (checkOf file ≡ Refused f) ↔ faults.Because file f
+  pub check-refused-exactly : (f : Refusal) → (checkOf file ≡ Refused f) ↔ Because file f
   check-refused-exactly f = (faults.check-why file f, faults.why-check file f)
 
   pub load-refused-exactly : (bases : List ℕ) (m r w : ℕ) (f : Refusal) → (loadAnswer file bases m r w ≡ Refused f) ↔ unloaded.LoadWhy file bases m r w f

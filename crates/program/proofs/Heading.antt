@@ -14,6 +14,7 @@ use Rattle.answers.proofs.Tests.{must-passed, pick-passed}
 use Rattle.answers.specs.declared.Tested.{Tested}
 use Rattle.answers.specs.declared.Tested.the-variants.{Passed}
 use Rattle.program.specs.Header.{totalOf, headFault, judge, heads}
+use Rattle.program.specs.Verdicts.{Fine}
 
 -- ---- words
 
@@ -127,10 +128,6 @@ module _ (t w : ℕ) where
 judge-pass : (v at : ℕ) (r : Tested) → judge v at r ≡ Passed → (v ≡ 0) × (r ≡ Passed)
 judge-pass zero at r e = (refl, e)
 judge-pass (suc v) at r e = let z : _≡_ {A = ℕ} 0 1 = cc in absurd (omega arith)
-
--- word j is there, and has no fault
-abbrev pub Fine : List ℕ → ℕ → Type 0
-Fine file j = (4 * j + 4 ≤ length file) × (headFault (totalOf file) j (wordAt file (4 * j)) ≡ 0)
 
 pub each-fine : (file : List ℕ) (n i : ℕ) → heads file i n ≡ Passed → (j : ℕ) → i ≤ j → j < i + n → Fine file j
 unfolding heads

@@ -15,56 +15,21 @@ use Rattle.answers.specs.Refusals.{refusal}
 use Rattle.answers.specs.declared.Refusal.{Refusal}
 use Rattle.answers.specs.declared.Tested.{Tested}
 use Rattle.answers.specs.declared.Tested.the-variants.{Passed, Failed}
-use Rattle.program.specs.declared.check.Answer.{Answer}
 use Rattle.program.specs.declared.check.Answer.the-variants.{Accepted, Refused}
 use Rattle.program.specs.declared.reader.Cursor.{Cursor}
 use Rattle.program.specs.declared.reader.Mode.{Mode}
 use Rattle.program.specs.declared.reader.Mode.the-variants.{Begin, NameLength, Body, Length, Stored, Part, Count, Number, Offset, Symbol, DebugLength, Skip, End}
 use Rattle.program.specs.declared.reader.Next.{Next}
 use Rattle.program.specs.declared.reader.Next.the-variants.{On, Bad}
-use Rattle.program.specs.Header.{totalOf, sizeOf, startAt, headFault, judge, heads}
+use Rattle.program.specs.Header.{totalOf, sizeOf, startAt, judge, heads}
 use Rattle.program.specs.Reader.{start, on, bodyOf, endOf, turn, stepOf}
 use Rattle.program.specs.Check.{refuse, endedOf, restOf, walkOf, and, checkOf}
-use Rattle.program.proofs.Heading.{Fine, each-fine, heads-pass}
+use Rattle.program.specs.Sane.{Sound}
+use Rattle.program.specs.Verdicts.{Unwhole, Whole, OfHeader, Fine, faultAt, HeadFails, HeadWord, Headed, Comes, begins, takes, HunkWord, Missing, Refuses, Because}
+use Rattle.program.proofs.Heading.{each-fine, heads-pass}
 use Rattle.program.proofs.Heads.{sound-header}
 use Rattle.program.proofs.Sanes.{pick-on}
 use Rattle.program.proofs.Walks.{Reads, reads-start, reads-on, walk-on, walk-bad, walk-end}
-
--- ---- 30: a length of 0, or one that is no multiple of 4
-
-abbrev pub Unwhole : List ℕ → Type 0
-Unwhole file = (length file ≡ 0) ⊎ (length file % 4 ≢ 0)
-
--- ---- 31 to 34 in the header: word j is the first that is missing or wrong
-
--- one of the five words, or the size of one of the hunks
-abbrev pub OfHeader : List ℕ → ℕ → Type 0
-OfHeader file j = (j < 5) ⊎ ((5 ≤ j) × (j < 5 + totalOf file))
-
-pub record HeadWord (file : List ℕ) (f : Refusal) : Type 0 where
-  pub word : ℕ
-  pub within : OfHeader file word
-  pub before : (i : ℕ) → i < word → Fine file i
-  pub cause : ((length file < 4 * word + 4) × (f ≡ refusal 31 (length file))) ⊎ ((4 * word + 4 ≤ length file) × (headFault (totalOf file) word (wordAt file (4 * word)) ≢ 0) × (f ≡ refusal (headFault (totalOf file) word (wordAt file (4 * word))) (4 * word)))
-
--- ---- 35 to 39: the reader comes to a word that it does not take
-
-pub record HunkWord (file : List ℕ) (f : Refusal) : Type 0 where
-  pub cursor : Cursor
-  pub at : ℕ
-  pub reads : Reads file cursor at
-  pub there : at < length file
-  pub number : ℕ
-  pub refuses : stepOf (totalOf file) (sizeOf file) cursor (wordAt file at) ≡ Bad number
-  pub said : f ≡ refusal number at
-
--- ---- 31 behind the header: the words are over, and the last hunk has not ended
-
-pub record Missing (file : List ℕ) (f : Refusal) : Type 0 where
-  pub cursor : Cursor
-  pub reads : Reads file cursor (length file)
-  pub unended : cursor .mode ≢ End
-  pub said : f ≡ refusal 31 (length file)
 
 -- ---- the header
 
@@ -86,12 +51,12 @@ unfolding heads pick
 heads-why file f zero i w b e = passed-not f e
 heads-why file f (suc n) i w b e = long (ltb (length file) (4 * i + 4)) refl e (heads-why file f n (i + 1) (λ j l h. w j (omega arith) (omega arith)))
   where
-    wrong : (v : ℕ) → headFault (totalOf file) i (wordAt file (4 * i)) ≡ v → 4 * i + 4 ≤ length file → judge v (4 * i) (heads file (i + 1) n) ≡ Failed f → (((j : ℕ) → j < i + 1 → Fine file j) → heads file (i + 1) n ≡ Failed f → HeadWord file f) → HeadWord file f
+    wrong : (v : ℕ) → faultAt file i ≡ v → 4 * i + 4 ≤ length file → judge v (4 * i) (heads file (i + 1) n) ≡ Failed f → (((j : ℕ) → j < i + 1 → Fine file j) → heads file (i + 1) n ≡ Failed f → HeadWord file f) → HeadWord file f
     wrong zero q l x k = k (fine-more file i b (l, q)) x
     wrong (suc v) q l x k =
         record { word = i; within = w i (omega arith) (omega arith); before = b; cause = inr (l, (λ z. omega (arith, q, z)), failed-same _ f x ∙ ap (λ u. refusal u (4 * i)) (sym q)) }
 
-    long : (t : Bool) → ltb (length file) (4 * i + 4) ≡ t → pick t (Failed (refusal 31 (length file))) (judge (headFault (totalOf file) i (wordAt file (4 * i))) (4 * i) (heads file (i + 1) n)) ≡ Failed f → (((j : ℕ) → j < i + 1 → Fine file j) → heads file (i + 1) n ≡ Failed f → HeadWord file f) → HeadWord file f
+    long : (t : Bool) → ltb (length file) (4 * i + 4) ≡ t → pick t (Failed (refusal 31 (length file))) (judge (faultAt file i) (4 * i) (heads file (i + 1) n)) ≡ Failed f → (((j : ℕ) → j < i + 1 → Fine file j) → heads file (i + 1) n ≡ Failed f → HeadWord file f) → HeadWord file f
     long true q x k = record { word = i; within = w i (omega arith) (omega arith); before = b; cause = inl (ltb-true _ _ q, failed-same _ f x) }
     long false q x k = wrong _ refl (ltb-false _ _ q) x k
 
@@ -124,45 +89,49 @@ ended-why file f c Symbol e = ((λ q. let z : _≡_ {A = ℕ} 0 1 = cc in omega 
 ended-why file f c DebugLength e = ((λ q. let z : _≡_ {A = ℕ} 0 1 = cc in omega arith), refused-same _ f e)
 ended-why file f c (Skip n a) e = ((λ q. let z : _≡_ {A = ℕ} 0 1 = cc in omega arith), refused-same _ f e)
 
-module _ (file : List ℕ) (f : Refusal) (even : length file % 4 ≡ 0) where
+module _ (file : List ℕ) (even : length file % 4 ≡ 0) where
   -- n words are left
-  walk-why : (n at : ℕ) (c : Cursor) → length file ≡ at + 4 * n → Reads file c at → restOf file at c ≡ Refused f → HunkWord file f ⊎ Missing file f
-  walk-why zero at c l r e =
+  walk-why : (f : Refusal) (n at : ℕ) (c : Cursor) → length file ≡ at + 4 * n → Comes file c at → restOf file at c ≡ Refused f → HunkWord file f ⊎ Missing file f
+  walk-why f zero at c l r e =
       let q : at ≡ length file = omega arith in
       let p = ended-why file f c (c .mode) (sym (walk-end file at c (omega arith)) ∙ e) in
-      inr (record { cursor = c; reads = subst (Reads file c) q r; unended = p .0; said = p .1 })
-  walk-why (suc n) at c l r e = go (stepOf (totalOf file) (sizeOf file) c (wordAt file at)) refl (walk-why n (at + 4))
+      inr (record { cursor = c; comes = subst (Comes file c) q r; unended = p .0; said = p .1 })
+  walk-why f (suc n) at c l r e = go (stepOf (totalOf file) (sizeOf file) c (wordAt file at)) refl (walk-why f n (at + 4))
     where
       h : at < length file
       h = omega arith
 
-      go : (x : Next) → stepOf (totalOf file) (sizeOf file) c (wordAt file at) ≡ x → ((d : Cursor) → length file ≡ at + 4 + 4 * n → Reads file d (at + 4) → restOf file (at + 4) d ≡ Refused f → HunkWord file f ⊎ Missing file f) → HunkWord file f ⊎ Missing file f
-      go (On d) q k = k d (omega arith) (reads-on file c at (wordAt file at) _ d r even h refl refl q) (sym (walk-on file at c (wordAt file at) _ even (r .aligned) h refl refl d q) ∙ e)
-      go (Bad v) q k =
-          inl (record { cursor = c; at = at; reads = r; there = h; number = v; refuses = q; said = refused-same _ f (sym (walk-bad file at c (wordAt file at) _ even (r .aligned) h refl refl v q) ∙ e) })
+      k : at % 4 ≡ 0
+      k = omega arith
+
+      go : (x : Next) → stepOf (totalOf file) (sizeOf file) c (wordAt file at) ≡ x → ((d : Cursor) → length file ≡ at + 4 + 4 * n → Comes file d (at + 4) → restOf file (at + 4) d ≡ Refused f → HunkWord file f ⊎ Missing file f) → HunkWord file f ⊎ Missing file f
+      go (On d) q more = more d (omega arith) (takes r h q) (sym (walk-on file at c (wordAt file at) _ even k h refl refl d q) ∙ e)
+      go (Bad v) q more =
+          inl (record { cursor = c; at = at; comes = r; there = h; number = v; refuses = q; said = refused-same _ f (sym (walk-bad file at c (wordAt file at) _ even k h refl refl v q) ∙ e) })
+
+  -- where the reader comes to, the rest of the file gives the file's answer
+  pub comes-reads : Sound file → {c : Cursor} {at : ℕ} → Comes file c at → Reads file c at
+  comes-reads s begins = reads-start file start (startAt file) (totalOf file) s refl refl refl
+  comes-reads s (takes {c} {d} {at} r h q) = reads-on file c at (wordAt file at) _ d (comes-reads s r) even h refl refl q
 
 -- ---- the whole check
 
--- the header has no fault
-pub record Headed (file : List ℕ) : Type 0 where
-  pub five : heads file 0 5 ≡ Passed
-  pub sized : heads file 5 (totalOf file) ≡ Passed
-
-abbrev pub Whole : List ℕ → Type 0
-Whole file = (length file ≢ 0) × (length file % 4 ≡ 0)
-
-abbrev pub Because : List ℕ → Refusal → Type 0
-Because file f = (Unwhole file × (f ≡ refusal 30 0)) ⊎ (Whole file × HeadWord file f) ⊎ (Whole file × Headed file × (HunkWord file f ⊎ Missing file f))
+all-fine : (file : List ℕ) → heads file 0 5 ≡ Passed → heads file 5 (totalOf file) ≡ Passed → Headed file
+all-fine file p q j h = go (decLt j 5)
+  where
+    go : Dec (j < 5) → Fine file j
+    go (yes l) = each-fine file 5 0 p j (omega arith) l
+    go (no l) = each-fine file (totalOf file) 5 q j (omega arith) h
 
 module _ (file : List ℕ) (f : Refusal) where
   all-why : Whole file → (a b : Tested) → heads file 0 5 ≡ a → heads file 5 (totalOf file) ≡ b → and a (and b (walkOf file)) ≡ Refused f → Because file f
-  all-why w (Failed r) b p q e = inr (inl (w, heads-why file f 5 0 (λ j l h. inl (omega arith)) (λ j h. absurd (omega arith)) (p ∙ ap Failed (sym (refused-same r f e)))))
-  all-why w Passed (Failed r) p q e = inr (inl (w, heads-why file f (totalOf file) 5 (λ j l h. inr (l, h)) (λ j h. each-fine file 5 0 p j (omega arith) h) (q ∙ ap Failed (sym (refused-same r f e)))))
+  all-why w (Failed r) b p q e = inr (inl (w, heads-why file f 5 0 (λ j l h. omega arith) (λ j h. absurd (omega arith)) (p ∙ ap Failed (sym (refused-same r f e)))))
+  all-why w Passed (Failed r) p q e = inr (inl (w, heads-why file f (totalOf file) 5 (λ j l h. h) (λ j h. each-fine file 5 0 p j (omega arith) h) (q ∙ ap Failed (sym (refused-same r f e)))))
   all-why w Passed Passed p q e =
       let s = sound-header file p q in
       let even = w .1 in
       let n = (length file - startAt file) / 4 in
-      inr (inr (w, record { five = p; sized = q }, walk-why file f even n (startAt file) start (omega (arith, s .long, even)) (reads-start file start (startAt file) (totalOf file) s refl refl refl) e))
+      inr (inr (w, all-fine file p q, walk-why file even f n (startAt file) start (omega (arith, s .long, even)) begins e))
 
   -- the check refuses for one of these reasons
   pub check-why : checkOf file ≡ Refused f → Because file f
@@ -178,13 +147,13 @@ module _ (file : List ℕ) (f : Refusal) where
 
 module _ (file : List ℕ) (f : Refusal) where
   heads-fail : (w : HeadWord file f) (n i : ℕ) → i ≤ w .word → w .word < i + n → heads file i n ≡ Failed f
-  unfolding heads pick judge
+  unfolding heads pick
   heads-fail w zero i l h = absurd (omega arith)
   heads-fail w (suc n) i l h = go (decLt i (w .word)) (heads-fail w n (i + 1))
     where
-      here : i ≡ w .word → ((length file < 4 * w .word + 4) × (f ≡ refusal 31 (length file))) ⊎ ((4 * w .word + 4 ≤ length file) × (headFault (totalOf file) (w .word) (wordAt file (4 * w .word)) ≢ 0) × (f ≡ refusal (headFault (totalOf file) (w .word) (wordAt file (4 * w .word))) (4 * w .word))) → heads file i (suc n) ≡ Failed f
+      here : i ≡ w .word → HeadFails file (w .word) f → heads file i (suc n) ≡ Failed f
       here e (inl c) = rw (e, lt-ltb _ _ (c .0), c .1)
-      here e (inr c) = rw (e, le-ltb _ _ (c .0), c .2) (judged (headFault (totalOf file) (w .word) (wordAt file (4 * w .word))) (c .1))
+      here e (inr c) = rw (e, le-ltb _ _ (c .0), c .2) (judged (faultAt file (w .word)) (c .1))
         where
           judged : (v : ℕ) → v ≢ 0 → judge v (4 * w .word) (heads file (w .word + 1) n) ≡ Failed (refusal v (4 * w .word))
           judged zero z = absurd (z refl)
@@ -195,11 +164,13 @@ module _ (file : List ℕ) (f : Refusal) where
       go (no q) k = here (omega arith) (w .cause)
 
   -- a reader that comes there refuses there
-  walk-refuses : Whole file → HunkWord file f ⊎ Missing file f → walkOf file ≡ Refused f
-  walk-refuses w (inl c) =
-      c .reads .rest ∙ walk-bad file (c .at) (c .cursor) (wordAt file (c .at)) _ (w .1) (c .reads .aligned) (c .there) refl refl (c .number) (c .refuses) ∙ ap Refused (sym (c .said))
-  walk-refuses w (inr c) =
-      c .reads .rest ∙ walk-end file (length file) (c .cursor) (omega arith) ∙ unended (c .cursor .mode) (c .unended) ∙ ap Refused (sym (c .said))
+  walk-refuses : Whole file → Sound file → HunkWord file f ⊎ Missing file f → walkOf file ≡ Refused f
+  walk-refuses w s (inl c) =
+      let r = comes-reads file (w .1) s (c .comes) in
+      r .rest ∙ walk-bad file (c .at) (c .cursor) (wordAt file (c .at)) _ (w .1) (r .aligned) (c .there) refl refl (c .number) (c .refuses) ∙ ap Refused (sym (c .said))
+  walk-refuses w s (inr c) =
+      let r = comes-reads file (w .1) s (c .comes) in
+      r .rest ∙ walk-end file (length file) (c .cursor) (omega arith) ∙ unended (c .cursor .mode) (c .unended) ∙ ap Refused (sym (c .said))
     where
       unended : (m : Mode) → m ≢ End → endedOf (length file) (c .cursor) m ≡ refuse 31 (length file)
       unended End h = absurd (h refl)
@@ -220,11 +191,20 @@ module _ (file : List ℕ) (f : Refusal) where
   unfolding checkOf pick
   whole-check w = rw (ne-eqb _ _ (w .0), eq-eqb _ _ (w .1))
 
-  head-refuses : (w : HeadWord file f) → OfHeader file (w .word) → and (heads file 0 5) (and (heads file 5 (totalOf file)) (walkOf file)) ≡ Refused f
-  head-refuses w (inl h) = rw (heads-fail w 5 0 (omega arith) (omega arith))
-  head-refuses w (inr h) =
-      let p : heads file 0 5 ≡ Passed = heads-pass file 5 0 (omega (arith, w .before 4 (omega (arith, h .0)) .0)) (λ j l q. w .before j (omega (arith, h .0)) .1) in
-      rw (p, heads-fail w (totalOf file) 5 (h .0) (h .1))
+  -- the five words, then the sizes
+  pass-five : ((j : ℕ) → j < 5 → Fine file j) → heads file 0 5 ≡ Passed
+  pass-five g = heads-pass file 5 0 (omega (arith, g 4 (omega arith) .0)) (λ j l q. g j q .1)
+
+  pass-sizes : Headed file → heads file 5 (totalOf file) ≡ Passed
+  pass-sizes g =
+      heads-pass file (totalOf file) 5 (omega (arith, g (4 + totalOf file) (omega arith) .0)) (λ j l q. g j q .1)
+
+  head-refuses : HeadWord file f → and (heads file 0 5) (and (heads file 5 (totalOf file)) (walkOf file)) ≡ Refused f
+  head-refuses w = go (decLt (w .word) 5)
+    where
+      go : Dec (w .word < 5) → and (heads file 0 5) (and (heads file 5 (totalOf file)) (walkOf file)) ≡ Refused f
+      go (yes h) = rw (heads-fail w 5 0 (omega arith) (omega arith))
+      go (no h) = rw (pass-five (λ j q. w .before j (omega arith)), heads-fail w (totalOf file) 5 (omega arith) (w .within))
 
   -- each is given exactly then
   pub why-check : Because file f → checkOf file ≡ Refused f
@@ -238,25 +218,13 @@ module _ (file : List ℕ) (f : Refusal) where
           go : (b : Bool) → pick b (refuse 30 0) (pick (eqb (length file % 4) 0) (and (heads file 0 5) (and (heads file 5 (totalOf file)) (walkOf file))) (refuse 30 0)) ≡ refuse 30 0
           go true = refl
           go false = rw (ne-eqb _ _ h)
-  why-check (inr (inl c)) = whole-check (c .0) ∙ head-refuses (c .1) (c .1 .within)
-  why-check (inr (inr c)) = whole-check (c .0) ∙ rw (c .1 .five, c .1 .sized) (walk-refuses (c .0) (c .2))
+  why-check (inr (inl c)) = whole-check (c .0) ∙ head-refuses (c .1)
+  why-check (inr (inr c)) =
+      let p = pass-five (λ j q. c .1 j (omega arith)) in
+      let q = pass-sizes (c .1) in
+      whole-check (c .0) ∙ rw (p, q) (walk-refuses (c .0) (sound-header file p q) (c .2))
 
--- ---- what the number of a hunk's word says: by what the reader expects there
-
-abbrev pub Refuses : ℕ → (ℕ → ℕ) → Cursor → ℕ → ℕ → Mode → Type 0
-Refuses t size c w v Begin = (v ≡ 35) × (w ≢ 0x3E8) × (w ≢ 0x3E9) × (w ≢ 0x3EA) × (w ≢ 0x3EB)
-Refuses t size c w v Body = (v ≡ 35) × (w ≢ 0x3E9) × (w ≢ 0x3EA) × (w ≢ 0x3EB)
-Refuses t size c w v (Length k) = (v ≡ 36) × (size (c .hunk) < w)
-Refuses t size c w v Part = (v ≡ 35) × (w ≢ 0x3EC) × (w ≢ 0x3F0) × (w ≢ 0x3F1) × (w ≢ 0x3F2)
-Refuses t size c w v (Number n) = (v ≡ 38) × (t ≤ w)
-Refuses t size c w v (Offset n k) = (v ≡ 38) × ((w % 2 ≢ 0) ⊎ (4 * c .stored < w + 4))
-Refuses t size c w v Symbol = (v ≡ 37) × (0x1000000 ≤ w)
-Refuses t size c w v End = v ≡ 39
-Refuses t size c w v NameLength = ⊥
-Refuses t size c w v (Stored i) = ⊥
-Refuses t size c w v Count = ⊥
-Refuses t size c w v DebugLength = ⊥
-Refuses t size c w v (Skip n a) = ⊥
+-- ---- which word is not taken, by what the reader expects
 
 bad-same : (a v : ℕ) → Bad a ≡ Bad v → v ≡ a
 bad-same a v e = cc

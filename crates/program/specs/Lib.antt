@@ -11,3 +11,5 @@ pub mod Check
 pub mod Acts
 -- what holds while a file is read
 pub mod Sane
+-- what a refusal of the check says
+pub mod Verdicts

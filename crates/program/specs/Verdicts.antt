@@ -1,0 +1,101 @@
+-- What a refusal of the check says of the file (the build paper, "Numbers").
+use Prim.Native.Nat.{ℕ, _+_, _*_, _%_, _<_, _≤_}
+use mathlib.Core.Path.{_≡_}
+use mathlib.Core.Logic.{_≢_, _⊎_}
+use mathlib.Core.List.{List}
+use lib.ListN.{length}
+use Rattle.words.specs.Word.{wordAt}
+use Rattle.answers.specs.Refusals.{refusal}
+use Rattle.answers.specs.declared.Refusal.{Refusal}
+use Rattle.program.specs.declared.reader.Cursor.{Cursor}
+use Rattle.program.specs.declared.reader.Mode.{Mode}
+use Rattle.program.specs.declared.reader.Mode.the-variants.{Begin, NameLength, Body, Length, Stored, Part, Count, Number, Offset, Symbol, DebugLength, Skip, End}
+use Rattle.program.specs.declared.reader.Next.the-variants.{On, Bad}
+use Rattle.program.specs.Header.{totalOf, sizeOf, startAt, headFault}
+use Rattle.program.specs.Reader.{start, stepOf}
+
+-- ---- 30: a length of 0, or one that is no multiple of 4
+
+abbrev pub Unwhole : List ℕ → Type 0
+Unwhole file = (length file ≡ 0) ⊎ (length file % 4 ≢ 0)
+
+abbrev pub Whole : List ℕ → Type 0
+Whole file = (length file ≢ 0) × (length file % 4 ≡ 0)
+
+-- ---- 31 to 34 in the header: word j is the first that is missing or wrong
+
+-- one of the five words, or the size of one of the hunks
+abbrev pub OfHeader : List ℕ → ℕ → Type 0
+OfHeader file j = j < 5 + totalOf file
+
+-- the fault of word j, or 0
+abbrev pub faultAt : List ℕ → ℕ → ℕ
+faultAt file j = headFault (totalOf file) j (wordAt file (4 * j))
+
+-- word j is there, and has no fault
+abbrev pub Fine : List ℕ → ℕ → Type 0
+Fine file j = (4 * j + 4 ≤ length file) × (faultAt file j ≡ 0)
+
+-- word j is missing, or it is there and has a fault
+abbrev pub HeadFails : List ℕ → ℕ → Refusal → Type 0
+HeadFails file j f =
+    ((length file < 4 * j + 4) × (f ≡ refusal 31 (length file)))
+    ⊎ ((4 * j + 4 ≤ length file) × (faultAt file j ≢ 0) × (f ≡ refusal (faultAt file j) (4 * j)))
+
+pub record HeadWord (file : List ℕ) (f : Refusal) : Type 0 where
+  pub word : ℕ
+  pub within : OfHeader file word
+  pub before : (i : ℕ) → i < word → Fine file i
+  pub cause : HeadFails file word f
+
+-- no word of the header is missing or wrong
+abbrev pub Headed : List ℕ → Type 0
+Headed file = (j : ℕ) → OfHeader file j → Fine file j
+
+-- ---- behind the header: word by word
+
+-- the reader comes to byte `at` with the cursor c: it has taken every word of the hunks before that byte
+pub data Comes (file : List ℕ) : Cursor → ℕ → Type 0 where
+  begins : Comes file start (startAt file)
+  takes : {c d : Cursor} {at : ℕ} → Comes file c at → at < length file → stepOf (totalOf file) (sizeOf file) c (wordAt file at) ≡ On d → Comes file d (at + 4)
+
+-- 35 to 39: it comes to a word that it does not take
+pub record HunkWord (file : List ℕ) (f : Refusal) : Type 0 where
+  pub cursor : Cursor
+  pub at : ℕ
+  pub comes : Comes file cursor at
+  pub there : at < length file
+  pub number : ℕ
+  pub refuses : stepOf (totalOf file) (sizeOf file) cursor (wordAt file at) ≡ Bad number
+  pub said : f ≡ refusal number at
+
+-- 31: it comes to the end of the file, and the last hunk has not ended
+pub record Missing (file : List ℕ) (f : Refusal) : Type 0 where
+  pub cursor : Cursor
+  pub comes : Comes file cursor (length file)
+  pub unended : cursor .mode ≢ End
+  pub said : f ≡ refusal 31 (length file)
+
+-- which word w is not taken, by what the reader expects there: v is the number
+abbrev pub Refuses : ℕ → (ℕ → ℕ) → Cursor → ℕ → ℕ → Mode → Type 0
+Refuses t size c w v Begin = (v ≡ 35) × (w ≢ 0x3E8) × (w ≢ 0x3E9) × (w ≢ 0x3EA) × (w ≢ 0x3EB)
+Refuses t size c w v Body = (v ≡ 35) × (w ≢ 0x3E9) × (w ≢ 0x3EA) × (w ≢ 0x3EB)
+Refuses t size c w v (Length k) = (v ≡ 36) × (size (c .hunk) < w)
+Refuses t size c w v Part = (v ≡ 35) × (w ≢ 0x3EC) × (w ≢ 0x3F0) × (w ≢ 0x3F1) × (w ≢ 0x3F2)
+Refuses t size c w v (Number n) = (v ≡ 38) × (t ≤ w)
+Refuses t size c w v (Offset n k) = (v ≡ 38) × ((w % 2 ≢ 0) ⊎ (4 * c .stored < w + 4))
+Refuses t size c w v Symbol = (v ≡ 37) × (0x1000000 ≤ w)
+Refuses t size c w v End = v ≡ 39
+Refuses t size c w v NameLength = ⊥
+Refuses t size c w v (Stored i) = ⊥
+Refuses t size c w v Count = ⊥
+Refuses t size c w v DebugLength = ⊥
+Refuses t size c w v (Skip n a) = ⊥
+
+-- ---- any refusal: one of these, in this order
+
+abbrev pub Because : List ℕ → Refusal → Type 0
+Because file f =
+    (Unwhole file × (f ≡ refusal 30 0))
+    ⊎ (Whole file × HeadWord file f)
+    ⊎ (Whole file × Headed file × (HunkWord file f ⊎ Missing file f))
