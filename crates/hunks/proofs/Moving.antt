@@ -5,32 +5,24 @@ use Prim.Native.Nat.{ℕ, _*_}
 use mathlib.Core.Path.{_≡_, sym, ap, _∙_}
 use mathlib.Core.List.{List}
 use lib.ListN.{length}
-use Rattle.words.proofs.Words.{Bytes}
+use Rattle.words.specs.Word.{Bytes}
 use Rattle.program.specs.declared.check.Answer.{Answer}
 use Rattle.program.specs.declared.check.Answer.the-variants.{Accepted}
 use Rattle.loader.specs.Calls.{loadAnswer}
-use Rattle.loader.proofs.Moving.{Addresses}
+use Rattle.loader.specs.Moving.{Addresses}
+use Rattle.loader.specs.Moving as numbered
 use Rattle.loader.proofs.Moving as numbers
 use Rattle.hunks.specs.declared.Hunk.{Hunk}
 use Rattle.hunks.specs.Records.{numbersIn}
 use Rattle.hunks.specs.Calls.{Loads, Moves}
+use Rattle.hunks.specs.Moving.{SameRoom, LoadsAt}
 use Rattle.hunks.proofs.Numbering.{length-numbers, quarter, same-table, load-numbers, move-numbers}
 
--- room of one size: memory, table and work area as long as those
-pub record SameRoom (m : List ℕ) (t : List Hunk) (w m′ : List ℕ) (t′ : List Hunk) (w′ : List ℕ) : Type 0 where
-  pub memory : length m′ ≡ length m
-  pub table : length t′ ≡ length t
-  pub work : length w′ ≡ length w
-
--- a load is accepted at these bases in this room
-abbrev pub LoadsAt : List ℕ → List ℕ → List ℕ → List Hunk → List ℕ → ℕ → ℕ → Type 0
-LoadsAt file bases m t w x n = loadAnswer file bases (length m) (length t) (length w) ≡ Accepted x n
-
 module _ (file m : List ℕ) (t : List Hunk) (w : List ℕ) (x n : ℕ) where
-  at-numbers : (bases : List ℕ) (y k : ℕ) → LoadsAt file bases m t w y k → numbers.LoadsAt file bases m (numbersIn t) w y k
+  at-numbers : (bases : List ℕ) (y k : ℕ) → LoadsAt file bases m t w y k → numbered.LoadsAt file bases m (numbersIn t) w y k
   at-numbers bases y k a = ap (λ j. loadAnswer file bases (length m) j (length w)) (quarter t) ∙ a
 
-  room-numbers : (m′ : List ℕ) (t′ : List Hunk) (w′ : List ℕ) → SameRoom m t w m′ t′ w′ → numbers.SameRoom m (numbersIn t) w m′ (numbersIn t′) w′
+  room-numbers : (m′ : List ℕ) (t′ : List Hunk) (w′ : List ℕ) → SameRoom m t w m′ t′ w′ → numbered.SameRoom m (numbersIn t) w m′ (numbersIn t′) w′
   room-numbers m′ t′ w′ s =
       record {
         memory = s .memory;

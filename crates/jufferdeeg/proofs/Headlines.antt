@@ -6,8 +6,7 @@ use mathlib.Core.Logic.{_↔_}
 use mathlib.Core.List.{List, _++_}
 use lib.ListN.{length, drop, replicate}
 use Rattle.answers.specs.declared.Refusal.{Refusal}
-use Rattle.words.specs.Word.{wordsAt}
-use Rattle.words.proofs.Words.{Bytes}
+use Rattle.words.specs.Word.{Bytes, wordsAt}
 use Rattle.volume.specs.declared.disk.Disk.{Disk}
 use Rattle.volume.specs.Disks.{claimBytes}
 use Rattle.volume.specs.Law.{Volume}
@@ -41,11 +40,12 @@ use Rattle.program.specs.Verdicts.{Because}
 use Rattle.program.proofs.Pages as pages
 use Rattle.program.proofs.Refusing as faults
 use Rattle.loader.specs.Calls.{loadAnswer, moveAnswer}
+use Rattle.loader.specs.Verdicts.{LoadWhy, MoveWhy}
+use Rattle.loader.specs.Moving.{Addresses}
 use Rattle.loader.proofs.Refusing as unloaded
-use Rattle.loader.proofs.Moving.{Addresses}
 use Rattle.hunks.specs.declared.Hunk.{Hunk}
 use Rattle.hunks.specs.Calls.{Loads, Moves}
-use Rattle.hunks.proofs.Moving.{SameRoom, LoadsAt}
+use Rattle.hunks.specs.Moving.{SameRoom, LoadsAt}
 use Rattle.hunks.proofs.Moving as moving
 use Rattle.hunks.proofs.Deciding as deciding
 
@@ -112,10 +112,10 @@ module _ (file : List ℕ) where
   pub check-refused-exactly : (f : Refusal) → (checkOf file ≡ Refused f) ↔ Because file f
   check-refused-exactly f = (faults.check-why file f, faults.why-check file f)
 
-  pub load-refused-exactly : (bases : List ℕ) (m r w : ℕ) (f : Refusal) → (loadAnswer file bases m r w ≡ Refused f) ↔ unloaded.LoadWhy file bases m r w f
+  pub load-refused-exactly : (bases : List ℕ) (m r w : ℕ) (f : Refusal) → (loadAnswer file bases m r w ≡ Refused f) ↔ LoadWhy file bases m r w f
   load-refused-exactly bases m r w f = unloaded.load-why file m r w f bases
 
-  pub move-refused-exactly : (old new : List ℕ) (m r w : ℕ) (f : Refusal) → (moveAnswer file old new m r w ≡ Refused f) ↔ unloaded.MoveWhy file old new m r w f
+  pub move-refused-exactly : (old new : List ℕ) (m r w : ℕ) (f : Refusal) → (moveAnswer file old new m r w ≡ Refused f) ↔ MoveWhy file old new m r w f
   move-refused-exactly old new m r w f = unloaded.move-why file m r w f old new
 
 -- ---- loading and moving

@@ -1,6 +1,6 @@
 -- The contracts decide: two outcomes for one input coincide, a refused call changes nothing, and a call is accepted exactly if the file, the
 -- bases, the room and the targets are as they must be. Assumes nothing.
-use Prim.Native.Nat.{ℕ, _≤_}
+use Prim.Native.Nat.{ℕ}
 use mathlib.Core.Path.{_≡_, refl, sym, ap, _∙_}
 use mathlib.Core.Logic.{_↔_}
 use mathlib.Core.List.{List}
@@ -8,7 +8,6 @@ use lib.ListN.{length, replicate}
 use borrow.Author.Tests.{le-ltb}
 use Rattle.answers.specs.Tests.{pick}
 use Rattle.answers.specs.declared.Refusal.{Refusal}
-use Rattle.answers.specs.declared.Tested.{Tested}
 use Rattle.answers.specs.declared.Tested.the-variants.{Passed}
 use Rattle.program.specs.declared.check.Answer.{Answer}
 use Rattle.program.specs.declared.check.Answer.the-variants.{Accepted, Refused}
@@ -19,6 +18,7 @@ use Rattle.loader.specs.Table.{tableOf}
 use Rattle.loader.specs.Bases.{basesFault}
 use Rattle.loader.specs.Near.{clashOf}
 use Rattle.loader.specs.Calls.{roomFault, also, lastTests, loadAnswer, moveAnswer, effect, Loads, Moves}
+use Rattle.loader.specs.Verdicts.{Room}
 use Rattle.loader.proofs.Answering.{also-so, also-both, load-facts}
 
 -- ---- any two outcomes allowed for one input coincide
@@ -50,12 +50,6 @@ pub move-keeps : (file old new m t w : List ℕ) (f : Refusal) (m1 t1 w1 : List 
 move-keeps file old new m t w f m1 t1 w1 l = (l .shifted, l .recorded, l .clean)
 
 -- ---- accepted exactly if
-
--- memory and work area for every word of the header's sizes, and a record for each hunk
-pub record Room (file : List ℕ) (memory records work : ℕ) : Type 0 where
-  pub memory-fits : loadedOf file ≤ memory
-  pub records-fit : totalOf file ≤ records
-  pub work-fits : loadedOf file ≤ work
 
 room-good : (file : List ℕ) (m r w : ℕ) → Room file m r w → roomFault (totalOf file) (loadedOf file) m r w ≡ Passed
 unfolding pick

@@ -10,12 +10,12 @@ use lib.Dec.{eqb}
 use lib.ListN.{length, drop, replicate, length-replicate, length-append, length-drop}
 use lib.Seq.{drop-at, length-take-le}
 use Rattle.words.specs.Shift.{Target}
-use Rattle.words.proofs.Words.{Bytes, Far}
+use Rattle.words.specs.Word.{Bytes}
+use Rattle.words.proofs.Words.{Far}
 use Rattle.words.proofs.Shifts.{FarAll, Apart, Within, length-shiftAll, shiftAll-twice, shiftAll-zero, shiftAll-mod, shiftAll-moved}
 use Rattle.answers.specs.Tests.{pick}
 use Rattle.answers.proofs.Tests.{pick-passed}
 use Rattle.answers.specs.Refusals.{refusal}
-use Rattle.answers.specs.declared.Tested.{Tested}
 use Rattle.answers.specs.declared.Tested.the-variants.{Passed, Failed}
 use Rattle.program.specs.declared.check.Answer.{Answer}
 use Rattle.program.specs.declared.check.Answer.the-variants.{Accepted}
@@ -28,6 +28,7 @@ use Rattle.loader.specs.Table.{tableRoom, recordsOf, tableOf}
 use Rattle.loader.specs.Bases.{entryBad, basesFrom, basesFault}
 use Rattle.loader.specs.Near.{near, nearAny, clash, clashOf}
 use Rattle.loader.specs.Calls.{roomFault, loadAnswer, moveAnswer, Loads, Moves}
+use Rattle.loader.specs.Moving.{Addresses, SameRoom, LoadsAt}
 use Rattle.loader.proofs.Marking.{near-false, no-bool}
 use Rattle.loader.proofs.Inside.{within-targets, within-more, length-listed, length-bodies}
 use Rattle.loader.proofs.Answering.{also-so, also-both, LoadFacts, load-facts}
@@ -112,10 +113,6 @@ two-steps a b c h k =
     let e : b + (2 ^ 32 - a) + (c + (2 ^ 32 - b)) ≡ 2 ^ 32 + (c + (2 ^ 32 - a)) = omega arith in
     sum-mod (b + (2 ^ 32 - a)) (c + (2 ^ 32 - b)) ∙ ap (λ n. n % 2 ^ 32) e ∙ around (c + (2 ^ 32 - a))
 
--- every entry is an address
-abbrev pub Addresses : List ℕ → Type 0
-Addresses l = (k : ℕ) → amountOf l k < 2 ^ 32
-
 module _ (file : List ℕ) (s : Sound file) (c : clashOf file ≡ Passed) (m : List ℕ) (h : loadedOf file ≤ length m) where
   fits : Within (length m) (targetsOf file)
   fits = within-more (loadedOf file) (length m) (targetsOf file) h (within-targets file s)
@@ -150,16 +147,6 @@ length-table file bases t s h =
     length-append (recordsOf file bases) (drop (4 * totalOf file) t) ∙ omega (arith, length-records file bases s, length-drop (4 * totalOf file) t)
 
 -- ---- the laws, over what the contracts of load and move say
-
--- room of one size: memory, table and work area as long as those
-pub record SameRoom (m t w m′ t′ w′ : List ℕ) : Type 0 where
-  pub memory : length m′ ≡ length m
-  pub table : length t′ ≡ length t
-  pub work : length w′ ≡ length w
-
--- a load is accepted at these bases in this room
-abbrev pub LoadsAt : List ℕ → List ℕ → List ℕ → List ℕ → List ℕ → ℕ → ℕ → Type 0
-LoadsAt file bases m t w x n = loadAnswer file bases (length m) (length t / 4) (length w) ≡ Accepted x n
 
 module _ (file m t w : List ℕ) (x n : ℕ) where
   -- what an accepted move leaves

@@ -9,12 +9,12 @@ use Rattle.words.specs.Word.{wordsAt, setWord, addAt}
 use Rattle.words.specs.Shift.{Target, shiftAll}
 use Rattle.program.specs.declared.act.Act.{Act}
 use Rattle.program.specs.declared.act.Act.the-variants.{Quiet, Body, Store, Add}
-use Rattle.program.specs.Page.{Hunk, code, stores, bss, joined, written, Each, bodyCount, storedWords, HunkFits, Program}
+use Rattle.program.specs.Page.{Hunk, code, stores, bss, joined, written, Each, bodyCount, storedWords, HunkFits, Program, total}
 use Rattle.program.specs.Page as page
 use Rattle.program.specs.Header.{totalOf, sizeOf}
 use Rattle.program.specs.Acts.{actsOf, pass}
 use Rattle.program.specs.Sane.{placeOf}
-use Rattle.program.proofs.Taken.{total, Sized}
+use Rattle.program.proofs.Taken.{Sized}
 use Rattle.program.proofs.Pages.{is-total, all-sized}
 use Rattle.loader.specs.Memory.{loadedOf, place1, placed, targets, targetsOf, amountOf, bodiesOf, loadOf, moved, moveOf}
 use Rattle.loader.specs.Table.{entry1, listed, recordsOf}

@@ -3,7 +3,7 @@ use Prim.Native.Nat.{ℕ, zero, suc, _+_, _*_, _%_, _^_, _<_, _≤_}
 use mathlib.Core.Path.{_≡_, refl, sym, ap, subst, _∙_}
 use mathlib.Core.List.{List, [], _∷_, _++_}
 use mathlib.Core.Bool.{Bool, true, false}
-use mathlib.Core.Logic.{_≢_, _↔_, _⊎_, inl, inr, ⊎-elim}
+use mathlib.Core.Logic.{_↔_, _⊎_, inl, inr, ⊎-elim}
 use native.Mathlib.Omega.{arith}
 use native.Mathlib.Decide.{decLt}
 use lib.Dec.{ltb, eqb}
@@ -33,6 +33,7 @@ use Rattle.loader.specs.Memory.{loadedOf, targetsOf, amountOf}
 use Rattle.loader.specs.Bases.{larger, smaller, topOf, overlap, shares, entryBad, basesFrom, basesFault}
 use Rattle.loader.specs.Near.{near, nearAny, clash, clashOf}
 use Rattle.loader.specs.Calls.{roomFault, also, lastTests, loadAnswer, moveAnswer}
+use Rattle.loader.specs.Verdicts.{Accepts, Gives, LoadWhy, MoveWhy, Shared, EntryWhy, BasesWhy, Member, ClashWhy}
 use Rattle.loader.proofs.Marking.{no-bool}
 use Rattle.loader.proofs.Answering.{never, also-so, also-both}
 use Rattle.loader.proofs.Moving.{Among, apart}
@@ -49,10 +50,6 @@ also-stays a h f e = rw e
 
 also-fails : (a : Answer) (h : Tested) (t n : ℕ) (f : Refusal) → a ≡ Accepted t n → h ≡ Failed f → also a h ≡ Refused f
 also-fails a h t n f x y = rw (x, y)
-
--- an answer that accepts
-abbrev pub Accepts : Answer → Type 0
-Accepts a = (t : ℕ) × (n : ℕ) × (a ≡ Accepted t n)
 
 accepts-both : (a : Answer) (h : Tested) → Accepts a → h ≡ Passed → Accepts (also a h)
 accepts-both a h x y = (x .0, x .1, also-both a h (x .0) (x .1) (x .2) y)
@@ -84,23 +81,6 @@ module _ (file : List ℕ) (m r w : ℕ) (f : Refusal) where
   last-then a (inr (inr y)) =
       let s = accepts-both a (roomFault (totalOf file) (loadedOf file) m r w) (y .0) (y .1) in
       also-fails _ (clashOf file) (s .0) (s .1) f (s .2) (y .2)
-
--- a load's refusal: of the file, else of the bases, else of the room, else of near targets
-abbrev pub LoadWhy : List ℕ → List ℕ → ℕ → ℕ → ℕ → Refusal → Type 0
-LoadWhy file bases m r w f =
-    (checkOf file ≡ Refused f)
-    ⊎ (Accepts (checkOf file) × (basesFault file bases 0 ≡ Failed f))
-    ⊎ (Accepts (checkOf file) × (basesFault file bases 0 ≡ Passed) × (roomFault (totalOf file) (loadedOf file) m r w ≡ Failed f))
-    ⊎ (Accepts (checkOf file) × (basesFault file bases 0 ≡ Passed) × (roomFault (totalOf file) (loadedOf file) m r w ≡ Passed) × (clashOf file ≡ Failed f))
-
--- a move's: the old list, then the new one, which counts on from T
-abbrev pub MoveWhy : List ℕ → List ℕ → List ℕ → ℕ → ℕ → ℕ → Refusal → Type 0
-MoveWhy file old new m r w f =
-    (checkOf file ≡ Refused f)
-    ⊎ (Accepts (checkOf file) × (basesFault file old 0 ≡ Failed f))
-    ⊎ (Accepts (checkOf file) × (basesFault file old 0 ≡ Passed) × (basesFault file new (totalOf file) ≡ Failed f))
-    ⊎ (Accepts (checkOf file) × (basesFault file old 0 ≡ Passed) × (basesFault file new (totalOf file) ≡ Passed) × (roomFault (totalOf file) (loadedOf file) m r w ≡ Failed f))
-    ⊎ (Accepts (checkOf file) × (basesFault file old 0 ≡ Passed) × (basesFault file new (totalOf file) ≡ Passed) × (roomFault (totalOf file) (loadedOf file) m r w ≡ Passed) × (clashOf file ≡ Failed f))
 
 -- what accepts so far, with one more list of bases
 accepts-so : (a : Answer) (h : Tested) → Accepts (also a h) → Accepts a × (h ≡ Passed)
@@ -258,12 +238,6 @@ module _ (file bases : List ℕ) (from : ℕ) where
       go (yes l) r = pick-goes _ _ _ _ (g i (omega arith) l) (r l)
       go (no l) r = let e : k ≡ i = omega arith in pick-fails _ _ _ (subst (λ (z : ℕ). entryBad file bases z ≡ true) e t) ∙ ap (λ (z : ℕ). Failed (refusal 40 (from + z))) (sym e)
 
--- the list has another length; else entry i is bad, and none before it
-abbrev pub BasesWhy : List ℕ → List ℕ → ℕ → Refusal → Type 0
-BasesWhy file bases from f =
-    ((f ≡ refusal 40 from) × (length bases ≢ totalOf file))
-    ⊎ ((length bases ≡ totalOf file) × ((i : ℕ) × (i < totalOf file) × (f ≡ refusal 40 (from + i)) × (entryBad file bases i ≡ true) × ((j : ℕ) → j < i → entryBad file bases j ≡ false)))
-
 pick-else : (b : Bool) (h : Tested) (g f : Refusal) → pick b h (Failed g) ≡ Failed f → ((b ≡ true) × (h ≡ Failed f)) ⊎ ((b ≡ false) × (f ≡ g))
 unfolding pick
 pick-else true h g f e = inl (refl, e)
@@ -325,33 +299,29 @@ smaller-above a b c h k = go (ltb a b)
     go false = k
 
 module _ (file bases : List ℕ) where
-  -- some address lies in hunk i and in hunk j
-  abbrev pub Shared : ℕ → ℕ → Type 0
-  Shared i j = (a : ℕ) × (amountOf bases i ≤ a) × (a < topOf file bases i) × (amountOf bases j ≤ a) × (a < topOf file bases j)
-
-  overlap-there : (i j : ℕ) → overlap file bases i j ≡ true → Shared i j
+  overlap-there : (i j : ℕ) → overlap file bases i j ≡ true → Shared file bases i j
   overlap-there i j h =
       let l = ltb-true (larger (amountOf bases i) (amountOf bases j)) (smaller (topOf file bases i) (topOf file bases j)) h in
       let x = larger-most (amountOf bases i) (amountOf bases j) in
       let y = smaller-least (topOf file bases i) (topOf file bases j) in
       (larger (amountOf bases i) (amountOf bases j), x .0, omega (arith, l, y .0), x .1, omega (arith, l, y .1))
 
-  overlap-back : (i j : ℕ) → Shared i j → overlap file bases i j ≡ true
+  overlap-back : (i j : ℕ) → Shared file bases i j → overlap file bases i j ≡ true
   overlap-back i j s =
       let x = larger-below (amountOf bases i) (amountOf bases j) (s .0) (s .1) (s .3) in
       let y = smaller-above (topOf file bases i) (topOf file bases j) (s .0) (s .2) (s .4) in
       lt-ltb (larger (amountOf bases i) (amountOf bases j)) (smaller (topOf file bases i) (topOf file bases j)) (omega (arith, x, y))
 
-  shares-there : (i n : ℕ) → shares file bases i n ≡ true → (j : ℕ) × (j < n) × Shared i j
+  shares-there : (i n : ℕ) → shares file bases i n ≡ true → (j : ℕ) × (j < n) × Shared file bases i j
   unfolding shares
   shares-there i zero h = no-bool h
   shares-there i (suc n) h = go (pick-or (overlap file bases i n) (shares file bases i n) h) (shares-there i n)
     where
-      go : (overlap file bases i n ≡ true) ⊎ (shares file bases i n ≡ true) → (shares file bases i n ≡ true → (j : ℕ) × (j < n) × Shared i j) → (j : ℕ) × (j < suc n) × Shared i j
+      go : (overlap file bases i n ≡ true) ⊎ (shares file bases i n ≡ true) → (shares file bases i n ≡ true → (j : ℕ) × (j < n) × Shared file bases i j) → (j : ℕ) × (j < suc n) × Shared file bases i j
       go (inl x) g = (n, omega arith, overlap-there i n x)
       go (inr x) g = let r = g x in (r .0, omega (arith, r .1), r .2)
 
-  shares-back : (i n j : ℕ) → j < n → Shared i j → shares file bases i n ≡ true
+  shares-back : (i n j : ℕ) → j < n → Shared file bases i j → shares file bases i n ≡ true
   unfolding shares
   shares-back i zero j l s = absurd (omega arith)
   shares-back i (suc n) j l s = go (decLt j n) (λ k. shares-back i n j k s)
@@ -360,28 +330,24 @@ module _ (file bases : List ℕ) where
       go (yes k) g = or-right _ _ (g k)
       go (no k) g = let e : j ≡ n = omega arith in or-left _ _ (subst (λ (z : ℕ). overlap file bases i z ≡ true) e (overlap-back i j s))
 
-  -- no multiple of 4; or the hunk ends above 2^32; or it shares an address with an earlier one
-  abbrev pub EntryWhy : ℕ → Type 0
-  EntryWhy i = (amountOf bases i % 4 ≢ 0) ⊎ (2 ^ 32 < topOf file bases i) ⊎ ((j : ℕ) × (j < i) × Shared i j)
-
-  entry-there : (i : ℕ) → entryBad file bases i ≡ true → EntryWhy i
+  entry-there : (i : ℕ) → entryBad file bases i ≡ true → EntryWhy file bases i
   unfolding entryBad pick
   entry-there i h = go (eqb (amountOf bases i % 4) 0) refl h
     where
-      two : (ltb (2 ^ 32) (topOf file bases i) ≡ true) ⊎ (shares file bases i i ≡ true) → EntryWhy i
+      two : (ltb (2 ^ 32) (topOf file bases i) ≡ true) ⊎ (shares file bases i i ≡ true) → EntryWhy file bases i
       two (inl x) = inr (inl (ltb-true _ _ x))
       two (inr x) = inr (inr (shares-there i i x))
 
-      go : (b : Bool) → eqb (amountOf bases i % 4) 0 ≡ b → pick b (pick (ltb (2 ^ 32) (topOf file bases i)) true (shares file bases i i)) true ≡ true → EntryWhy i
+      go : (b : Bool) → eqb (amountOf bases i % 4) 0 ≡ b → pick b (pick (ltb (2 ^ 32) (topOf file bases i)) true (shares file bases i i)) true ≡ true → EntryWhy file bases i
       go true e q = two (pick-or (ltb (2 ^ 32) (topOf file bases i)) (shares file bases i i) q)
       go false e q = inl (eqb-false _ _ e)
 
-  entry-back : (i : ℕ) → EntryWhy i → entryBad file bases i ≡ true
+  entry-back : (i : ℕ) → EntryWhy file bases i → entryBad file bases i ≡ true
   unfolding entryBad pick
   entry-back i (inl x) = rw (ne-eqb _ _ x)
   entry-back i (inr x) = go (eqb (amountOf bases i % 4) 0) (two x)
     where
-      two : (2 ^ 32 < topOf file bases i) ⊎ ((j : ℕ) × (j < i) × Shared i j) → pick (ltb (2 ^ 32) (topOf file bases i)) true (shares file bases i i) ≡ true
+      two : (2 ^ 32 < topOf file bases i) ⊎ ((j : ℕ) × (j < i) × Shared file bases i j) → pick (ltb (2 ^ 32) (topOf file bases i)) true (shares file bases i i) ≡ true
       two (inl y) = or-left (ltb (2 ^ 32) (topOf file bases i)) (shares file bases i i) (lt-ltb _ _ y)
       two (inr y) = or-right (ltb (2 ^ 32) (topOf file bases i)) (shares file bases i i) (shares-back i i (y .0) (y .1) (y .2))
 
@@ -389,14 +355,10 @@ module _ (file bases : List ℕ) where
       go true q = q
       go false q = refl
 
-  pub entry-why : (i : ℕ) → (entryBad file bases i ≡ true) ↔ EntryWhy i
+  pub entry-why : (i : ℕ) → (entryBad file bases i ≡ true) ↔ EntryWhy file bases i
   entry-why i = (entry-there i, entry-back i)
 
 -- ---- 42: which target is too near one before it
-
-abbrev pub Member : Target → List Target → Type 0
-Member u [] = ⊥
-Member u (x ∷ xs) = (u ≡ x) ⊎ Member u xs
 
 near-there : (p : ℕ) (seen : List ℕ) → nearAny p seen ≡ true → (q : ℕ) × Among q seen × (p < q + 4) × (q < p + 4)
 unfolding nearAny
@@ -461,20 +423,6 @@ clash-then seen (s ∷ us) t vs q c b h k =
     later (inl a) = inl (inr a)
     later (inr (u, inl e, d)) = inl (inl (d ∙ ap (λ (x : Target). x .place) e))
     later (inr (u, inr m, d)) = inr (u, m, d)
-
--- t is the first target that has less than 4 bytes to one before it, u
-abbrev pub ClashWhy : List Target → Refusal → Type 0
-ClashWhy ts f =
-    (us : List Target)
-    × (t : Target)
-    × (vs : List Target)
-    × (ts ≡ us ++ (t ∷ vs))
-    × (f ≡ refusal 42 (t .byte))
-    × (clash [] us ≡ Passed)
-    × (u : Target)
-    × Member u us
-    × (t .place < u .place + 4)
-    × (u .place < t .place + 4)
 
 module _ (ts : List Target) (f : Refusal) where
   clash-there : clash [] ts ≡ Failed f → ClashWhy ts f
@@ -631,10 +579,6 @@ module _ (file : List ℕ) (f : Refusal) where
 
   of-clash : clashOf file ≡ Failed f → f .number ≡ 42
   of-clash h = ap (λ (g : Refusal). g .number) (clash-there (targetsOf file) f h .4)
-
--- a refusal with number v
-abbrev pub Gives : Answer → Refusal → ℕ → Type 0
-Gives a f v = (a ≡ Refused f) × (f .number ≡ v)
 
 module _ (file bases : List ℕ) (m r w : ℕ) (f : Refusal) where
   pub load-40 : Gives (loadAnswer file bases m r w) f 40 ↔ (Accepts (checkOf file) × (basesFault file bases 0 ≡ Failed f))

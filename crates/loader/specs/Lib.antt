@@ -11,3 +11,7 @@ pub mod Near
 pub mod Calls
 -- a load in the terms of the page
 pub mod Pages
+-- which test refuses, and what it says
+pub mod Verdicts
+-- what the laws of moving speak of
+pub mod Moving

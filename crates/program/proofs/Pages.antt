@@ -15,11 +15,11 @@ use Rattle.answers.specs.declared.Tested.{Tested}
 use Rattle.answers.specs.declared.Tested.the-variants.{Passed, Failed}
 use Rattle.program.specs.declared.check.Answer.{Answer}
 use Rattle.program.specs.declared.check.Answer.the-variants.{Accepted, Refused}
-use Rattle.program.specs.Page.{Hunk, joined, hunkWords, headWords, written, Each, HunkFits, Program}
+use Rattle.program.specs.Page.{Hunk, joined, hunkWords, headWords, written, Each, HunkFits, Program, total}
 use Rattle.program.specs.Header.{totalOf, sizeOf, startAt, headFault, heads}
 use Rattle.program.specs.Reader.{start}
 use Rattle.program.specs.Check.{walkOf, and, checkOf}
-use Rattle.program.proofs.Taken.{total, Sized, hunks-on}
+use Rattle.program.proofs.Taken.{Sized, hunks-on}
 use Rattle.program.proofs.Traced.{cons, refused, walk-back}
 use Rattle.program.proofs.Heading.{words-add, Split, split, heads-pass, fault-0, fault-1, fault-2, fault-3, fault-4, fault-size, is-0, is-1, is-2, is-3, is-4, is-size, each-fine}
 

@@ -17,17 +17,12 @@ use Rattle.program.specs.declared.reader.Mode.{Mode}
 use Rattle.program.specs.declared.reader.Mode.the-variants as mode
 use Rattle.program.specs.declared.reader.Next.{Next}
 use Rattle.program.specs.declared.reader.Next.the-variants.{On, Bad}
-use Rattle.program.specs.Page.{Name, Body, Group, Symbol, Part, Hunk, none, named, code, stores, bss, relocation, symbols, debug, joined, nameWords, bodyWords, groupWords, symbolWords, partWords, hunkWords, Each, bodyCount, storedWords, OffsetFits, GroupFits, SymbolFits, PartFits, HunkFits}
+use Rattle.program.specs.Page.{Name, Body, Group, Symbol, Part, Hunk, none, named, code, stores, bss, relocation, symbols, debug, joined, nameWords, bodyWords, groupWords, symbolWords, partWords, hunkWords, Each, bodyCount, storedWords, OffsetFits, GroupFits, SymbolFits, PartFits, HunkFits, total}
 use Rattle.program.specs.Reader.{resume, skip, storedFrom, turn, stepOf}
 use Rattle.program.specs.Check.{next, walk}
 
 abbrev pub cursor : Mode → ℕ → ℕ → ℕ → Cursor
 cursor m h p s = record { mode = m; hunk = h; place = p; stored = s }
-
--- the words of all hunks
-abbrev pub total : List Hunk → ℕ
-total [] = 0
-total (x ∷ xs) = x .size + total xs
 
 -- of t hunks, those from h on, with their sizes
 abbrev pub Sized : ℕ → (ℕ → ℕ) → ℕ → List Hunk → Type 0

@@ -95,6 +95,11 @@ storedWords (code ws) = ws
 storedWords (stores ws) = ws
 storedWords (bss n) = []
 
+-- the words that all hunks take
+abbrev pub total : List Hunk → ℕ
+total [] = 0
+total (h ∷ hs) = h .size + total hs
+
 -- an offset is even, and four bytes from it on are stored: n words are
 abbrev pub OffsetFits : ℕ → ℕ → Type 0
 OffsetFits n o = (o % 2 ≡ 0) × (o + 4 ≤ 4 * n)

@@ -1,13 +1,13 @@
--- Laws of relocation: twice is once by the sums, by nothing is nothing, and back is back. Assumes nothing.
+-- Laws of relocation: what becomes of each byte and of each target; twice is once by the sums, and by nothing is nothing. Assumes nothing.
 use Prim.Native.Nat.{ℕ, _+_, _%_, _^_, _<_, _≤_}
-use mathlib.Core.Path.{_≡_, refl, ap, sym, _∙_, fun-ext}
+use mathlib.Core.Path.{_≡_, refl, ap, sym, _∙_}
 use mathlib.Core.List.{List, [], _∷_}
 use mathlib.Core.Logic.{_⊎_, inl, inr, ⊎-elim}
 use native.Mathlib.Omega.{arith}
 use lib.ListN.{length, getD}
-use Rattle.words.specs.Word.{wordAt, addAt}
+use Rattle.words.specs.Word.{Bytes, wordAt, addAt}
 use Rattle.words.specs.Shift.{Target, shiftAll}
-use Rattle.words.proofs.Words.{Bytes, Far, Off, length-addAt, addAt-off, addAt-apart, addAt-comm, addAt-same, addAt-twice, addAt-mod, addAt-zero}
+use Rattle.words.proofs.Words.{Far, Off, length-addAt, addAt-off, addAt-apart, addAt-comm, addAt-same, addAt-twice, addAt-mod, addAt-zero}
 
 -- t shares no byte with any target
 abbrev pub FarAll : ℕ → List Target → Type 0
@@ -60,11 +60,6 @@ pub shiftAll-zero : (m : List ℕ) (ts : List Target) → Bytes m → shiftAll m
 unfolding shiftAll
 shiftAll-zero m [] b = refl
 shiftAll-zero m (t ∷ ts) b = rw (addAt-zero m (t .place) b) (shiftAll-zero m ts b)
-
--- a shift and its opposite restore
-pub shiftAll-back : (m : List ℕ) (ts : List Target) (f g : ℕ → ℕ) → ((k : ℕ) → (f k + g k) % 2 ^ 32 ≡ 0) → Bytes m → Apart ts → Within (length m) ts → shiftAll (shiftAll m ts f) ts g ≡ m
-shiftAll-back m ts f g z b a w =
-    shiftAll-twice m ts f g a w ∙ ap (λ h. shiftAll m ts h) (fun-ext z) ∙ shiftAll-zero m ts b
 
 -- amounts count modulo 2^32
 pub shiftAll-mod : (m : List ℕ) (ts : List Target) (f g : ℕ → ℕ) → ((k : ℕ) → f k % 2 ^ 32 ≡ g k % 2 ^ 32) → shiftAll m ts f ≡ shiftAll m ts g

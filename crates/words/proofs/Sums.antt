@@ -8,9 +8,9 @@ use native.Mathlib.Omega.{arith}
 use native.Mathlib.Decide.{decLt}
 use mathlib.Core.Logic.{_⊎_, inl, inr, ⊎-elim}
 use lib.ListN.{getD, length}
-use Rattle.words.specs.Word.{wordAt, setWord}
+use Rattle.words.specs.Word.{Bytes, wordAt, setWord}
 use Rattle.words.specs.Sum.{blockWords, total, sumAt}
-use Rattle.words.proofs.Words.{Bytes, wordAt-lt, wordAt-same, wordAt-apart, wordAt-same-bytes, setWord-above, setWord-below}
+use Rattle.words.proofs.Words.{wordAt-lt, wordAt-same, wordAt-apart, wordAt-same-bytes, setWord-above, setWord-below}
 
 module _ (s : List ℕ) (at : ℕ) where
   pub total-none : total s at 0 ≡ 0

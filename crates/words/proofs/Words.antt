@@ -8,11 +8,7 @@ use native.Mathlib.Omega.{arith}
 use native.Mathlib.Decide.{decLt}
 use lib.ListN.{length, getD, set, length-set}
 use lib.Seq.{getD-set-same, getD-set-other, set-getD, set-comm, ext-getD}
-use Rattle.words.specs.Word.{four, wordAt, setWord, addAt}
-
--- each element is a byte
-abbrev pub Bytes : List ℕ → Type 0
-Bytes s = (k : ℕ) → getD s k 0 < 256
+use Rattle.words.specs.Word.{Bytes, four, wordAt, setWord, addAt}
 
 -- the words at a and b share no byte
 abbrev pub Far : ℕ → ℕ → Type 0
@@ -116,16 +112,6 @@ module _ (s : List ℕ) (at w : ℕ) where
       (λ h. rw (setWord-below b (omega arith), setWord-below (b + 1) (omega arith), setWord-below (b + 2) (omega arith), setWord-below (b + 3) (omega arith)))
       f
 
-pub setWord-bytes : (s : List ℕ) (at w : ℕ) → Bytes s → at + 4 ≤ length s → Bytes (setWord s at w)
-setWord-bytes s at w h fits =
-    split (λ k. getD (setWord s at w) k 0 < 256) at
-    (rw (setWord-0 s at w fits) (omega arith))
-    (rw (setWord-1 s at w fits) (omega arith))
-    (rw (setWord-2 s at w fits) (omega arith))
-    (rw (setWord-3 s at w fits) (omega arith))
-    (λ k l. rw (setWord-below s at w k l) (h k))
-    (λ k l. rw (setWord-above s at w k l) (h k))
-
 -- the word that stands there, stored again
 pub setWord-self : (s : List ℕ) (at : ℕ) → Bytes s → setWord s at (wordAt s at) ≡ s
 unfolding setWord wordAt
@@ -201,10 +187,6 @@ module _ (s : List ℕ) (at d : ℕ) where
   pub addAt-apart : (b : ℕ) → Far at b → wordAt (addAt s at d) b ≡ wordAt s b
   unfolding addAt
   addAt-apart b f = wordAt-apart s at _ b f
-
-  pub addAt-bytes : Bytes s → at + 4 ≤ length s → Bytes (addAt s at d)
-  unfolding addAt
-  addAt-bytes h fits = setWord-bytes s at _ h fits
 
   pub addAt-comm : (b e : ℕ) → Far at b → addAt (addAt s at d) b e ≡ addAt (addAt s b e) at d
   unfolding addAt

@@ -1,7 +1,11 @@
 -- Every number on a disk and in a program file is a big-endian word of 32 bits: four bytes, the highest first (the build paper, "What is built").
-use Prim.Native.Nat.{ℕ, zero, suc, _+_, _*_, _/_, _%_, _^_}
+use Prim.Native.Nat.{ℕ, zero, suc, _+_, _*_, _/_, _%_, _^_, _<_}
 use mathlib.Core.List.{List, [], _∷_}
 use lib.ListN.{getD, set}
+
+-- each element is a byte
+abbrev pub Bytes : List ℕ → Type 0
+Bytes s = (k : ℕ) → getD s k 0 < 256
 
 -- the number that four bytes make, the first the highest
 abbrev pub four : ℕ → ℕ → ℕ → ℕ → ℕ

@@ -1,0 +1,22 @@
+-- What the laws of moving speak of: bases that are addresses, equal room, and loads that are accepted (the build paper, "The program file").
+use Prim.Native.Nat.{ℕ, _/_, _^_, _<_}
+use mathlib.Core.Path.{_≡_}
+use mathlib.Core.List.{List}
+use lib.ListN.{length}
+use Rattle.program.specs.declared.check.Answer.the-variants.{Accepted}
+use Rattle.loader.specs.Memory.{amountOf}
+use Rattle.loader.specs.Calls.{loadAnswer}
+
+-- every entry is an address
+abbrev pub Addresses : List ℕ → Type 0
+Addresses l = (k : ℕ) → amountOf l k < 2 ^ 32
+
+-- room of one size: memory, table and work area as long as those
+pub record SameRoom (m t w m′ t′ w′ : List ℕ) : Type 0 where
+  pub memory : length m′ ≡ length m
+  pub table : length t′ ≡ length t
+  pub work : length w′ ≡ length w
+
+-- a load is accepted at these bases in this room
+abbrev pub LoadsAt : List ℕ → List ℕ → List ℕ → List ℕ → List ℕ → ℕ → ℕ → Type 0
+LoadsAt file bases m t w x n = loadAnswer file bases (length m) (length t / 4) (length w) ≡ Accepted x n
