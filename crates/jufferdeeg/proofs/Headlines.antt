@@ -1,12 +1,12 @@
 -- The headline theorems side by side, each cited from the crate that proves it. What the names in them mean is in the specs/ of that crate.
 -- Assumes nothing.
-use Prim.Native.Nat.{ℕ, _/_, _%_, _≤_}
+use Prim.Native.Nat.{ℕ, _≤_}
 use mathlib.Core.Path.{_≡_}
 use mathlib.Core.Logic.{_↔_}
 use mathlib.Core.List.{List, _++_}
 use lib.ListN.{length, drop, replicate}
 use Rattle.answers.specs.declared.Refusal.{Refusal}
-use Rattle.words.specs.Word.{Bytes, wordsAt}
+use Rattle.words.specs.Word.{Bytes}
 use Rattle.volume.specs.declared.disk.Disk.{Disk}
 use Rattle.volume.specs.Disks.{claimBytes}
 use Rattle.volume.specs.Law.{Volume}
@@ -105,7 +105,7 @@ module _ (d : Disk) (s path : List ℕ) where
 
 module _ (file : List ℕ) where
   -- accepted exactly if it is hunks written out, within the limits
-  pub page : ((t : ℕ) × (n : ℕ) × (checkOf file ≡ Accepted t n)) ↔ ((hs : List paper.Hunk) × paper.Program hs × (length file % 4 ≡ 0) × (wordsAt file 0 (length file / 4) ≡ paper.written hs))
+  pub page : ((t : ℕ) × (n : ℕ) × (checkOf file ≡ Accepted t n)) ↔ ((hs : List paper.Hunk) × paper.Holds file hs)
   page = pages.page file
 
   -- each refusal exactly then: of the file, of a load, of a move

@@ -1,4 +1,6 @@
 -- Laws of what specs/ defines, for this crate and those above it.
+-- answers that differ
+pub mod Answers
 -- the header's words, and its tests both ways
 pub mod Heading
 -- the header in code, and what holds behind it

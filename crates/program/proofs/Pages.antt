@@ -15,12 +15,13 @@ use Rattle.answers.specs.declared.Tested.{Tested}
 use Rattle.answers.specs.declared.Tested.the-variants.{Passed, Failed}
 use Rattle.program.specs.declared.check.Answer.{Answer}
 use Rattle.program.specs.declared.check.Answer.the-variants.{Accepted, Refused}
-use Rattle.program.specs.Page.{Hunk, joined, hunkWords, headWords, written, Each, HunkFits, Program, total}
+use Rattle.program.specs.Page.{Hunk, joined, hunkWords, headWords, written, Each, HunkFits, Program, Holds, total}
 use Rattle.program.specs.Header.{totalOf, sizeOf, startAt, headFault, heads}
 use Rattle.program.specs.Reader.{start}
 use Rattle.program.specs.Check.{walkOf, and, checkOf}
+use Rattle.program.proofs.Answers.{not-accepted}
 use Rattle.program.proofs.Taken.{Sized, hunks-on}
-use Rattle.program.proofs.Traced.{cons, refused, walk-back}
+use Rattle.program.proofs.Traced.{cons, walk-back}
 use Rattle.program.proofs.Heading.{words-add, Split, split, heads-pass, fault-0, fault-1, fault-2, fault-3, fault-4, fault-size, is-0, is-1, is-2, is-3, is-4, is-size, each-fine}
 
 -- ---- sizes
@@ -124,24 +125,24 @@ module _ (file : List ℕ) (hs : List Hunk) (p : Program hs) (even : length file
       rw (ne-eqb (length file) 0 (omega (arith, is-long)), eq-eqb (length file % 4) 0 even, heads-first, heads-second)
       (walk-taken ∙ ap (λ (k : ℕ). Accepted k (4 * total hs)) is-total)
 
-pub page-accepted : (file : List ℕ) (hs : List Hunk) → Program hs → length file % 4 ≡ 0 → wordsAt file 0 (length file / 4) ≡ written hs → checkOf file ≡ Accepted (length hs) (4 * total hs)
-page-accepted file hs p even e = is-accepted file hs p even e
+pub page-accepted : (file : List ℕ) (hs : List Hunk) → Holds file hs → checkOf file ≡ Accepted (length hs) (4 * total hs)
+page-accepted file hs h = is-accepted file hs (h .fits) (h .even) (h .words)
 
 -- ---- what is accepted is written
 
 pick-no : (b : Bool) (r : Refusal) (a : Answer) (t n : ℕ) → pick b (Refused r) a ≡ Accepted t n → (b ≡ false) × (a ≡ Accepted t n)
 unfolding pick
-pick-no true r a t n e = refused e
+pick-no true r a t n e = not-accepted e
 pick-no false r a t n e = (refl, e)
 
 pick-yes : (b : Bool) (r : Refusal) (a : Answer) (t n : ℕ) → pick b a (Refused r) ≡ Accepted t n → (b ≡ true) × (a ≡ Accepted t n)
 unfolding pick
 pick-yes true r a t n e = (refl, e)
-pick-yes false r a t n e = refused e
+pick-yes false r a t n e = not-accepted e
 
 and-both : (r : Tested) (a : Answer) (t n : ℕ) → and r a ≡ Accepted t n → (r ≡ Passed) × (a ≡ Accepted t n)
 and-both Passed a t n e = (refl, e)
-and-both (Failed r) a t n e = refused e
+and-both (Failed r) a t n e = not-accepted e
 
 -- what the check has found
 record Read (file : List ℕ) (t n : ℕ) : Type 0 where
@@ -204,13 +205,13 @@ module _ (file : List ℕ) (t n : ℕ) (r : Read file t n) where
     is-program =
         record { least = omega (arith, many, word-2); most = omega (arith, many, word-2); hunks = rw many (sized-fits (totalOf file) (sizeOf file) hs 0 z) }
 
-  read : (hs : List Hunk) × Program hs × (length file % 4 ≡ 0) × (wordsAt file 0 (length file / 4) ≡ written hs)
+  read : (hs : List Hunk) × Holds file hs
   read =
       let g = walk-back (totalOf file) (sizeOf file) small-size (length file) t n _ start (startAt file) (r .hunks) in
-      (g .0, is-program (g .0) (g .1) (g .2), r .even, all-written (g .0) (g .1) (g .2))
+      (g .0, record { fits = is-program (g .0) (g .1) (g .2); even = r .even; words = all-written (g .0) (g .1) (g .2) })
 
-pub accepted-page : (file : List ℕ) (t n : ℕ) → checkOf file ≡ Accepted t n → (hs : List Hunk) × Program hs × (length file % 4 ≡ 0) × (wordsAt file 0 (length file / 4) ≡ written hs)
+pub accepted-page : (file : List ℕ) (t n : ℕ) → checkOf file ≡ Accepted t n → (hs : List Hunk) × Holds file hs
 accepted-page file t n e = read file t n (accepted-read file t n e)
 
-pub page : (file : List ℕ) → ((t : ℕ) × (n : ℕ) × (checkOf file ≡ Accepted t n)) ↔ ((hs : List Hunk) × Program hs × (length file % 4 ≡ 0) × (wordsAt file 0 (length file / 4) ≡ written hs))
-page file = (λ a. accepted-page file (a .0) (a .1) (a .2), λ b. (length (b .0), 4 * total (b .0), page-accepted file (b .0) (b .1) (b .2) (b .3)))
+pub page : (file : List ℕ) → ((t : ℕ) × (n : ℕ) × (checkOf file ≡ Accepted t n)) ↔ ((hs : List Hunk) × Holds file hs)
+page file = (λ a. accepted-page file (a .0) (a .1) (a .2), λ b. (length (b .0), 4 * total (b .0), page-accepted file (b .0) (b .1)))

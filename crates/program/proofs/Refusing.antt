@@ -15,7 +15,7 @@ use Rattle.answers.specs.Refusals.{refusal}
 use Rattle.answers.specs.declared.Refusal.{Refusal}
 use Rattle.answers.specs.declared.Tested.{Tested}
 use Rattle.answers.specs.declared.Tested.the-variants.{Passed, Failed}
-use Rattle.program.specs.declared.check.Answer.the-variants.{Accepted, Refused}
+use Rattle.program.specs.declared.check.Answer.the-variants.{Refused}
 use Rattle.program.specs.declared.reader.Cursor.{Cursor}
 use Rattle.program.specs.declared.reader.Mode.{Mode}
 use Rattle.program.specs.declared.reader.Mode.the-variants.{Begin, NameLength, Body, Length, Stored, Part, Count, Number, Offset, Symbol, DebugLength, Skip, End}
@@ -26,6 +26,7 @@ use Rattle.program.specs.Reader.{start, on, bodyOf, endOf, turn, stepOf}
 use Rattle.program.specs.Check.{refuse, endedOf, restOf, walkOf, and, checkOf}
 use Rattle.program.specs.Sane.{Sound}
 use Rattle.program.specs.Verdicts.{Unwhole, Whole, OfHeader, Fine, faultAt, HeadFails, HeadWord, Headed, Comes, begins, takes, HunkWord, Missing, Refuses, Because}
+use Rattle.program.proofs.Answers.{not-refused, not-failed}
 use Rattle.program.proofs.Heading.{each-fine, heads-pass}
 use Rattle.program.proofs.Heads.{sound-header}
 use Rattle.program.proofs.Sanes.{pick-on}
@@ -36,9 +37,6 @@ use Rattle.program.proofs.Walks.{Reads, reads-start, reads-on, walk-on,
 failed-same : (r f : Refusal) → Failed r ≡ Failed f → f ≡ r
 failed-same r f e = cc
 
-passed-not : {X : Type 0} (f : Refusal) → Passed ≡ Failed f → X
-passed-not f e = let z : _≡_ {A = ℕ} 0 1 = cc in absurd (omega arith)
-
 fine-more : (file : List ℕ) (i : ℕ) → ((j : ℕ) → j < i → Fine file j) → Fine file i → (j : ℕ) → j < i + 1 → Fine file j
 fine-more file i b x j h = go (decLt j i)
   where
@@ -48,7 +46,7 @@ fine-more file i b x j h = go (decLt j i)
 
 heads-why : (file : List ℕ) (f : Refusal) (n i : ℕ) → ((j : ℕ) → i ≤ j → j < i + n → OfHeader file j) → ((j : ℕ) → j < i → Fine file j) → heads file i n ≡ Failed f → HeadWord file f
 unfolding heads pick
-heads-why file f zero i w b e = passed-not f e
+heads-why file f zero i w b e = not-failed e
 heads-why file f (suc n) i w b e = long (ltb (length file) (4 * i + 4)) refl e (heads-why file f n (i + 1) (λ j l h. w j (omega arith) (omega arith)))
   where
     wrong : (v : ℕ) → faultAt file i ≡ v → 4 * i + 4 ≤ length file → judge v (4 * i) (heads file (i + 1) n) ≡ Failed f → (((j : ℕ) → j < i + 1 → Fine file j) → heads file (i + 1) n ≡ Failed f → HeadWord file f) → HeadWord file f
@@ -65,14 +63,11 @@ heads-why file f (suc n) i w b e = long (ltb (length file) (4 * i + 4)) refl e (
 refused-same : (r f : Refusal) → Refused r ≡ Refused f → f ≡ r
 refused-same r f e = cc
 
-accepted-not : {X : Type 0} (t n : ℕ) (f : Refusal) → Accepted t n ≡ Refused f → X
-accepted-not t n f e = let z : _≡_ {A = ℕ} 0 1 = cc in absurd (omega arith)
-
 on-bad : {X : Type 0} (d : Cursor) (v : ℕ) → On d ≡ Bad v → X
 on-bad d v e = let z : _≡_ {A = ℕ} 0 1 = cc in absurd (omega arith)
 
 ended-why : (file : List ℕ) (f : Refusal) (c : Cursor) (m : Mode) → endedOf (length file) c m ≡ Refused f → (m ≢ End) × (f ≡ refusal 31 (length file))
-ended-why file f c End e = accepted-not _ _ f e
+ended-why file f c End e = not-refused e
 ended-why file f c Begin e = ((λ q. absurd (other q)), refused-same _ f e)
   where
     other : Begin ≡ End → ⊥

@@ -9,9 +9,8 @@ use lib.ListN.{length}
 use lib.Dec.{eqb}
 use borrow.Author.Tests.{ltb-true, ltb-false, leb-false, eqb-true, eqb-false}
 use Rattle.answers.specs.Tests.{pick}
-use Rattle.answers.specs.declared.Refusal.{Refusal}
 use Rattle.program.specs.declared.check.Answer.{Answer}
-use Rattle.program.specs.declared.check.Answer.the-variants.{Accepted, Refused}
+use Rattle.program.specs.declared.check.Answer.the-variants.{Accepted}
 use Rattle.program.specs.declared.reader.After.{After}
 use Rattle.program.specs.declared.reader.After.the-variants as after
 use Rattle.program.specs.declared.reader.Cursor.{Cursor}
@@ -22,6 +21,7 @@ use Rattle.program.specs.declared.reader.Next.the-variants.{On, Bad}
 use Rattle.program.specs.Page.{Name, Body, Group, Symbol, Part, Hunk, none, named, code, stores, bss, relocation, symbols, debug, joined, nameWords, bodyWords, groupWords, symbolWords, partWords, hunkWords, Each, bodyCount, storedWords, OffsetFits, GroupFits, SymbolFits, PartFits}
 use Rattle.program.specs.Reader.{resume, skip, bodyOf, beginOf, storedFrom, lengthOf, partOf, endOf, countOf, numberOf, offsetOf, symbolOf, turn, stepOf}
 use Rattle.program.specs.Check.{next, endedOf, walk}
+use Rattle.program.proofs.Answers.{not-accepted}
 use Rattle.program.proofs.Taken.{cursor, Sized, sized-le}
 
 pub cons : {w v : ℕ} {a b : List ℕ} → w ≡ v → a ≡ b → w ∷ a ≡ v ∷ b
@@ -41,9 +41,6 @@ last (u ∷ v ∷ us) n e = more (last (v ∷ us) (n - 1) (omega arith))
 
 grouped : (x : Name) (b : Body) (ps : List Part) (hs : List Hunk) (n : ℕ) → hunkWords (record { size = n; name = x; body = b; parts = ps }) ++ joined hunkWords hs ≡ nameWords x ++ (bodyWords b ++ (joined partWords ps ++ (0x3F2 ∷ joined hunkWords hs)))
 grouped x b ps hs n = simp append-assoc
-
-pub refused : {A : Type 0} {r : Refusal} {a b : ℕ} → Refused r ≡ Accepted a b → A
-refused e = let z : _≡_ {A = ℕ} 0 1 = cc in absurd (omega arith)
 
 module _ (t : ℕ) (size : ℕ → ℕ) where
   -- what is left in hunk h, of s stored words
@@ -254,22 +251,22 @@ module _ (t : ℕ) (size : ℕ → ℕ) where
   module _ (small : (i : ℕ) → i < t → size i ≤ 65536) (end a b : ℕ) where
     ended-back : (c : Cursor) (m : Mode) → endedOf end c m ≡ Accepted a b → Left (c .hunk) (c .stored) m []
     ended-back c mode.End e = refl
-    ended-back c mode.Begin e = refused e
-    ended-back c mode.NameLength e = refused e
-    ended-back c mode.Body e = refused e
-    ended-back c (mode.Length k) e = refused e
-    ended-back c (mode.Stored i) e = refused e
-    ended-back c mode.Part e = refused e
-    ended-back c mode.Count e = refused e
-    ended-back c (mode.Number n) e = refused e
-    ended-back c (mode.Offset n k) e = refused e
-    ended-back c mode.Symbol e = refused e
-    ended-back c mode.DebugLength e = refused e
-    ended-back c (mode.Skip n x) e = refused e
+    ended-back c mode.Begin e = not-accepted e
+    ended-back c mode.NameLength e = not-accepted e
+    ended-back c mode.Body e = not-accepted e
+    ended-back c (mode.Length k) e = not-accepted e
+    ended-back c (mode.Stored i) e = not-accepted e
+    ended-back c mode.Part e = not-accepted e
+    ended-back c mode.Count e = not-accepted e
+    ended-back c (mode.Number n) e = not-accepted e
+    ended-back c (mode.Offset n k) e = not-accepted e
+    ended-back c mode.Symbol e = not-accepted e
+    ended-back c mode.DebugLength e = not-accepted e
+    ended-back c (mode.Skip n x) e = not-accepted e
 
     next-back : (r : Next) (at : ℕ) (ws : List ℕ) (f : Cursor → Answer) → ((d : Cursor) → f d ≡ Accepted a b → Left (d .hunk) (d .stored) (d .mode) ws) → next r at f ≡ Accepted a b → Then r ws
     next-back (On d) at ws f g e = g d e
-    next-back (Bad v) at ws f g e = refused e
+    next-back (Bad v) at ws f g e = not-accepted e
 
     pub walk-back : (ws : List ℕ) (c : Cursor) (at : ℕ) → walk t size end at c ws ≡ Accepted a b → Left (c .hunk) (c .stored) (c .mode) ws
     unfolding walk stepOf

@@ -1,9 +1,10 @@
 -- A program file as the page shows it: hunks as data, and how they are written out to words (the build paper, "The program file").
-use Prim.Native.Nat.{ℕ, _+_, _-_, _*_, _%_, _^_, _≤_, _<_}
+use Prim.Native.Nat.{ℕ, _+_, _-_, _*_, _/_, _%_, _^_, _≤_, _<_}
 use mathlib.Core.Path.{_≡_}
 use mathlib.Core.Logic.{_≢_}
 use mathlib.Core.List.{List, [], _∷_, _++_, map}
 use lib.ListN.{length}
+use Rattle.words.specs.Word.{wordsAt}
 
 -- ---- the parts of a hunk
 
@@ -128,3 +129,9 @@ pub record Program (hs : List Hunk) : Type 0 where
   pub least : 1 ≤ length hs
   pub most : length hs ≤ 64
   pub hunks : Each (HunkFits (length hs)) hs
+
+-- a file holds hunks: they are within the limits, and its words are theirs, written out
+pub record Holds (file : List ℕ) (hs : List Hunk) : Type 0 where
+  pub fits : Program hs
+  pub even : length file % 4 ≡ 0
+  pub words : wordsAt file 0 (length file / 4) ≡ written hs
