@@ -9,6 +9,7 @@ use std::io::{BufWriter, Write};
 use std::path::{Path, PathBuf};
 use std::process::{Command, Stdio};
 use std::sync::atomic::{AtomicU32, Ordering};
+use std::sync::OnceLock;
 
 /// The checksum by which the instrument shows the contents of an area.
 pub fn checksum(bytes: &[u8]) -> u32 {
@@ -16,12 +17,15 @@ pub fn checksum(bytes: &[u8]) -> u32 {
     h as u32
 }
 
-/// The folder of the Rattle kit: two above the page that `rt doc` names.
-fn kit() -> PathBuf {
-    let said = Command::new("rt").arg("doc").output().expect("rt is on the PATH");
-    let page = String::from_utf8(said.stdout).expect("rt doc prints a path");
-    let folder = Path::new(page.trim()).ancestors().nth(2);
-    folder.expect("the page lies in a folder of the kit").to_path_buf()
+/// The folder of the Rattle kit: two above the page that `rt doc` names. It is asked for once.
+fn kit() -> &'static Path {
+    static KIT: OnceLock<PathBuf> = OnceLock::new();
+    KIT.get_or_init(|| {
+        let said = Command::new("rt").arg("doc").output().expect("rt is on the PATH");
+        let page = String::from_utf8(said.stdout).expect("rt doc prints a path");
+        let folder = Path::new(page.trim()).ancestors().nth(2);
+        folder.expect("the page lies in a folder of the kit").to_path_buf()
+    })
 }
 
 /// The command that runs the repository's program `target/bin/NAME`.

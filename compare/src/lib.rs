@@ -29,6 +29,7 @@
 //! - [`paths`]: paths to look for on good volumes, each with the answer due;
 //! - [`talk`]: an image that the instrument holds, and its patches;
 //! - [`samples`]: the files of the folder `samples`;
+//! - [`counter`]: what the counter's tool is to say;
 //! - [`driver`]: runs a Rattle program on a batch of requests and compares every line it answers.
 
 pub mod audit;
@@ -36,6 +37,7 @@ pub mod bad_programs;
 pub mod bad_volumes;
 pub mod bitmap;
 pub mod blocks;
+pub mod counter;
 pub mod declared;
 pub mod disk;
 pub mod driver;

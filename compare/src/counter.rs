@@ -1,0 +1,280 @@
+//! What the counter's tool `bench` is to say, made from the answers of this package.
+//!
+//! Names and paths are shown as they were given, so all text is bytes here. What the tool says before it asks
+//! anything, such as a wrong use, is not here: the tests write it out.
+
+use crate::audit::{audit, Report};
+use crate::blocks::DIRECTORY;
+use crate::disk::Disk;
+use crate::loader::{load, relocate, Lent, Loaded, RECORD};
+use crate::lookup::{find, Found};
+use crate::program::{read as read_program, Refusal, HUNKS};
+use crate::reading::read;
+
+const DISK: Disk = Disk::FLOPPY;
+
+/// The longest image that the tool takes, the longest program file, and the longest argument.
+pub const IMAGE_ROOM: usize = 1_802_240;
+pub const FILE_ROOM: usize = 1_048_576;
+pub const ARGUMENT_ROOM: usize = 4_096;
+
+/// The memory that it lends a program, and as much of a work area.
+pub const MEMORY: usize = 1_048_576;
+
+/// The most entries of a list of bases.
+pub const BASES: usize = 256;
+
+/// What each refusal means, in words; to that of 41 belong two numbers.
+pub const SENTENCES: [(u32, &str); 33] = [
+    (1, "the image is not 901120 bytes long"),
+    (2, "the claim area is too short"),
+    (3, "the image does not begin with the boot tag DOS 0"),
+    (4, "a fixed word of the root block is wrong"),
+    (5, "a key is not in 2 to 1759"),
+    (6, "a block is claimed twice, or a chain is too long"),
+    (7, "the sum of the block is not 0"),
+    (8, "a type word of the block is wrong"),
+    (9, "the entry is a link"),
+    (10, "the own key, the parent or a directory's last link is wrong"),
+    (11, "the name is not allowed"),
+    (12, "the name hangs in the wrong slot"),
+    (13, "the directory has this name twice"),
+    (14, "the size, the key count, the list link or an empty file's first data key is wrong"),
+    (15, "the words of the data block are wrong, or the block before does not name it"),
+    (16, "a bitmap word of the root block is wrong"),
+    (17, "the bitmap has the bit of this block wrong"),
+    (18, "the path is not well formed here"),
+    (19, "there is no such name"),
+    (20, "a file is used as a directory, or a directory as a file"),
+    (30, "the file is empty or not made of whole words"),
+    (31, "the file ends too early"),
+    (32, "the first word, the hunk count, or the first or last hunk number is wrong"),
+    (33, "the file names a library"),
+    (34, "the size of the hunk is too large"),
+    (35, "this type of block is not allowed here"),
+    (36, "more words are stored than the hunk has"),
+    (37, "the symbol type is not allowed"),
+    (38, "the hunk number or the offset is not allowed"),
+    (39, "there is more after the last hunk"),
+    (40, "the bases are not one for each hunk, or this one is not allowed"),
+    (41, "the room is too small"),
+    (42, "the offset is less than 4 bytes from another one of its hunk"),
+];
+
+/// What a run says: on standard output and on standard error.
+#[derive(Clone, Debug, Default, PartialEq, Eq)]
+pub struct Said {
+    /// Standard output.
+    pub out: Vec<u8>,
+    /// Standard error.
+    pub err: Vec<u8>,
+}
+
+/// What a refusal means.
+pub fn sentence(number: u32) -> &'static str {
+    let (_, text) = SENTENCES.iter().find(|&&(other, _)| other == number).expect("a number with a sentence");
+    text
+}
+
+/// A refusal, with its number, its place and its sentence.
+fn refused(refusal: Refusal) -> String {
+    let Refusal { number, place } = refusal;
+    format!("refused {number} at {place} ({})", sentence(number))
+}
+
+/// A refusal of a load or a move of this file.
+fn program_refused(refusal: Refusal, file: &[u8]) -> String {
+    if refusal.number != 41 {
+        return refused(refusal);
+    }
+    let hunks = read_program(file).expect("room is asked for after the whole file");
+    let needed: usize = hunks.iter().map(|hunk| 4 * hunk.size).sum();
+    format!("refused 41 at 0 ({}: {needed} bytes needed, {MEMORY} lent)", sentence(41))
+}
+
+/// A name or a path, and what is said of it.
+pub fn line(name: &[u8], text: &str) -> Vec<u8> {
+    [name, b": ", text.as_bytes(), b"\n"].concat()
+}
+
+/// What an audit says of an image, and whether it accepts it.
+pub fn audited(image: &[u8]) -> (String, bool) {
+    let mut claim = vec![0; DISK.claim_length()];
+    match audit(&DISK, image, &mut claim) {
+        Ok(Report { directories, files, list_blocks, data_blocks, used, free }) => {
+            let entries = format!("{directories} directories, {files} files");
+            let blocks = format!("{list_blocks} list blocks, {data_blocks} data blocks, {used} used, {free} free");
+            (format!("accepted, {entries}, {blocks}"), true)
+        }
+        Err(refusal) => (refused(refusal), false),
+    }
+}
+
+/// What a lookup says of a path.
+pub fn looked_up(image: &[u8], path: &[u8]) -> String {
+    match find(&DISK, image, path) {
+        Ok(Found { kind, key, compared, .. }) if kind == DIRECTORY => {
+            format!("directory, key {key}, compared {compared}")
+        }
+        Ok(Found { key, size, compared, .. }) => format!("file, key {key}, size {size}, compared {compared}"),
+        Err(refusal) => refused(refusal),
+    }
+}
+
+/// All bytes of a file on an image.
+pub fn bytes_of(image: &[u8], path: &[u8]) -> Result<Vec<u8>, Refusal> {
+    let mut output = vec![0; DISK.file_limit() as usize];
+    let count = read(&DISK, image, path, 0, &mut output)?;
+    output.truncate(count);
+    Ok(output)
+}
+
+/// What a read says: the bytes of the file, or on the other side why not.
+pub fn read_out(image: &[u8], path: &[u8]) -> Said {
+    match bytes_of(image, path) {
+        Ok(out) => Said { out, err: Vec::new() },
+        Err(refusal) => {
+            let err = [b"bench: ", &line(path, &refused(refusal))[..]].concat();
+            Said { out: Vec::new(), err }
+        }
+    }
+}
+
+/// The areas that the tool lends.
+struct Areas {
+    memory: Vec<u8>,
+    table: Vec<u32>,
+    work: Vec<u8>,
+}
+
+impl Areas {
+    fn new() -> Areas {
+        Areas { memory: vec![0; MEMORY], table: vec![0; RECORD * HUNKS as usize], work: vec![0; MEMORY] }
+    }
+
+    fn lent(&mut self) -> Lent<'_> {
+        Lent { memory: &mut self.memory, table: &mut self.table, work: &mut self.work }
+    }
+
+    /// The words and the table of a program in these areas.
+    fn shown(&self, loaded: Loaded) -> Vec<u8> {
+        let word = |four: &[u8]| four.iter().map(|byte| format!("{byte:02X}")).collect::<String>() + "\n";
+        let words: String = self.memory[..loaded.bytes].chunks(4).map(word).collect();
+        let record = |(index, record): (usize, &[u32])| {
+            let &[kind, place, size, base] = record else { unreachable!("a record of four numbers") };
+            format!("hunk {index}: kind {kind:03X}, place {place}, size {size}, base {base:08X}\n")
+        };
+        let records: String = self.table.chunks(RECORD).take(loaded.hunks).enumerate().map(record).collect();
+        (words + &records).into_bytes()
+    }
+}
+
+/// What a load says of a file with this name.
+pub fn loaded(name: &[u8], file: &[u8], bases: &[u32]) -> Vec<u8> {
+    let mut areas = Areas::new();
+    match load(file, bases, areas.lent()) {
+        Ok(loaded) => areas.shown(loaded),
+        Err(refusal) => line(name, &program_refused(refusal, file)),
+    }
+}
+
+/// What a load and a move say of a file with this name.
+pub fn moved(name: &[u8], file: &[u8], old: &[u32], new: &[u32]) -> Vec<u8> {
+    let mut areas = Areas::new();
+    let answer = load(file, old, areas.lent()).and_then(|_| relocate(file, old, new, areas.lent()));
+    match answer {
+        Ok(loaded) => areas.shown(loaded),
+        Err(refusal) => line(name, &program_refused(refusal, file)),
+    }
+}
+
+/// What a reset says: a line for each step, and whether the last of them is no refusal.
+fn steps(image: &[u8], path: &[u8], bases: &[u32]) -> Vec<(&'static str, String)> {
+    let (text, accepted) = audited(image);
+    let mut steps = vec![("audit", text)];
+    if !accepted {
+        return steps;
+    }
+    steps.push(("find", looked_up(image, path)));
+    if find(&DISK, image, path).is_err() {
+        return steps;
+    }
+    let file = match bytes_of(image, path) {
+        Ok(file) => file,
+        Err(refusal) => {
+            steps.push(("read", refused(refusal)));
+            return steps;
+        }
+    };
+    steps.push(("read", format!("{} bytes", file.len())));
+    let text = match load(&file, bases, Areas::new().lent()) {
+        Ok(Loaded { hunks, bytes }) => format!("{hunks} hunks, {bytes} bytes"),
+        Err(refusal) => program_refused(refusal, &file),
+    };
+    steps.push(("load", text));
+    steps
+}
+
+/// What a reset says of the program with this path.
+pub fn reset(image: &[u8], path: &[u8], bases: &[u32]) -> Vec<u8> {
+    steps(image, path, bases).iter().flat_map(|(step, text)| line(step.as_bytes(), text)).collect()
+}
+
+#[cfg(test)]
+mod tests {
+    use super::*;
+    use crate::programs::worked_file;
+    use crate::samples::{damaged, title, titles, SETTINGS, TITLE};
+    use std::collections::BTreeSet;
+
+    /// Every number has a sentence, and no two have the same.
+    #[test]
+    fn sentences_tell_the_numbers_apart() {
+        let numbers: Vec<u32> = SENTENCES.iter().map(|&(number, _)| number).collect();
+        assert_eq!(numbers, (1..21).chain(30..43).collect::<Vec<u32>>());
+        let different: BTreeSet<&str> = SENTENCES.iter().map(|&(_, text)| text).collect();
+        assert_eq!(different.len(), SENTENCES.len());
+    }
+
+    #[test]
+    fn lines_of_the_samples() {
+        let (text, accepted) = audited(&titles());
+        assert_eq!(text, "accepted, 4 directories, 3 files, 1 list blocks, 76 data blocks, 86 used, 1672 free");
+        assert!(accepted);
+        let (text, accepted) = audited(&damaged());
+        assert_eq!((&text[..12], accepted), ("refused 7 at", false));
+        assert!(text.ends_with(" (the sum of the block is not 0)"), "{text}");
+        assert_eq!(looked_up(&titles(), b""), "directory, key 880, compared 0");
+        let size = title().len();
+        assert!(looked_up(&titles(), TITLE.as_bytes()).ends_with(&format!(", size {size}, compared 2")));
+        let said = read_out(&titles(), b"s/nobody");
+        assert_eq!(said.err, b"bench: s/nobody: refused 19 at 1 (there is no such name)\n");
+        assert_eq!(read_out(&titles(), SETTINGS.as_bytes()).err, b"");
+    }
+
+    /// The build paper's own case (section "Worked cases"), loaded and moved.
+    #[test]
+    fn words_and_tables() {
+        let text = String::from_utf8(loaded(b"f", &worked_file(), &[0x3000, 0x7000])).expect("a text");
+        let lines: Vec<&str> = text.lines().collect();
+        assert_eq!((lines.len(), lines[0], lines[9]), (12, "00003008", "0000300A"));
+        assert_eq!(lines[10], "hunk 0: kind 3E9, place 0, size 6, base 00003000");
+        assert_eq!(lines[11], "hunk 1: kind 3E9, place 24, size 4, base 00007000");
+        let text = moved(b"f", &worked_file(), &[0x3000, 0x7000], &[0x4000, 0x9000]);
+        assert_eq!(text, loaded(b"f", &worked_file(), &[0x4000, 0x9000]));
+        assert_eq!(text[..9], *b"00004008\n");
+        let text = moved(b"f", &worked_file(), &[0x3000, 0x7000], &[0, 1]);
+        let due = "f: refused 40 at 3 (the bases are not one for each hunk, or this one is not allowed)\n";
+        assert_eq!(text, due.as_bytes());
+    }
+
+    #[test]
+    fn a_reset_ends_at_the_first_refusal() {
+        let lines = |image: &[u8], path: &[u8], bases: &[u32]| steps(image, path, bases).len();
+        assert_eq!(lines(&titles(), TITLE.as_bytes(), &[0x1000, 0x2000, 0x3000]), 4);
+        assert_eq!(lines(&titles(), TITLE.as_bytes(), &[0x1000]), 4);
+        assert_eq!(lines(&titles(), b"c", &[0x1000]), 3);
+        assert_eq!(lines(&titles(), b"d", &[0x1000]), 2);
+        assert_eq!(lines(&damaged(), TITLE.as_bytes(), &[0x1000]), 1);
+    }
+}

@@ -1,0 +1,983 @@
+//! Holds the counter's tool `bench` to its page: what it says of images and programs, and what it says where it
+//! cannot ask.
+//!
+//! Answers due come from this package, see [`counter`](compare::counter); what is said of a wrong use is written out
+//! here. Standard output and standard error are both held to the byte. Every run has a folder of its own, and what
+//! is in it has to be the same afterwards.
+
+use std::collections::{BTreeMap, BTreeSet};
+use std::ffi::OsStr;
+use std::fs;
+use std::os::unix::ffi::OsStrExt;
+use std::os::unix::fs::PermissionsExt;
+use std::path::{Path, PathBuf};
+use std::process::{Command, Stdio};
+use std::sync::atomic::{AtomicU32, Ordering};
+
+use compare::bad_programs::{bad_bases, scratch as scratch_program, BASE_CAUSES, CAUSES};
+use compare::bad_volumes::{apply, scratch, Patch};
+use compare::bitmap::place;
+use compare::counter::{
+    audited, line, loaded, looked_up, moved, read_out, reset, Said, ARGUMENT_ROOM, BASES, FILE_ROOM, IMAGE_ROOM,
+    MEMORY, SENTENCES,
+};
+use compare::disk::Disk;
+use compare::driver::rattle;
+use compare::names::{put_name, slot};
+use compare::paths::{bad_forms, Paths};
+use compare::program::{BSS, CODE, END, HEADER, HUNK_WORDS, RELOCATIONS, SYMBOLS};
+use compare::programs::{bytes, file, good_bases, good_program, long_file, worked_file};
+use compare::rng::Rng;
+use compare::samples::{damaged, title, titles, FONT, SETTINGS, TITLE};
+use compare::volumes::{any_style, chain, empty, files, full, mixed, nested, Entry, Kind, Plan, Volume};
+use compare::words::{mend, put, slot_word, word, BLOCK_BYTES};
+
+const DISK: Disk = Disk::FLOPPY;
+
+/// Bases for the title program.
+const BASES_A: [u32; 3] = [0x1_0000, 0x2_0000, 0x3_0000];
+const BASES_B: [u32; 3] = [0x4_0000, 0x0, 0xFFFF_FFE4];
+
+/// A folder in which the tool is run, and the files in it.
+struct Desk {
+    folder: PathBuf,
+    files: BTreeMap<String, Vec<u8>>,
+}
+
+impl Drop for Desk {
+    fn drop(&mut self) {
+        // nothing can be done about a folder that will not go, least of all while unwinding
+        let _ = fs::remove_dir_all(&self.folder);
+    }
+}
+
+impl Desk {
+    /// A desk with these files.
+    fn new<N: Into<String>>(files: impl IntoIterator<Item = (N, Vec<u8>)>) -> Desk {
+        static MADE: AtomicU32 = AtomicU32::new(0);
+        let (process, count) = (std::process::id(), MADE.fetch_add(1, Ordering::Relaxed));
+        let folder = std::env::temp_dir().join(format!("compare-bench-{process}-{count}"));
+        fs::create_dir(&folder).expect("a new folder");
+        let files = files.into_iter().map(|(name, bytes)| (name.into(), bytes)).collect();
+        let desk = Desk { folder, files };
+        for (name, bytes) in &desk.files {
+            fs::write(desk.folder.join(name), bytes).expect("room for a file");
+        }
+        desk
+    }
+
+    /// The desk with the samples.
+    fn with_samples() -> Desk {
+        Desk::new(compare::samples::all())
+    }
+
+    fn file(&self, name: &str) -> &[u8] {
+        &self.files[name]
+    }
+
+    /// What a command says with these words; the files have to stay as they are, and no others to come.
+    fn said_by(&self, mut command: Command, words: &[impl AsRef<[u8]>]) -> Said {
+        command.args(words.iter().map(|word| OsStr::from_bytes(word.as_ref())));
+        command.current_dir(&self.folder).stdin(Stdio::null());
+        let run = command.output().expect("a program that starts");
+        assert!(run.status.success(), "{}: {}", shown(words), run.status);
+        self.hold_files(words);
+        Said { out: run.stdout, err: run.stderr }
+    }
+
+    fn hold_files(&self, words: &[impl AsRef<[u8]>]) {
+        let mut names = BTreeSet::new();
+        for entry in fs::read_dir(&self.folder).expect("the folder") {
+            let entry = entry.expect("an entry of the folder");
+            let name = entry.file_name().into_string().expect("a name of ours");
+            if entry.file_type().expect("a kind of entry").is_file() {
+                let found = fs::read(entry.path()).expect("a file of ours");
+                assert!(self.files.get(&name) == Some(&found), "{}: {name} is changed or new", shown(words));
+                names.insert(name);
+            }
+        }
+        assert!(names.iter().eq(self.files.keys()), "{}: {names:?} are left", shown(words));
+    }
+
+    /// What the tool says with these words.
+    fn said(&self, words: &[impl AsRef<[u8]>]) -> Said {
+        self.said_by(rattle("bench"), words)
+    }
+
+    fn hold(&self, words: &[impl AsRef<[u8]>], due: &Said) {
+        hold_said(words, &self.said(words), due);
+    }
+
+    /// Holds the tool to this standard output, and to silence on the other side.
+    fn hold_out(&self, words: &[impl AsRef<[u8]>], out: &[u8]) {
+        self.hold(words, &Said { out: out.to_vec(), err: Vec::new() });
+    }
+
+    /// Holds the tool to this one line on standard error, after `bench: `, and to nothing else.
+    fn hold_err(&self, words: &[impl AsRef<[u8]>], text: impl AsRef<[u8]>) {
+        let err = [b"bench: ", text.as_ref(), b"\n"].concat();
+        self.hold(words, &Said { out: Vec::new(), err });
+    }
+
+    /// What an audit of these files is to say, all of which are there; several get a last line.
+    fn hold_audit(&self, names: &[&str]) {
+        let words = [&["audit"], names].concat();
+        let answers: Vec<_> = names.iter().map(|name| (name, audited(self.file(name)))).collect();
+        let mut out: Vec<u8> = answers.iter().flat_map(|(name, (text, _))| line(name.as_bytes(), text)).collect();
+        if names.len() > 1 {
+            let accepted = answers.iter().filter(|(_, (_, accepted))| *accepted).count();
+            let refused = names.len() - accepted;
+            let last = format!("{} images: {accepted} accepted, {refused} refused, 0 not read\n", names.len());
+            out.extend(last.bytes());
+        }
+        self.hold_out(&words, &out);
+    }
+
+    fn hold_find(&self, image: &str, paths: &[impl AsRef<[u8]>]) {
+        let given = paths.iter().map(|path| path.as_ref());
+        let words: Vec<&[u8]> = [b"find", image.as_bytes()].into_iter().chain(given.clone()).collect();
+        let text = |path| line(path, &looked_up(self.file(image), path));
+        self.hold_out(&words, &given.flat_map(text).collect::<Vec<u8>>());
+    }
+
+    fn hold_read(&self, image: &str, path: &[u8]) {
+        self.hold(&[b"read", image.as_bytes(), path], &read_out(self.file(image), path));
+    }
+
+    fn hold_load(&self, name: &str, bases: &[u32]) {
+        let out = loaded(name.as_bytes(), self.file(name), bases);
+        self.hold_out(&words_of("load", name, &[bases]), &out);
+    }
+
+    fn hold_move(&self, name: &str, old: &[u32], new: &[u32]) {
+        let out = moved(name.as_bytes(), self.file(name), old, new);
+        self.hold_out(&words_of("move", name, &[old, new]), &out);
+    }
+
+    fn hold_reset(&self, image: &str, path: &[u8], bases: &[u32]) {
+        let bases_given = bases.iter().map(|base| format!("{base:X}").into_bytes());
+        let start = [b"reset".to_vec(), image.as_bytes().to_vec(), path.to_vec()];
+        let words: Vec<Vec<u8>> = start.into_iter().chain(bases_given).collect();
+        self.hold_out(&words, &reset(self.file(image), path, bases));
+    }
+}
+
+/// A base in one of the forms that it may have.
+fn base_word(index: usize, base: u32) -> String {
+    match index % 5 {
+        0 => format!("{base:X}"),
+        1 => format!("{base:x}"),
+        2 => format!("0x{base:X}"),
+        3 => format!("{base:08x}"),
+        _ => format!("0x{base:08X}"),
+    }
+}
+
+/// The words of a load of a file, or of a move if there are two lists.
+fn words_of(verb: &str, name: &str, lists: &[&[u32]]) -> Vec<String> {
+    let written = |list: &&[u32]| list.iter().enumerate().map(|(at, &base)| base_word(at, base)).collect();
+    let lists: Vec<Vec<String>> = lists.iter().map(written).collect();
+    let bases = lists.join(&"to".to_string());
+    [verb.to_string(), name.to_string()].into_iter().chain(bases).collect()
+}
+
+/// Words for a message; long ones are cut.
+fn shown(words: &[impl AsRef<[u8]>]) -> String {
+    let cut = |word: &[u8]| String::from_utf8_lossy(&word[..word.len().min(60)]).into_owned();
+    words.iter().map(|word| cut(word.as_ref())).take(12).collect::<Vec<_>>().join(" ")
+}
+
+/// Holds what was said to what is due; a message shows both from a little before where they part.
+fn hold_said(words: &[impl AsRef<[u8]>], got: &Said, due: &Said) {
+    for (side, got, due) in [("error", &got.err, &due.err), ("output", &got.out, &due.out)] {
+        let same = got.iter().zip(due).take_while(|(a, b)| a == b).count();
+        let near = |bytes: &[u8]| {
+            let part = bytes.iter().skip(same.saturating_sub(80)).take(240).copied();
+            String::from_utf8_lossy(&part.collect::<Vec<u8>>()).into_owned()
+        };
+        let words = shown(words);
+        assert!(got == due, "{words}: standard {side}, byte {same}: {:?}, not {:?}", near(got), near(due));
+    }
+}
+
+fn laid_out(rng: &mut Rng, plan: &Plan) -> Volume {
+    let style = any_style(rng);
+    Volume::new(rng, &DISK, plan, style)
+}
+
+#[test]
+fn alone_it_says_how_it_is_used() {
+    let desk = Desk::with_samples();
+    let none: [&str; 0] = [];
+    let said = desk.said(&none);
+    assert_eq!(said.err, b"");
+    let text = String::from_utf8(said.out).expect("a text");
+    assert!(text.ends_with('\n') && (7..=10).contains(&text.lines().count()), "{text}");
+    for verb in ["audit", "find", "read", "load", "move", "reset"] {
+        assert!(text.contains(verb), "{verb} in {text}");
+    }
+    assert!(text.replace(',', "").contains(&MEMORY.to_string()), "the room for program memory in {text}");
+}
+
+#[test]
+fn wrong_uses() {
+    let desk = Desk::with_samples();
+    let find = "find needs an IMAGE and a PATH";
+    let read = "read needs an IMAGE and one PATH";
+    let load = "load needs a FILE and a BASE for each hunk";
+    let there = "move needs a FILE, old bases, the word to, and new bases";
+    let reset = "reset needs an IMAGE, a PATH and a BASE for each hunk";
+    let uses: [(&[&str], &str); 22] = [
+        (&["audit"], "audit needs an IMAGE"),
+        (&["find"], find),
+        (&["find", "titles.adf"], find),
+        (&["find", "nothing.adf"], find),
+        (&["read"], read),
+        (&["read", "titles.adf"], read),
+        (&["read", "titles.adf", TITLE, SETTINGS], read),
+        (&["read", "titles.adf", TITLE, "0"], read),
+        (&["load"], load),
+        (&["load", "title"], load),
+        (&["load", "nothing"], load),
+        (&["move"], there),
+        (&["move", "title"], there),
+        (&["move", "title", "to"], there),
+        (&["move", "title", "1000", "2000", "3000"], there),
+        (&["move", "title", "1000", "2000", "3000", "to"], there),
+        (&["move", "title", "to", "1000", "2000", "3000"], there),
+        (&["move", "nothing"], there),
+        (&["reset"], reset),
+        (&["reset", "titles.adf"], reset),
+        (&["reset", "titles.adf", TITLE], reset),
+        (&["reset", "nothing.adf", TITLE], reset),
+    ];
+    for (words, text) in uses {
+        desk.hold_err(words, text);
+    }
+}
+
+#[test]
+fn verbs_that_are_none() {
+    let desk = Desk::with_samples();
+    let longest = "v".repeat(ARGUMENT_ROOM);
+    for verb in ["frobnicate", "AUDIT", "audits", "audi", "help", "--help", "-h", "", " ", "to", &longest] {
+        let text = format!("{verb} is no verb; ./bench alone says how it is used");
+        desk.hold_err(&[verb], &text);
+        desk.hold_err(&[verb, "titles.adf"], &text);
+    }
+    let high = [b"verb\xE4 is no verb; ", &b"./bench alone says how it is used"[..]].concat();
+    desk.hold_err(&[b"verb\xE4"], high);
+}
+
+/// Texts that are no bases.
+const NO_BASES: [&str; 17] = [
+    "",
+    "xyz",
+    "123456789",
+    "000000001",
+    "0x",
+    "0x123456789",
+    "0x0x1",
+    "x1",
+    "10g",
+    " 10",
+    "10 ",
+    "+10",
+    "-4",
+    "1.0",
+    "1,000",
+    "$1000",
+    "to0",
+];
+
+/// All bases are tested before a file is opened.
+#[test]
+fn bases_that_are_none() {
+    let desk = Desk::with_samples();
+    for (number, text) in NO_BASES.into_iter().enumerate() {
+        let due = format!("{text} is no base: a base is 1 to 8 hex digits");
+        desk.hold_err(&["load", "title", text, "2000", "3000"], &due);
+        let elsewhere: [&[&str]; 4] = [
+            &["load", "nothing", "1000", "2000", text],
+            &["move", "nothing", "1000", text, "xyz", "to", "1000"],
+            &["move", "title", "1000", "to", "1000", "2000", text],
+            &["reset", "nothing.adf", TITLE, "1000", text],
+        ];
+        desk.hold_err(elsewhere[number % 4], &due);
+    }
+    desk.hold_err(&["load", "title", "to"], "to is no base: a base is 1 to 8 hex digits");
+    desk.hold_err(&["move", "title", "1", "to", "2", "to", "3"], "to is no base: a base is 1 to 8 hex digits");
+    let high = [&b"1\xFF is no base: "[..], b"a base is 1 to 8 hex digits"].concat();
+    desk.hold_err(&[&b"load"[..], b"title", b"1\xFF"], high);
+    let longest = "0".repeat(ARGUMENT_ROOM);
+    desk.hold_err(&["load", "title", &longest], format!("{longest} is no base: a base is 1 to 8 hex digits"));
+}
+
+#[test]
+fn lists_of_256_bases_and_longer_ones() {
+    let desk = Desk::with_samples();
+    let list = vec![0x1000; BASES];
+    let longer: Vec<u32> = list.iter().copied().chain([0x1000]).collect();
+    desk.hold_load("title", &list);
+    desk.hold_move("title", &list, &list);
+    desk.hold_move("title", &BASES_A, &list);
+    desk.hold_reset("titles.adf", TITLE.as_bytes(), &list);
+    let text = "there are more than 256 bases";
+    desk.hold_err(&words_of("load", "title", &[&longer]), text);
+    desk.hold_err(&words_of("load", "nothing", &[&longer]), text);
+    desk.hold_err(&words_of("load", "title", &[&[&longer[..], &list].concat()]), text);
+    desk.hold_err(&words_of("move", "title", &[&longer, &BASES_A]), text);
+    desk.hold_err(&words_of("move", "title", &[&BASES_A, &longer]), text);
+    let mut reset = words_of("reset", "titles.adf", &[&longer]);
+    reset.insert(2, TITLE.to_string());
+    desk.hold_err(&reset, text);
+}
+
+/// The words of a call of each verb about the file of this name, an image or a program file.
+fn calls(name: &str) -> [(bool, Vec<String>); 6] {
+    let call = |words: &[&str]| words.iter().map(|word| word.to_string()).collect();
+    [
+        (true, call(&["audit", name])),
+        (true, call(&["find", name, TITLE, SETTINGS])),
+        (true, call(&["read", name, TITLE])),
+        (true, call(&["reset", name, TITLE, "1000", "2000", "3000"])),
+        (false, call(&["load", name, "1000", "2000", "3000"])),
+        (false, call(&["move", name, "1000", "2000", "3000", "to", "1000", "2000", "3000"])),
+    ]
+}
+
+#[test]
+fn files_that_cannot_be_had() {
+    let desk = Desk::new([
+        ("long.adf", vec![0; 3_000_000]),
+        ("longer.adf", vec![0; IMAGE_ROOM + 1]),
+        ("long", vec![0; FILE_ROOM + 1]),
+    ]);
+    fs::create_dir(desk.folder.join("folder")).expect("a folder");
+    for (name, what) in [("nothing", "opened"), ("", "opened"), ("folder/nothing", "opened"), ("folder", "read")] {
+        for (_, words) in calls(name) {
+            desk.hold_err(&words, format!("{name}: cannot be {what}"));
+        }
+    }
+    for (name, in_image) in [("long.adf", true), ("longer.adf", true), ("long", false), ("long.adf", false)] {
+        for (_, words) in calls(name).into_iter().filter(|&(image, _)| image == in_image) {
+            let room = if in_image {
+                "1802240 bytes, the room for an image"
+            } else {
+                "1048576 bytes, the room for a program file"
+            };
+            desk.hold_err(&words, format!("{name}: longer than {room}"));
+        }
+    }
+    let longest = "n".repeat(ARGUMENT_ROOM);
+    desk.hold_err(&["audit", &longest], format!("{longest}: cannot be opened"));
+    desk.hold_err(&["move", "to", "1000", "to", "2000"], "to: cannot be opened");
+    let high = [&b"n\xE9ant"[..], b": cannot be opened"].concat();
+    desk.hold_err(&[&b"load"[..], b"n\xE9ant", b"1000"], high);
+}
+
+/// A word that is too long is said so before anything is looked at; it is counted from the verb on.
+#[test]
+fn arguments_above_their_room() {
+    let desk = Desk::with_samples();
+    let long = "a".repeat(5_000);
+    let just = "a".repeat(ARGUMENT_ROOM + 1);
+    let calls: [(&[&str], usize); 14] = [
+        (&[&long], 1),
+        (&[&just], 1),
+        (&["audit", &long], 2),
+        (&["audit", &just], 2),
+        (&["audit", "titles.adf", &long], 3),
+        (&["audit", "nothing.adf", "titles.adf", &just, &long], 4),
+        (&["find", "titles.adf", TITLE, &long], 4),
+        (&["find", &long, TITLE], 2),
+        (&["find", "titles.adf", &just], 3),
+        (&["read", "titles.adf", &long], 3),
+        (&["load", "title", "1000", &long, "3000"], 4),
+        (&["load", "nothing", "xyz", &long], 4),
+        (&["move", "title", "1000", "2000", "3000", "to", "1000", &just], 8),
+        (&["reset", "titles.adf", &long, "1000", "2000", "3000"], 3),
+    ];
+    for (words, place) in calls {
+        desk.hold_err(words, format!("argument {place}: longer than 4096 bytes"));
+    }
+}
+
+/// Images of lengths that no volume has; those within the room are refused by the audit, not by the tool.
+#[test]
+fn images_of_other_lengths() {
+    let whole = titles();
+    let cut = |length: usize| whole.iter().copied().chain(std::iter::repeat(0)).take(length).collect::<Vec<u8>>();
+    let lengths = [0, 1, 901_119, 901_121, IMAGE_ROOM];
+    let names = lengths.map(|length| format!("{length}.adf"));
+    let desk = Desk::new(names.iter().cloned().zip(lengths.map(cut)));
+    for name in &names {
+        let due = "refused 1 at 0 (the image is not 901120 bytes long)";
+        desk.hold_out(&["audit", name], &line(name.as_bytes(), due));
+        desk.hold_find(name, &["", TITLE, "a//b"]);
+        desk.hold_read(name, TITLE.as_bytes());
+        desk.hold_reset(name, TITLE.as_bytes(), &BASES_A);
+    }
+    desk.hold_audit(&names.each_ref().map(|name| &name[..]));
+}
+
+/// A file that cannot be had does not end an audit of several.
+#[test]
+fn audits_of_several_images_go_on() {
+    let mut files = compare::samples::all().to_vec();
+    files.push(("long.adf", vec![0; IMAGE_ROOM + 1]));
+    files.push(("a b.adf", titles()));
+    let desk = Desk::new(files);
+    fs::create_dir(desk.folder.join("folder")).expect("a folder");
+    let (good, bad) = (audited(&titles()).0, audited(&damaged()).0);
+    let words = ["audit", "nothing", "titles.adf", "folder", "damaged.adf", "long.adf", "a b.adf", "title"];
+    let lines = [
+        line(b"titles.adf", &good),
+        line(b"damaged.adf", &bad),
+        line(b"a b.adf", &good),
+        line(b"title", "refused 1 at 0 (the image is not 901120 bytes long)"),
+        b"7 images: 2 accepted, 2 refused, 3 not read\n".to_vec(),
+    ];
+    let errors = "bench: nothing: cannot be opened\nbench: folder: cannot be read\n\
+                  bench: long.adf: longer than 1802240 bytes, the room for an image\n";
+    desk.hold(&words, &Said { out: lines.concat(), err: errors.into() });
+    let last = b"2 images: 0 accepted, 0 refused, 2 not read\n".to_vec();
+    let errors = "bench: folder: cannot be read\nbench: : cannot be opened\n";
+    desk.hold(&["audit", "folder", ""], &Said { out: last, err: errors.into() });
+    desk.hold_audit(&["titles.adf", "titles.adf"]);
+}
+
+#[test]
+fn every_verb_on_the_samples() {
+    let desk = Desk::with_samples();
+    desk.hold_audit(&["titles.adf"]);
+    desk.hold_audit(&["damaged.adf"]);
+    desk.hold_audit(&["titles.adf", "damaged.adf", "title"]);
+    let paths = ["", "c", TITLE, "C/TITLE", SETTINGS, FONT, "t", "t/x", "c/title/x", "/", "c/", ":c", "a b"];
+    for image in ["titles.adf", "damaged.adf"] {
+        desk.hold_find(image, &paths);
+        for path in [TITLE, SETTINGS, FONT, "Fonts/Lower-Third", "", "c", "nobody", "c/title/x", "c//title"] {
+            desk.hold_read(image, path.as_bytes());
+        }
+        for path in [TITLE, SETTINGS, "c", "", "nobody"] {
+            desk.hold_reset(image, path.as_bytes(), &BASES_A);
+        }
+    }
+    desk.hold_load("title", &BASES_A);
+    desk.hold_load("title", &BASES_B);
+    desk.hold_move("title", &BASES_A, &BASES_B);
+    desk.hold_move("title", &BASES_A, &BASES_A);
+    // an image is no program file
+    desk.hold_load("titles.adf", &BASES_A);
+}
+
+/// The four lines of a reset, and each step's refusal as the last.
+#[test]
+fn resets() {
+    let desk = Desk::with_samples();
+    let (audit, find) = (audited(&titles()).0, looked_up(&titles(), TITLE.as_bytes()));
+    let start = format!("audit: {audit}\nfind: {find}\nread: 300 bytes\n");
+    let whole = |words: [&str; 6], last: &str| desk.hold_out(&words, format!("{start}load: {last}\n").as_bytes());
+    whole(["reset", "titles.adf", TITLE, "10000", "0x20000", "30000"], "3 hunks, 116 bytes");
+    let not_allowed = "(the bases are not one for each hunk, or this one is not allowed)";
+    whole(["reset", "titles.adf", TITLE, "10000", "2", "30000"], &format!("refused 40 at 1 {not_allowed}"));
+
+    let ends = |path: &str, lines: &str| {
+        let words = ["reset", "titles.adf", path, "10000"];
+        desk.hold_out(&words, format!("audit: {audit}\n{lines}").as_bytes());
+    };
+    let as_directory = "(a file is used as a directory, or a directory as a file)";
+    ends("c/tilte", "find: refused 19 at 1 (there is no such name)\n");
+    ends("c//title", "find: refused 18 at 1 (the path is not well formed here)\n");
+    ends("c/title/x", &format!("find: refused 20 at 1 {as_directory}\n"));
+    ends("c", &format!("find: directory, key 2, compared 1\nread: refused 20 at 0 {as_directory}\n"));
+    ends("", &format!("find: directory, key 880, compared 0\nread: refused 20 at 0 {as_directory}\n"));
+    let text = "audit: refused 7 at 4 (the sum of the block is not 0)\n";
+    desk.hold_out(&["reset", "damaged.adf", TITLE, "10000"], text.as_bytes());
+}
+
+/// A program of hunks without stored words, of these sizes.
+fn empty_hunks(sizes: &[u32]) -> Vec<u8> {
+    let bodies = sizes.iter().flat_map(|&size| [BSS, size, END]);
+    let header = [HEADER, 0, sizes.len() as u32, 0, sizes.len() as u32 - 1];
+    bytes(&header.into_iter().chain(sizes.iter().copied()).chain(bodies).collect::<Vec<u32>>())
+}
+
+/// A program that fills the memory to its last word, and one that is a word too large.
+#[test]
+fn programs_as_large_as_the_memory() {
+    let count = MEMORY as u32 / 4 / HUNK_WORDS;
+    let sizes = |last: u32| -> Vec<u32> { (0..count).map(|_| HUNK_WORDS).chain([last]).collect() };
+    let desk = Desk::new([("full", empty_hunks(&sizes(0))), ("over", empty_hunks(&sizes(1)))]);
+    let bases: Vec<u32> = (0..=count).map(|index| 4 * HUNK_WORDS * index).collect();
+    desk.hold_load("full", &bases);
+    let text = format!("refused 41 at 0 (the room is too small: {} bytes needed, {MEMORY} lent)", MEMORY + 4);
+    desk.hold_out(&words_of("load", "over", &[&bases]), &line(b"over", &text));
+    desk.hold_out(&words_of("move", "over", &[&bases, &bases]), &line(b"over", &text));
+}
+
+#[test]
+fn programs_of_64_hunks_and_of_one_more() {
+    let desk = Desk::new([("most", empty_hunks(&[1; 64])), ("more", empty_hunks(&[1; 65]))]);
+    let bases: Vec<u32> = (0..65).map(|index| 0x8000_0000 - 4 * index).collect();
+    desk.hold_load("most", &bases[..64]);
+    desk.hold_move("most", &bases[..64], &bases[1..]);
+    desk.hold_load("more", &bases);
+}
+
+#[test]
+fn a_program_file_as_long_as_the_room() {
+    let desk = Desk::new([("long", long_file(FILE_ROOM / 4)), ("worked", worked_file())]);
+    desk.hold_load("long", &[0x3000]);
+    desk.hold_move("long", &[0x3000], &[0xFFFF_FFFC]);
+    desk.hold_load("worked", &[0x3000, 0x7000]);
+    desk.hold_move("worked", &[0x3000, 0x7000], &[0x4000, 0x9000]);
+}
+
+/// Names with a space, with letters and bytes that are none, and paths of the greatest length and above it.
+#[test]
+fn paths_of_all_sorts() {
+    let mut rng = Rng::new(170);
+    let mut plan = empty();
+    plan.add_named(None, b"two words", Kind::File(10));
+    plan.add_named(None, b"\xC4rger\xFF\x01", Kind::File(20));
+    plan.add_named(None, b"tab\tand\nline", Kind::File(30));
+    let deepest = (0..8).fold(None, |within, _| Some(plan.add_named(within, &[b'L'; 30], Kind::Directory)));
+    plan.add_named(deepest, b"to 255_", Kind::File(40));
+    plan.add_named(deepest, b"to 256__", Kind::File(50));
+    let volume = laid_out(&mut rng, &plan);
+    let desk = Desk::new([("volume.adf", volume.image.clone())]);
+    let deep = [[b'L'; 30]; 8].join(&b'/');
+    let longest = [&deep[..], b"/to 255_"].concat();
+    assert_eq!(longest.len(), 255);
+    let paths: [&[u8]; 12] = [
+        b"two words",
+        b"TWO WORDS",
+        b"\xC4rger\xFF\x01",
+        b"\xE4rger\xFF\x01",
+        b"tab\tand\nline",
+        b"",
+        &longest,
+        &[&deep[..], b"/to 256__"].concat(),
+        &[b'p'; 300],
+        &[b'p'; ARGUMENT_ROOM],
+        b" ",
+        b"a:b",
+    ];
+    desk.hold_find("volume.adf", &paths);
+    for path in paths {
+        desk.hold_read("volume.adf", path);
+    }
+}
+
+/// Volumes of all kinds, some of them scratched.
+fn volumes(rng: &mut Rng) -> Vec<(String, Volume)> {
+    let plans = [
+        ("empty", empty()),
+        ("nested", nested(rng, DISK.chain_limit())),
+        ("chain", chain(rng, 300)),
+        ("largest", files(rng, &[844_728])),
+        ("telling", files(rng, &[0, 488, 489, 35_136, 35_137, 105_409])),
+        ("full", full(rng, &DISK)),
+        ("mixed", mixed(rng, &DISK, 150)),
+        ("more", mixed(rng, &DISK, 400)),
+    ];
+    plans.iter().map(|(name, plan)| (name.to_string(), laid_out(rng, plan))).collect()
+}
+
+#[test]
+fn audits_of_generated_volumes() {
+    let mut rng = Rng::new(171);
+    let mut all: Vec<(String, Vec<u8>)> = Vec::new();
+    for (name, volume) in volumes(&mut rng) {
+        for number in 0..4 {
+            let mut image = volume.image.clone();
+            apply(&scratch(&mut rng, &volume), &mut image);
+            all.push((format!("{name}{number}"), image));
+        }
+        all.push((name, volume.image));
+    }
+    let desk = Desk::new(all);
+    let names: Vec<&str> = desk.files.keys().map(|name| &name[..]).collect();
+    desk.hold_audit(&names);
+    names.iter().take(3).for_each(|name| desk.hold_audit(&[name]));
+}
+
+/// Paths of some entries and of nothing, as far as they can be said in an argument.
+fn some_paths(rng: &mut Rng, volume: &Volume) -> Vec<Vec<u8>> {
+    let paths = Paths::new(volume);
+    let count = volume.entries.len() as u64;
+    let numbers: Vec<usize> = (0..30).filter(|_| count > 0).map(|_| rng.below(count.max(1)) as usize).collect();
+    let mut all = vec![paths.root().path];
+    all.extend(numbers.iter().map(|&number| paths.existing(rng, number).path));
+    all.extend(numbers.iter().take(5).map(|&number| paths.past_file(rng, number).path));
+    all.extend(paths.missing(rng, None).into_iter().map(|question| question.path));
+    let components = paths.components(numbers.first().copied());
+    all.extend(bad_forms(rng, &components).into_iter().map(|question| question.path));
+    all.retain(|path| !path.contains(&0) && path.len() <= ARGUMENT_ROOM);
+    all
+}
+
+#[test]
+fn finds_and_reads_on_generated_volumes() {
+    let mut rng = Rng::new(172);
+    let (mut read, mut with_lists) = (0, 0);
+    for (name, volume) in volumes(&mut rng) {
+        let desk = Desk::new([("v", volume.image.clone())]);
+        let paths = some_paths(&mut rng, &volume);
+        desk.hold_find("v", &paths);
+        let by_paths = Paths::new(&volume);
+        let is_sayable = |path: &[u8]| !path.contains(&0) && path.len() <= 255;
+        let files: Vec<usize> = (0..volume.entries.len())
+            .filter(|&number| volume.entries[number].size() > 0 && is_sayable(&by_paths.path(number)))
+            .take(7)
+            .collect();
+        for &number in &files {
+            let path = by_paths.existing(&mut rng, number).path;
+            let said = desk.said(&[b"read", &b"v"[..], &path]);
+            assert!(said.out == by_paths.contents(number) && said.err.is_empty(), "{name}: {path:?}");
+            desk.hold_reset("v", &path, &[0]);
+            read += 1;
+            with_lists += usize::from(!volume.entries[number].lists.is_empty());
+        }
+        paths.iter().take(4).for_each(|path| desk.hold_read("v", path));
+    }
+    assert!(read > 15 && with_lists > 4, "{read} read, {with_lists} of them with lists");
+}
+
+/// A move prints what a load at the new bases prints.
+#[test]
+fn moves_are_loads_at_the_new_bases() {
+    let mut rng = Rng::new(173);
+    for round in 0..12 {
+        let program = if round == 0 { None } else { Some(good_program(&mut rng)) };
+        let (bytes, sizes) = match program {
+            None => (title(), vec![10, 12, 7]),
+            Some(program) => (file(&program.written()), program.sizes()),
+        };
+        let desk = Desk::new([("program", bytes)]);
+        let [old, new] = [(); 2].map(|()| good_bases(&mut rng, &sizes));
+        let load = desk.said(&words_of("load", "program", &[&new]));
+        let there = desk.said(&words_of("move", "program", &[&old, &new]));
+        assert!(load == there && load.err.is_empty(), "round {round}");
+        desk.hold_load("program", &old);
+        desk.hold_move("program", &old, &new);
+    }
+}
+
+#[test]
+fn programs_with_faults() {
+    let mut rng = Rng::new(174);
+    for cause in CAUSES.iter().step_by(3) {
+        let bad = cause.file(&mut rng);
+        let [old, new] = [(); 2].map(|()| good_bases(&mut rng, &bad.sizes));
+        let desk = Desk::new([("program", bad.bytes)]);
+        desk.hold_load("program", &old);
+        if rng.below(4) == 0 {
+            desk.hold_move("program", &old, &new);
+        }
+    }
+    for _ in 0..20 {
+        let program = good_program(&mut rng);
+        let mut bytes = file(&program.written());
+        scratch_program(&mut rng, &mut bytes);
+        let desk = Desk::new([("program", bytes)]);
+        desk.hold_load("program", &good_bases(&mut rng, &program.sizes()));
+    }
+}
+
+#[test]
+fn bases_with_faults() {
+    let mut rng = Rng::new(175);
+    for _ in 0..BASE_CAUSES.len() {
+        let program = good_program(&mut rng);
+        let (desk, sizes) = (Desk::new([("program", file(&program.written()))]), program.sizes());
+        let ((bad, _), good) = (bad_bases(&mut rng, &sizes), good_bases(&mut rng, &sizes));
+        // without a base it is a wrong use
+        if !bad.is_empty() {
+            desk.hold_load("program", &bad);
+            desk.hold_move("program", &bad, &good);
+            desk.hold_move("program", &good, &bad);
+        }
+    }
+}
+
+/// An image that a number is due for: by an audit, by a lookup of a path, by a read of one.
+struct Flaw {
+    number: u32,
+    image: Vec<u8>,
+    audit: bool,
+    find: Option<&'static str>,
+    read: Option<&'static str>,
+}
+
+/// A small volume: three entries on one chain, of which the second is a directory with a file, and a file with a list.
+fn small() -> Volume {
+    let mut plan = empty();
+    plan.add_named(None, b"cp", Kind::File(488));
+    let within = Some(plan.add_named(None, b"Mary", Kind::Directory));
+    plan.add_named(None, b"dc", Kind::File(3));
+    plan.add_named(within, b"box", Kind::File(1_000));
+    plan.add_named(None, b"one", Kind::File(74 * 488 + 1));
+    laid_out(&mut Rng::new(176), &plan)
+}
+
+fn entry<'a>(volume: &'a Volume, name: &str) -> &'a Entry {
+    volume.entries.iter().find(|entry| entry.name == name.as_bytes()).expect("an entry")
+}
+
+/// The image with a block changed; its sum is mended.
+fn changed(volume: &Volume, key: u32, change: impl Fn(&mut [u8])) -> Vec<u8> {
+    let mut block = volume.block(key).to_vec();
+    change(&mut block);
+    mend(&mut block, if key == volume.bitmap { 0 } else { 5 });
+    let patch: Patch = (key as usize * BLOCK_BYTES, block);
+    let mut image = volume.image.clone();
+    apply(&[patch], &mut image);
+    image
+}
+
+/// The image with one word of a block changed.
+fn with_word(volume: &Volume, key: u32, index: usize, value: u32) -> Vec<u8> {
+    changed(volume, key, |block| put(block, index, value))
+}
+
+/// Flaws that all three calls find on the way to a path.
+fn common_flaws(volume: &Volume) -> Vec<Flaw> {
+    let [mary, cp, dc] = ["Mary", "cp", "dc"].map(|name| entry(volume, name).key);
+    let [mut untagged, mut unsummed] = [(); 2].map(|()| volume.image.clone());
+    untagged[3] = 1;
+    unsummed[mary as usize * BLOCK_BYTES + 23] ^= 1;
+    let hangs = slot(b"Mary");
+    assert!(slot(b"cp") == hangs && slot(b"dc") == hangs && slot(b"hw") == hangs && slot(b"Mars") != hangs);
+    let flaws = [
+        (1, volume.image[1..].to_vec(), "cp"),
+        (3, untagged, "cp"),
+        (4, with_word(volume, 880, 3, 71), "cp"),
+        (5, with_word(volume, 880, slot_word(hangs), 1_760), "cp"),
+        // a chain that bites its tail, and a name that it lacks
+        (6, with_word(volume, dc, 124, cp), "hw"),
+        (7, unsummed, "Mary/box"),
+        (8, with_word(volume, mary, 0, 8), "Mary/box"),
+        (9, with_word(volume, mary, 127, 4), "Mary/box"),
+        (10, with_word(volume, mary, 125, 0), "Mary/box"),
+        (11, changed(volume, mary, |block| put_name(block, b"M:ry")), "Mary/box"),
+        (12, changed(volume, mary, |block| put_name(block, b"Mars")), "Mary/box"),
+    ];
+    let flaw = |(number, image, path)| Flaw { number, image, audit: true, find: Some(path), read: Some(path) };
+    flaws.into_iter().map(flaw).collect()
+}
+
+/// Flaws that audits alone find, or audits and reads.
+fn deeper_flaws(volume: &Volume) -> Vec<Flaw> {
+    let (one, dc) = (entry(volume, "one"), entry(volume, "dc").key);
+    let free = volume.free()[0];
+    let (index, bit) = place(free);
+    let bits = word(volume.block(volume.bitmap), index);
+    let flaws = [
+        (13, changed(volume, dc, |block| put_name(block, b"CP")), None),
+        (14, with_word(volume, one.key, 2, 71), Some("one")),
+        (15, with_word(volume, one.data[73], 2, 73), Some("one")),
+        (16, with_word(volume, 880, 78, 0), None),
+        (17, with_word(volume, volume.bitmap, index, bits ^ 1 << bit), None),
+    ];
+    let flaw = |(number, image, read)| Flaw { number, image, audit: true, find: None, read };
+    flaws.into_iter().map(flaw).collect()
+}
+
+/// Every number that an image or a path can bring.
+fn flaws() -> Vec<Flaw> {
+    let volume = small();
+    let mut all = common_flaws(&volume);
+    all.extend(deeper_flaws(&volume));
+    for (number, find, read) in [(18, "Mary//box", "Mary/"), (19, "Mary/bix", "nobody"), (20, "cp/x", "Mary")] {
+        let image = volume.image.clone();
+        all.push(Flaw { number, image, audit: false, find: Some(find), read: Some(read) });
+    }
+    all
+}
+
+/// Whether a text says this number, with its sentence.
+fn says(text: &[u8], number: u32) -> bool {
+    let text = String::from_utf8_lossy(text);
+    let sentence = compare::counter::sentence(number);
+    text.contains(&format!("refused {number} at ")) && text.contains(&format!("({sentence}"))
+}
+
+#[test]
+fn every_number_of_images_and_paths() {
+    let flaws = flaws();
+    let names: Vec<String> = flaws.iter().map(|flaw| format!("{}.adf", flaw.number)).collect();
+    let desk = Desk::new(names.iter().cloned().zip(flaws.iter().map(|flaw| flaw.image.clone())));
+    let audited_names: Vec<&str> =
+        names.iter().zip(&flaws).filter(|(_, flaw)| flaw.audit).map(|(name, _)| &name[..]).collect();
+    desk.hold_audit(&audited_names);
+    for (name, Flaw { number, image, audit, find, read }) in names.iter().zip(&flaws) {
+        assert!(!audit || says(audited(image).0.as_bytes(), *number), "{number} by an audit");
+        if let Some(path) = find {
+            assert!(says(looked_up(image, path.as_bytes()).as_bytes(), *number), "{number} by a lookup");
+            desk.hold_find(name, &[path]);
+        }
+        if let Some(path) = read {
+            assert!(says(&read_out(image, path.as_bytes()).err, *number), "{number} by a read");
+            desk.hold_read(name, path.as_bytes());
+        }
+    }
+}
+
+/// Programs, each with bases, and the number due for them.
+fn program_flaws() -> Vec<(u32, Vec<u8>, Vec<u32>)> {
+    let header = [HEADER, 0, 1, 0, 0, 4];
+    let body = [CODE, 3, 7, 8, 9];
+    let good = |more: &[u32]| bytes(&[&header[..], &body, more, &[END]].concat());
+    let with = |index: usize, value: u32| {
+        let mut bytes = good(&[]);
+        put(&mut bytes, index, value);
+        bytes
+    };
+    let whole = good(&[]);
+    let count = MEMORY as u32 / 4 / HUNK_WORDS + 1;
+    let sizes = vec![HUNK_WORDS; count as usize];
+    let large = [&[HEADER, 0, count, 0, count - 1], &sizes[..], &[BSS, 0, END].repeat(sizes.len())].concat();
+    let apart: Vec<u32> = (0..count).map(|index| 4 * HUNK_WORDS * index).collect();
+    vec![
+        (30, whole[..whole.len() - 1].to_vec(), vec![0]),
+        (31, whole[..whole.len() - 4].to_vec(), vec![0]),
+        (32, with(2, 65), vec![0]),
+        (33, with(1, 1), vec![0]),
+        (34, with(5, HUNK_WORDS + 1), vec![0]),
+        (35, with(6, END), vec![0]),
+        (36, with(7, 5), vec![0]),
+        (37, good(&[SYMBOLS, 0x0100_0001, 0x61, 0, 0]), vec![0]),
+        (38, good(&[RELOCATIONS, 1, 0, 10, 0]), vec![0]),
+        (39, [&whole[..], &whole[..4]].concat(), vec![0]),
+        (40, whole, vec![2]),
+        (41, bytes(&large), apart),
+        (42, good(&[RELOCATIONS, 2, 0, 4, 6, 0]), vec![0]),
+    ]
+}
+
+#[test]
+fn every_number_of_programs_and_bases() {
+    for (number, bytes, bases) in program_flaws() {
+        assert!(says(&loaded(b"p", &bytes, &bases), number), "{number} by a load");
+        assert!(says(&moved(b"p", &bytes, &bases, &bases), number), "{number} by a move");
+        let desk = Desk::new([("p", bytes)]);
+        desk.hold_load("p", &bases);
+        desk.hold_move("p", &bases, &bases);
+    }
+    // and in the second list alone
+    let desk = Desk::with_samples();
+    assert!(says(&moved(b"title", &title(), &BASES_A, &[0]), 40));
+    desk.hold_move("title", &BASES_A, &[0]);
+    desk.hold_move("title", &BASES_A, &[BASES_A[0], BASES_A[1], BASES_A[1] + 44]);
+}
+
+/// Every number comes, but 2: the tool lends an audit a claim area of a byte for each block, whatever the image.
+#[test]
+fn the_numbers_tried_are_all_there_are() {
+    let of_images: Vec<Flaw> = flaws();
+    let numbers = |of: fn(&Flaw) -> bool| -> BTreeSet<u32> {
+        of_images.iter().filter(|flaw| of(flaw)).map(|flaw| flaw.number).collect()
+    };
+    assert!(numbers(|flaw| flaw.audit).into_iter().eq([1].into_iter().chain(3..18)));
+    assert!(numbers(|flaw| flaw.find.is_some()).into_iter().eq([1].into_iter().chain(3..13).chain(18..21)));
+    let of_read = [1].into_iter().chain(3..13).chain([14, 15]).chain(18..21);
+    assert!(numbers(|flaw| flaw.read.is_some()).into_iter().eq(of_read));
+    let of_programs = program_flaws().into_iter().map(|(number, ..)| number);
+    let tried: BTreeSet<u32> = of_images.iter().map(|flaw| flaw.number).chain(of_programs).collect();
+    let all: BTreeSet<u32> = SENTENCES.iter().map(|&(number, _)| number).filter(|&number| number != 2).collect();
+    assert_eq!(tried, all);
+}
+
+/// The folder of the repository.
+fn repository() -> &'static Path {
+    Path::new(env!("CARGO_MANIFEST_DIR")).parent().expect("this package lies in a repository")
+}
+
+/// The calls that a page shows, each with the lines shown for it. They stand in lines that are set in by four.
+fn shown_calls(page: &str) -> Vec<(Vec<&str>, Vec<&str>)> {
+    let mut calls: Vec<(Vec<&str>, Vec<&str>)> = Vec::new();
+    for text in page.lines().filter_map(|line| line.strip_prefix("    ")) {
+        match (text.strip_prefix("./bench "), calls.last_mut()) {
+            (Some(words), _) => calls.push((words.split(' ').collect(), Vec::new())),
+            (None, Some((_, lines))) => lines.push(text),
+            (None, None) => {}
+        }
+    }
+    calls
+}
+
+/// Whether lines are as shown, where a line `..` stands for any lines.
+fn are_as_shown(lines: &[&str], shown: &[&str]) -> bool {
+    match shown.split_first() {
+        None => lines.is_empty(),
+        Some((&"..", rest)) => (0..=lines.len()).any(|skipped| are_as_shown(&lines[skipped..], rest)),
+        Some((first, rest)) => lines.first() == Some(first) && are_as_shown(&lines[1..], rest),
+    }
+}
+
+/// What the page of the samples shows is what the tool prints.
+#[test]
+fn the_page_of_the_samples_is_right() {
+    let page = fs::read_to_string(repository().join("samples/README.md")).expect("the page");
+    let calls = shown_calls(&page);
+    let verbs: BTreeSet<&str> = calls.iter().map(|(words, _)| words[0]).collect();
+    assert!(verbs.into_iter().eq(["audit", "find", "load", "move", "read", "reset"]));
+    for (words, lines) in calls {
+        let mut command = rattle("bench");
+        command.args(&words).current_dir(repository()).stdin(Stdio::null());
+        let run = command.output().expect("a program that starts");
+        let text = String::from_utf8([run.stdout, run.stderr].concat()).expect("a text");
+        let got: Vec<&str> = text.lines().collect();
+        assert!(are_as_shown(&got, &lines), "{}: {text:?}", words.join(" "));
+    }
+}
+
+#[test]
+fn lines_left_out_of_a_page() {
+    assert!(are_as_shown(&["a", "b", "c"], &["a", "..", "c"]));
+    assert!(are_as_shown(&["a", "c"], &["a", "..", "c"]));
+    assert!(!are_as_shown(&["a", "b"], &["a", "..", "c"]));
+    assert!(!are_as_shown(&["a", "b"], &["a"]));
+    assert!(!are_as_shown(&["a"], &["a", "b"]));
+    let page = "text\n\n    cargo run\n\n    ./bench find a b\n    b: x\n\n    ./bench audit a\n";
+    assert_eq!(shown_calls(page), [(vec!["find", "a", "b"], vec!["b: x"]), (vec!["audit", "a"], vec![])]);
+}
+
+/// A folder with a stand-in for `rt` that only says where the kit is, and complains of all else.
+fn kit_alone() -> Desk {
+    let script = "#!/bin/sh\ncase \"$1\" in doc | version) PATH=${PATH#*:} exec rt \"$@\" ;; esac\n\
+                  echo \"asked rt to $*\" >&2\nexit 1\n";
+    let desk = Desk::new([("rt", script.as_bytes().to_vec())]);
+    let mode = fs::Permissions::from_mode(0o755);
+    fs::set_permissions(desk.folder.join("rt"), mode).expect("a program of ours");
+    desk
+}
+
+/// The script runs the program that is there, from any folder, and proves nothing for it.
+#[test]
+fn the_script_from_another_folder() {
+    // it has to be built before
+    let _program = rattle("bench");
+    let (desk, kit) = (Desk::with_samples(), kit_alone());
+    let path = std::env::var("PATH").expect("a PATH");
+    let said = |words: &[&str]| {
+        let mut command = Command::new(repository().join("bench"));
+        command.env("PATH", format!("{}:{path}", kit.folder.display()));
+        desk.said_by(command, words)
+    };
+    for words in [
+        &["audit", "titles.adf", "damaged.adf"][..],
+        &["find", "titles.adf", "", TITLE, "two words", "*"],
+        &["read", "titles.adf", FONT],
+        &["read", "titles.adf", ""],
+        &["load", "title", "10000", "", "30000"],
+        &["move", "title", "10000", "20000", "30000", "to", "0", "100", "200"],
+        &[],
+    ] {
+        hold_said(words, &said(words), &desk.said(words));
+    }
+    let answer = line(b"titles.adf", &audited(&titles()).0);
+    hold_said(&["audit"], &said(&["audit", "titles.adf"]), &Said { out: answer, err: Vec::new() });
+}
