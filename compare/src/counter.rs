@@ -52,7 +52,7 @@ pub const SENTENCES: [(u32, &str); 33] = [
     (33, "the file names a library"),
     (34, "the size of the hunk is too large"),
     (35, "this type of block is not allowed here"),
-    (36, "more words are stored than the hunk has"),
+    (36, "the count of words is above the size of the hunk"),
     (37, "the symbol type is not allowed"),
     (38, "the hunk number or the offset is not allowed"),
     (39, "there is more after the last hunk"),

@@ -75,7 +75,7 @@ pub fn say(fd: i32, number: u32) {
 33 the file names a library\n\
 34 the size of the hunk is too large\n\
 35 this type of block is not allowed here\n\
-36 more words are stored than the hunk has\n\
+36 the count of words is above the size of the hunk\n\
 37 the symbol type is not allowed\n\
 38 the hunk number or the offset is not allowed\n\
 39 there is more after the last hunk\n\
