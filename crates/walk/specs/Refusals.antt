@@ -10,12 +10,13 @@ use Rattle.volume.specs.declared.disk.Disk.{Disk}
 use Rattle.volume.specs.Disks.{firstKey}
 use Rattle.walk.specs.Nodes.{Node, keyOf, faultOf, graph}
 
--- exactly when it is given: the first node, in the order of the walk, that fails has the key k. v is 5 where k is out of range (`keyFault`), else 6
--- where a node seen before has that key, else the number of the first test of its kind that it fails (`faultOf`)
+-- when it is given, exactly: k is the key of the first node, in the order of the walk, that fails, and v the number of the first test that
+-- it fails. That is 5 where k is out of range (`keyFault`), else 6 where a node seen before has that key, else one of its kind's (`faultOf`)
 abbrev pub FirstRefusal : Disk → List ℕ → ℕ → ℕ → Type 0
 FirstRefusal d s v k = Stops (graph d s) v k
 
--- what it says of the volume, with no order: a reached node with that key is out of range, or is referred to twice, or fails with v a test of its own
+-- what it says of the volume, with no order: a reached node with that key is out of range, or is referred to twice, or fails with v a test
+-- of its own
 pub record Refused (d : Disk) (s : List ℕ) (v k : ℕ) : Type 0 where
   pub node : Node
   pub reached : Reached (graph d s .references) node
