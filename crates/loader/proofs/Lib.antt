@@ -23,3 +23,5 @@ pub mod Refusing
 pub mod PageActs
 -- what a load and a move do, in the page's terms
 pub mod PageLoads
+-- targets that are too near stand in one hunk
+pub mod OneHunk

@@ -101,7 +101,7 @@ stores-on p i (w ∷ ws) done more l e =
     ∙ ap (λ (u : List ℕ). placed u (storing p (i + 1) ws l)) (four-at done more′ 0 0 0 0 _ _ _ _ (p + 4 * i) e)
     ∙ (rw (append-assoc done (wordBytes w) more′, append-assoc done (wordBytes w)) at r)
 
-stored-fit : (b : page.Body) → length (storedWords b) ≤ bodyCount b
+pub stored-fit : (b : page.Body) → length (storedWords b) ≤ bodyCount b
 stored-fit (code ws) = omega arith
 stored-fit (stores ws) = omega arith
 stored-fit (bss n) = omega arith

@@ -1,5 +1,5 @@
 -- A load in the terms of the page: records, memory and targets of a list of hunks that stand end to end (the build paper, "The program file").
-use Prim.Native.Nat.{ℕ, _+_, _-_, _*_, _/_, _%_}
+use Prim.Native.Nat.{ℕ, zero, suc, _+_, _-_, _*_, _/_, _%_}
 use mathlib.Core.List.{List, [], _∷_, _++_, map}
 use lib.ListN.{length, replicate}
 use Rattle.words.specs.Word.{addAt}
@@ -49,6 +49,12 @@ partTargets p (debug ws ∷ ps) = partTargets p ps
 abbrev pub pageTargets : ℕ → List Hunk → List (ℕ × ℕ)
 pageTargets p [] = []
 pageTargets p (h ∷ hs) = partTargets p (h .parts) ++ pageTargets (p + 4 * h .size) hs
+
+-- of hunk i alone
+abbrev pub targetsIn : ℕ → List Hunk → ℕ → List (ℕ × ℕ)
+targetsIn p [] i = []
+targetsIn p (h ∷ hs) zero = partTargets p (h .parts)
+targetsIn p (h ∷ hs) (suc i) = targetsIn (p + 4 * h .size) hs i
 
 -- each target gets its amount, one after the other
 unfoldable pub relocated : List ℕ → List (ℕ × ℕ) → (ℕ → ℕ) → List ℕ
