@@ -25,3 +25,5 @@ pub mod PageActs
 pub mod PageLoads
 -- targets that are too near stand in one hunk
 pub mod OneHunk
+-- what becomes of each target and of every other byte
+pub mod Targets

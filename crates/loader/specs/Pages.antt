@@ -1,10 +1,12 @@
 -- A load in the terms of the page: records, memory and targets of a list of hunks that stand end to end (the build paper, "The program file").
-use Prim.Native.Nat.{ℕ, zero, suc, _+_, _-_, _*_, _/_, _%_}
+use Prim.Native.Nat.{ℕ, zero, suc, _+_, _-_, _*_, _/_, _%_, _^_, _<_, _≤_}
+use mathlib.Core.Path.{_≡_}
+use mathlib.Core.Logic.{_⊎_}
 use mathlib.Core.List.{List, [], _∷_, _++_, map}
-use lib.ListN.{length, replicate}
-use Rattle.words.specs.Word.{addAt}
-use Rattle.program.specs.Page.{Body, Group, Part, Hunk, code, stores, bss, relocation, symbols, debug, joined, storedWords}
-use Rattle.loader.specs.Memory.{amountOf}
+use lib.ListN.{length, replicate, drop}
+use Rattle.words.specs.Word.{wordAt, addAt}
+use Rattle.program.specs.Page.{Body, Group, Part, Hunk, code, stores, bss, relocation, symbols, debug, joined, Each, storedWords, total}
+use Rattle.loader.specs.Memory.{amountOf, moved}
 
 -- ---- records
 
@@ -60,3 +62,31 @@ targetsIn p (h ∷ hs) (suc i) = targetsIn (p + 4 * h .size) hs i
 unfoldable pub relocated : List ℕ → List (ℕ × ℕ) → (ℕ → ℕ) → List ℕ
 relocated m [] f = m
 relocated m (t ∷ ts) f = relocated (addAt m (t .0) (f (t .1))) ts f
+
+-- the word at each target in m′ is that in m and the target's amount, modulo 2^32
+abbrev pub Adds : List ℕ → List ℕ → List (ℕ × ℕ) → (ℕ → ℕ) → Type 0
+Adds m m′ ts f = Each (λ t. wordAt m′ (t .0) ≡ (wordAt m (t .0) + f (t .1)) % 2 ^ 32) ts
+
+-- byte k is no byte of a target
+abbrev pub Outside : ℕ → List (ℕ × ℕ) → Type 0
+Outside k ts = Each (λ t. (k < t .0) ⊎ (t .0 + 4 ≤ k)) ts
+
+-- ---- an accepted call: x hunks, n bytes
+
+-- memory with no amount added yet: the hunks, then what stood there
+abbrev pub placedHunks : List Hunk → List ℕ → List ℕ
+placedHunks hs m = imageOf hs ++ drop (4 * total hs) m
+
+-- a load leaves m′ and t′
+pub record LoadedPage (hs : List Hunk) (bases m t : List ℕ) (x n : ℕ) (m′ t′ : List ℕ) : Type 0 where
+  pub hunks : x ≡ length hs
+  pub bytes : n ≡ 4 * total hs
+  pub memory : m′ ≡ relocated (placedHunks hs m) (pageTargets 0 hs) (amountOf bases)
+  pub table : t′ ≡ recordNumbers 0 0 hs bases ++ drop (4 * length hs) t
+
+-- a move leaves m′ and t′
+pub record MovedPage (hs : List Hunk) (old new m t : List ℕ) (x n : ℕ) (m′ t′ : List ℕ) : Type 0 where
+  pub hunks : x ≡ length hs
+  pub bytes : n ≡ 4 * total hs
+  pub memory : m′ ≡ relocated m (pageTargets 0 hs) (moved old new)
+  pub table : t′ ≡ recordNumbers 0 0 hs new ++ drop (4 * length hs) t
