@@ -13,3 +13,5 @@ pub mod Moving
 pub mod Deciding
 -- tables record by record, and in the page's terms
 pub mod PageTables
+-- an accepted call in the page's terms
+pub mod PageCalls

@@ -4,7 +4,7 @@ use Prim.Native.Nat.{ℕ, _≤_}
 use mathlib.Core.Path.{_≡_}
 use mathlib.Core.Logic.{_↔_}
 use mathlib.Core.List.{List, _++_}
-use lib.ListN.{length, drop, replicate}
+use lib.ListN.{length, getD, drop, replicate}
 use Rattle.answers.specs.declared.Refusal.{Refusal}
 use Rattle.words.specs.Word.{Bytes}
 use Rattle.volume.specs.declared.disk.Disk.{Disk}
@@ -40,12 +40,16 @@ use Rattle.program.specs.Verdicts.{Because}
 use Rattle.program.proofs.Pages as pages
 use Rattle.program.proofs.Refusing as faults
 use Rattle.loader.specs.Calls.{loadAnswer, moveAnswer}
+use Rattle.loader.specs.Memory.{amountOf, moved}
+use Rattle.loader.specs.Pages.{imageOf, pageTargets, Adds, Outside, placedHunks}
 use Rattle.loader.specs.Verdicts.{LoadWhy, MoveWhy}
 use Rattle.loader.specs.Moving.{Addresses}
 use Rattle.loader.proofs.Refusing as unloaded
 use Rattle.hunks.specs.declared.Hunk.{Hunk}
 use Rattle.hunks.specs.Calls.{Loads, Moves}
 use Rattle.hunks.specs.Moving.{SameRoom, LoadsAt}
+use Rattle.hunks.specs.Pages.{LoadedPage, MovedPage}
+use Rattle.hunks.proofs.PageCalls as calls
 use Rattle.hunks.proofs.Moving as moving
 use Rattle.hunks.proofs.Deciding as deciding
 
@@ -119,6 +123,29 @@ module _ (file : List ℕ) where
   move-refused-exactly old new m r w f = unloaded.move-why file m r w f old new
 
 -- ---- loading and moving
+
+-- an accepted load or move, in the terms of the page
+module _ (file m : List ℕ) (t : List Hunk) (w : List ℕ) (x n : ℕ) (m1 : List ℕ) (t1 : List Hunk) (w1 : List ℕ) where
+  -- the file holds hunks, and memory and table are theirs
+  pub load-page : (bases : List ℕ) → Loads file bases m t w (Accepted x n) m1 t1 w1 → (hs : List paper.Hunk) × paper.Holds file hs × LoadedPage hs bases m t x n m1 t1
+  load-page = calls.load-page file m t w x n m1 t1 w1
+
+  pub move-page : (old new : List ℕ) → Moves file old new m t w (Accepted x n) m1 t1 w1 → (hs : List paper.Hunk) × paper.Holds file hs × MovedPage hs old new m t x n m1 t1
+  move-page = calls.move-page file m t w x n m1 t1 w1
+
+  -- a load adds the base of its hunk to each target's stored word; a move adds new minus old base to what stood there
+  pub load-words : (bases : List ℕ) → Loads file bases m t w (Accepted x n) m1 t1 w1 → (hs : List paper.Hunk) → paper.Holds file hs → Adds (imageOf hs) m1 (pageTargets 0 hs) (amountOf bases)
+  load-words = calls.load-words file m t w x n m1 t1 w1
+
+  pub move-words : (old new : List ℕ) → Moves file old new m t w (Accepted x n) m1 t1 w1 → (hs : List paper.Hunk) → paper.Holds file hs → Adds m m1 (pageTargets 0 hs) (moved old new)
+  move-words = calls.move-words file m t w x n m1 t1 w1
+
+  -- outside the targets a load leaves the hunks' bytes, and behind them what stood there; a move leaves every byte as it was
+  pub load-others : (bases : List ℕ) → Loads file bases m t w (Accepted x n) m1 t1 w1 → (hs : List paper.Hunk) → paper.Holds file hs → (k : ℕ) → Outside k (pageTargets 0 hs) → getD m1 k 0 ≡ getD (placedHunks hs m) k 0
+  load-others = calls.load-others file m t w x n m1 t1 w1
+
+  pub move-others-stay : (old new : List ℕ) → Moves file old new m t w (Accepted x n) m1 t1 w1 → (hs : List paper.Hunk) → paper.Holds file hs → (length m1 ≡ length m) × ((k : ℕ) → Outside k (pageTargets 0 hs) → getD m1 k 0 ≡ getD m k 0)
+  move-others-stay = calls.move-others-stay file m t w x n m1 t1 w1
 
 module _ (file m : List ℕ) (t : List Hunk) (w : List ℕ) where
   -- a load at A moved to B is a load at B

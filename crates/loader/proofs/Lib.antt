@@ -27,3 +27,5 @@ pub mod PageLoads
 pub mod OneHunk
 -- what becomes of each target and of every other byte
 pub mod Targets
+-- an accepted call in the page's terms
+pub mod PageCalls
