@@ -24,6 +24,7 @@ use Rattle.program.specs.Header.{totalOf, sizeOf, startAt, heads}
 use Rattle.program.specs.Reader.{start, stepOf}
 use Rattle.program.specs.Check.{endedOf, next, walk, wordsFrom, and, checkOf}
 use Rattle.program.specs.Sane.{Sane, ModeFits, placeOf}
+use Rattle.program.proofs.Answers.{not-accepted}
 use Rattle.program.proofs.Heads.{sound-header}
 use Rattle.program.proofs.Sanes.{step-sane, start-sane}
 use Rattle.loader.specs.declared.calls.Outcome.{Outcome}
@@ -31,9 +32,6 @@ use Rattle.loader.specs.Memory.{loadedOf, placed}
 use Rattle.loader.specs.Bases.{basesFrom, basesFault}
 use Rattle.loader.specs.Near.{clashOf}
 use Rattle.loader.specs.Calls.{roomFault, also, lastTests, loadAnswer, moveAnswer, Fills, filledBy, filled, Good}
-
-pub never : {A : Type 0} (r : Refusal) (t n : ℕ) → Refused r ≡ Accepted t n → A
-never r t n h = let z : _≡_ {A = ℕ} 0 1 = cc in absurd (omega arith)
 
 same-numbers : (a b t n : ℕ) → Accepted a b ≡ Accepted t n → (a ≡ t) × (b ≡ n)
 same-numbers a b t n h = ((cc), (cc))
@@ -49,18 +47,18 @@ module _ (file : List ℕ) (t n : ℕ) where
   ended-whole c mode.End p h e =
       let q = same-numbers (c .hunk) (c .place) t n e in
       record { hunks = sym (q .0) ∙ h; bytes = sym (q .1) ∙ p ∙ ap (placeOf (sizeOf file)) h }
-  ended-whole c mode.Begin p h e = never _ t n e
-  ended-whole c mode.NameLength p h e = never _ t n e
-  ended-whole c mode.Body p h e = never _ t n e
-  ended-whole c (mode.Length k) p h e = never _ t n e
-  ended-whole c (mode.Stored i) p h e = never _ t n e
-  ended-whole c mode.Part p h e = never _ t n e
-  ended-whole c mode.Count p h e = never _ t n e
-  ended-whole c (mode.Number x) p h e = never _ t n e
-  ended-whole c (mode.Offset x y) p h e = never _ t n e
-  ended-whole c mode.Symbol p h e = never _ t n e
-  ended-whole c mode.DebugLength p h e = never _ t n e
-  ended-whole c (mode.Skip x a) p h e = never _ t n e
+  ended-whole c mode.Begin p h e = not-accepted e
+  ended-whole c mode.NameLength p h e = not-accepted e
+  ended-whole c mode.Body p h e = not-accepted e
+  ended-whole c (mode.Length k) p h e = not-accepted e
+  ended-whole c (mode.Stored i) p h e = not-accepted e
+  ended-whole c mode.Part p h e = not-accepted e
+  ended-whole c mode.Count p h e = not-accepted e
+  ended-whole c (mode.Number x) p h e = not-accepted e
+  ended-whole c (mode.Offset x y) p h e = not-accepted e
+  ended-whole c mode.Symbol p h e = not-accepted e
+  ended-whole c mode.DebugLength p h e = not-accepted e
+  ended-whole c (mode.Skip x a) p h e = not-accepted e
 
   walk-whole : (at : ℕ) (c : Cursor) (ws : List ℕ) → Sane file c → walk (totalOf file) (sizeOf file) (length file) at c ws ≡ Accepted t n → Whole file t n
   unfolding walk
@@ -69,21 +67,21 @@ module _ (file : List ℕ) (t n : ℕ) where
     where
       go : (r : Next) → stepOf (totalOf file) (sizeOf file) c w ≡ r → next r at (λ d. walk (totalOf file) (sizeOf file) (length file) (at + 4) d ws) ≡ Accepted t n → ((d : Cursor) → stepOf (totalOf file) (sizeOf file) c w ≡ On d → walk (totalOf file) (sizeOf file) (length file) (at + 4) d ws ≡ Accepted t n → Whole file t n) → Whole file t n
       go (On d) x y f = f d x y
-      go (Bad v) x y f = never _ t n y
+      go (Bad v) x y f = not-accepted y
 
   pick-not : (b : Bool) (r : Refusal) (a : Answer) → pick b (Refused r) a ≡ Accepted t n → a ≡ Accepted t n
   unfolding pick
-  pick-not true r a h = never r t n h
+  pick-not true r a h = not-accepted h
   pick-not false r a h = h
 
   pick-so : (b : Bool) (r : Refusal) (a : Answer) → pick b a (Refused r) ≡ Accepted t n → (b ≡ true) × (a ≡ Accepted t n)
   unfolding pick
   pick-so true r a h = (refl, h)
-  pick-so false r a h = never r t n h
+  pick-so false r a h = not-accepted h
 
   and-so : (h : Tested) (a : Answer) → and h a ≡ Accepted t n → (h ≡ Passed) × (a ≡ Accepted t n)
   and-so Passed a h = (refl, h)
-  and-so (Failed r) a h = never r t n h
+  and-so (Failed r) a h = not-accepted h
 
   pub checked : checkOf file ≡ Accepted t n → Good file t n
   unfolding checkOf
@@ -99,8 +97,8 @@ module _ (file : List ℕ) (t n : ℕ) where
 
 pub also-so : (a : Answer) (h : Tested) (t n : ℕ) → also a h ≡ Accepted t n → (a ≡ Accepted t n) × (h ≡ Passed)
 also-so (Accepted a b) Passed t n e = (e, refl)
-also-so (Accepted a b) (Failed r) t n e = never r t n e
-also-so (Refused r) h t n e = never r t n e
+also-so (Accepted a b) (Failed r) t n e = not-accepted e
+also-so (Refused r) h t n e = not-accepted e
 
 pub also-both : (a : Answer) (h : Tested) (t n : ℕ) → a ≡ Accepted t n → h ≡ Passed → also a h ≡ Accepted t n
 also-both a h t n e f = rw (e, f)
@@ -187,7 +185,6 @@ load-facts file bases m tb w t n r er h =
 
 pub record MoveFacts (file old new : List ℕ) (m tb w t n : ℕ) : Type 0 where
   pub load : LoadFacts file old m tb w t n
-  pub new-good : basesFault file new (totalOf file) ≡ Passed
   pub count : length new ≡ totalOf file
 
 pub move-facts : (file old new : List ℕ) (m tb w t n : ℕ) (r : Answer) → r ≡ moveAnswer file old new m tb w → r ≡ Accepted t n → MoveFacts file old new m tb w t n
@@ -199,7 +196,6 @@ move-facts file old new m tb w t n r er h =
     let c = also-so (also (checkOf file) (basesFault file old 0)) (basesFault file new (totalOf file)) t n (b .0) in
     record {
       load = load-with file old m tb w t n x (λ _. also-so (checkOf file) (basesFault file old 0) t n (c .0)) (sym er ∙ h);
-      new-good = c .1;
       count = bases-passed file new (totalOf file) (c .1);
     }
 

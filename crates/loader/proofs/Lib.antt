@@ -17,8 +17,16 @@ pub mod Calling
 pub mod Moving
 -- the contracts decide
 pub mod Deciding
--- why a call is refused: each of 40, 41 and 42 exactly then
+-- which test refuses a call
 pub mod Refusing
+-- choices between a fault and the next test
+pub mod Picks
+-- what 40, 41 and 42 say: bases, room, near targets
+pub mod BadBases
+pub mod Rooms
+pub mod NearTargets
+-- each number by its own test
+pub mod Numbers
 -- what a file asks for, in the page's terms
 pub mod PageActs
 -- what a load and a move do, in the page's terms
