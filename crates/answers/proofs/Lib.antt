@@ -1,2 +1,3 @@
--- Laws of lists of tests.
+-- Laws of lists of tests, and of constructors that differ.
+pub mod Clashes
 pub mod Tests

@@ -10,6 +10,7 @@ use Rattle.answers.specs.declared.Refusal.{Refusal}
 use Rattle.answers.specs.declared.Tested.{Tested}
 use Rattle.answers.specs.declared.Tested.the-variants.{Passed, Failed}
 use Rattle.answers.specs.Tests.{pick, must, never, first, tests}
+use Rattle.answers.proofs.Clashes.{impossible}
 
 -- ---- the first of two numbers
 
@@ -33,7 +34,7 @@ must-passed false v e = absurd (omega arith)
 pub must-passes : (t : Bool) (v : ℕ) → t ≡ true → must t v ≡ 0
 unfolding must
 must-passes true v e = refl
-must-passes false v e = let z : _≡_ {A = ℕ} 0 1 = cc in absurd (omega arith)
+must-passes false v e = impossible cc
 
 pub never-passed : (t : Bool) (v : ℕ) → never t (suc v) ≡ 0 → t ≡ false
 unfolding never
@@ -42,12 +43,12 @@ never-passed false v e = refl
 
 pub never-passes : (t : Bool) (v : ℕ) → t ≡ false → never t v ≡ 0
 unfolding never
-never-passes true v e = let z : _≡_ {A = ℕ} 0 1 = cc in absurd (omega arith)
+never-passes true v e = impossible cc
 never-passes false v e = refl
 
 pub pick-passed : (b : Bool) (r : Refusal) (h : Tested) → pick b (Failed r) h ≡ Passed → (b ≡ false) × (h ≡ Passed)
 unfolding pick
-pick-passed true r h q = let z : _≡_ {A = ℕ} 0 1 = cc in absurd (omega arith)
+pick-passed true r h q = impossible cc
 pick-passed false r h q = (refl, q)
 
 -- ---- a test at a time, as code makes them

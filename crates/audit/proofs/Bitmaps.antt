@@ -11,6 +11,7 @@ use native.Mathlib.Nat.{zero-add, add-zero}
 use lib.ListN.{length, getD}
 use borrow.Author.Tests.{eqb-true, not-false}
 use Rattle.answers.specs.Tests.{pick}
+use Rattle.answers.proofs.Clashes.{impossible}
 use Rattle.reach.specs.Walk.{free}
 use Rattle.reach.proofs.Claims.{byte-any}
 use Rattle.volume.specs.declared.disk.Disk.{Disk}
@@ -68,7 +69,7 @@ module _ (s : List ℕ) (bitmapKey : ℕ) (cl : List ℕ) where
       go false e (Wrong j) h = let a = h .low in let b = h .high in record { low = omega arith; high = omega arith; wrong = h .wrong; before = upto j e (h .before) }
 
   clash : {A : Type 0} (j : ℕ) → wrongAt j ≡ true → wrongAt j ≡ false → A
-  clash j a b = absurd (let z : _≡_ {A = ℕ} 0 1 = cc in omega arith)
+  clash j a b = impossible cc
 
   lowest-one : (k n i j : ℕ) → Lowest k n i → Lowest k n j → i ≡ j
   lowest-one k n i j a b = go (decLt i j) (decLt j i)
@@ -109,13 +110,13 @@ module _ (u : Bool) (U : Type 0) where
   Fails = ((u ≡ true) × U) ⊎ ((u ≡ false) × (¬ U))
 
   fits-or-fails : Fits → Fails → ⊥
-  fits-or-fails h (inl f) = let e = h .1 (f .1) in let g = f .0 in let z : _≡_ {A = ℕ} 0 1 = cc in omega arith
+  fits-or-fails h (inl f) = let e = h .1 (f .1) in let g = f .0 in impossible cc
   fits-or-fails h (inr f) = f .1 (h .0 (f .0))
 
 judged : (u : Bool) (b : ℕ) (U : Type 0) → ((b ≡ 1) × U) ⊎ ((b ≡ 0) × (¬ U)) → ((bitWrong u b ≡ false) × Fits u U) ⊎ ((bitWrong u b ≡ true) × Fails u U)
 unfolding bitWrong pick
 judged true b U (inl h) = inr (rw (h .0), inl (refl, h .1))
-judged true b U (inr h) = inl (rw (h .0), ((λ e. absurd (let z : _≡_ {A = ℕ} 0 1 = cc in omega arith)), λ x. absurd (h .1 x)))
+judged true b U (inr h) = inl (rw (h .0), ((λ e. impossible cc), λ x. absurd (h .1 x)))
 judged false b U (inl h) = inl (rw (h .0), ((λ e. h .1), λ x. refl))
 judged false b U (inr h) = inr (rw (h .0), inr (refl, h .1))
 
@@ -163,7 +164,7 @@ module _ (s : List ℕ) (bitmapKey : ℕ) where
   unfolding bitWrong pick free
   count-byte true zero f c e h = ap suc h
   count-byte true (suc x) f c e h = absurd (omega (arith, eqb-true (suc x) 0 (not-false _ e)))
-  count-byte false zero f c e h = let z : _≡_ {A = ℕ} 0 1 = cc in absurd (omega arith)
+  count-byte false zero f c e h = impossible cc
   count-byte false (suc x) f c e h = h
 
   -- of the bytes of the blocks from block k on

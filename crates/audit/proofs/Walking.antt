@@ -16,6 +16,7 @@ use Rattle.volume.specs.Disks.{firstKey, mostBlocks}
 use Rattle.volume.specs.Blocks.{directory}
 use Rattle.volume.proofs.Sizes.{range-is}
 use Rattle.answers.proofs.Tests.{must-passed}
+use Rattle.answers.proofs.Clashes.{impossible}
 use Rattle.walk.specs.declared.Counts.{Counts}
 use Rattle.walk.specs.Nodes.{Node, root, bitmap, entry, list, datum, keyOf, leadsTo, noted, withEntry, graph, faultOf}
 use Rattle.audit.specs.declared.claims.Walked.{Walked}
@@ -25,7 +26,7 @@ use Rattle.audit.specs.Walks.{Met, total, goesOn, Walks, Ready}
 -- ---- answers
 
 pub not-both : {A : Type 0} (x : Refusal) (c : Counts) → Stopped x ≡ Done c → A
-not-both x c e = let z : _≡_ {A = ℕ} 0 1 = cc in absurd (omega arith)
+not-both x c e = impossible cc
 
 pub same-counts : (a c : Counts) → Done a ≡ Done c → a ≡ c
 same-counts a c e = cc

@@ -13,6 +13,7 @@ use Rattle.answers.specs.Refusals.{refusal}
 use Rattle.answers.specs.declared.Refusal.{Refusal}
 use Rattle.answers.specs.declared.Tested.{Tested}
 use Rattle.answers.specs.declared.Tested.the-variants.{Passed, Failed}
+use Rattle.answers.proofs.Clashes.{impossible}
 use Rattle.program.specs.declared.check.Answer.{Answer}
 use Rattle.program.specs.declared.check.Answer.the-variants.{Accepted, Refused}
 use Rattle.program.specs.declared.reader.Cursor.{Cursor}
@@ -119,7 +120,7 @@ bases-passed file bases from h = go (eqb (length bases) (totalOf file)) refl h
   where
     go : (b : Bool) → eqb (length bases) (totalOf file) ≡ b → pick b (basesFrom file bases from 0 (totalOf file)) (Failed (refusal 40 from)) ≡ Passed → length bases ≡ totalOf file
     go true e q = eqb-true _ _ e
-    go false e q = let z : _≡_ {A = ℕ} 0 1 = cc in absurd (omega arith)
+    go false e q = impossible cc
 
 -- ---- room and near targets, in code
 

@@ -17,6 +17,7 @@ use Rattle.answers.specs.Tests.{pick}
 use Rattle.answers.proofs.Tests.{pick-passed}
 use Rattle.answers.specs.Refusals.{refusal}
 use Rattle.answers.specs.declared.Tested.the-variants.{Passed, Failed}
+use Rattle.answers.proofs.Clashes.{impossible}
 use Rattle.program.specs.declared.check.Answer.{Answer}
 use Rattle.program.specs.declared.check.Answer.the-variants.{Accepted}
 use Rattle.program.specs.Header.{totalOf}
@@ -78,7 +79,7 @@ fault-passed file bases from other h = go (eqb (length bases) (totalOf file)) h
   where
     go : (b : Bool) → pick b (basesFrom file bases from 0 (totalOf file)) (Failed (refusal 40 from)) ≡ Passed → pick b (basesFrom file bases other 0 (totalOf file)) (Failed (refusal 40 other)) ≡ Passed
     go true e = from-passed file bases from other 0 (totalOf file) e
-    go false e = let z : _≡_ {A = ℕ} 0 1 = cc in absurd (omega arith)
+    go false e = impossible cc
 
 -- ---- a move between bases at which loads are accepted is accepted
 

@@ -8,6 +8,7 @@ use mathlib.Core.List.{List, [], _∷_, _++_}
 use native.Mathlib.Omega.{arith}
 use lib.ListN.{length}
 use Rattle.answers.specs.Tests.{pick}
+use Rattle.answers.proofs.Clashes.{impossible}
 use Rattle.reach.specs.References.{_∈_, Reached, top, ref}
 use Rattle.reach.proofs.Lists.{at-in, in-either}
 use Rattle.volume.specs.declared.disk.Disk.{Disk}
@@ -97,13 +98,13 @@ module _ (d : Disk) (s : List ℕ) (v : Volume d s) where
   reached-lies k r = let w = node-reached d s (volume-fine d s v) r in go (w .0) (led (w .1)) (w .2)
     where
       go : (n : Node) → Coherent d s n × Led n → to Kind.entry k ≡ bare d n → Lies s (rootOf d) k
-      go root w e = let f : Kind.entry ≡ Kind.root = ap (λ (r : Ref). r .kind) e in let z : _≡_ {A = ℕ} 0 1 = cc in absurd (omega arith)
-      go (bitmap b) w e = let f : Kind.entry ≡ Kind.bitmap = ap (λ (r : Ref). r .kind) e in let z : _≡_ {A = ℕ} 0 1 = cc in absurd (omega arith)
+      go root w e = let f : Kind.entry ≡ Kind.root = ap (λ (r : Ref). r .kind) e in impossible cc
+      go (bitmap b) w e = let f : Kind.entry ≡ Kind.bitmap = ap (λ (r : Ref). r .kind) e in impossible cc
       go (entry b t i p) w e =
           let x : k ≡ b = ap (λ (r : Ref). r .key) e in
           rw x (record { front = w .1 .0; parent = t; above = w .1 .1; slot = i; hangs = record { slot = w .0 .1; place = p; there = w .0 .2; some = w .0 .3 } })
-      go (list b h m c) w e = let f : Kind.entry ≡ Kind.list = ap (λ (r : Ref). r .kind) e in let z : _≡_ {A = ℕ} 0 1 = cc in absurd (omega arith)
-      go (datum b h n c) w e = let f : Kind.entry ≡ Kind.datum = ap (λ (r : Ref). r .kind) e in let z : _≡_ {A = ℕ} 0 1 = cc in absurd (omega arith)
+      go (list b h m c) w e = let f : Kind.entry ≡ Kind.list = ap (λ (r : Ref). r .kind) e in impossible cc
+      go (datum b h n c) w e = let f : Kind.entry ≡ Kind.datum = ap (λ (r : Ref). r .kind) e in impossible cc
 
   -- ---- its path leads to it
 

@@ -14,6 +14,7 @@ use Rattle.answers.specs.Refusals.{refusal}
 use Rattle.answers.specs.declared.Refusal.{Refusal}
 use Rattle.answers.specs.declared.Tested.{Tested}
 use Rattle.answers.specs.declared.Tested.the-variants.{Passed, Failed}
+use Rattle.answers.proofs.Clashes.{impossible}
 use Rattle.words.specs.Word.{wordAt}
 use Rattle.volume.specs.declared.disk.Disk.{Disk}
 use Rattle.volume.specs.Disks.{imageBytes, tagOf, rootOf}
@@ -36,7 +37,7 @@ place-is e = ap (λ (r : Refusal). r .place) e
 
 bad-there : (n i v : ℕ) (cs : List (List ℕ)) → componentsFault n cs ≡ Failed (refusal v i) → (v ≡ 18) × BadComponent n i cs
 unfolding componentsFault pick
-bad-there n i v [] e = let z : _≡_ {A = ℕ} 0 1 = cc in absurd (omega arith)
+bad-there n i v [] e = impossible cc
 bad-there n i v (c ∷ cs) e = go (isComponent c) refl e (bad-there (n + 1) i v cs)
   where
     go : (b : Bool) → isComponent c ≡ b → pick b (componentsFault (n + 1) cs) (Failed (refusal 18 n)) ≡ Failed (refusal v i) → (componentsFault (n + 1) cs ≡ Failed (refusal v i) → (v ≡ 18) × BadComponent (n + 1) i cs) → (v ≡ 18) × BadComponent n i (c ∷ cs)

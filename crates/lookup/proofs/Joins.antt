@@ -11,6 +11,7 @@ use lib.Seq.{length-slice}
 use borrow.Author.Tests.{eqb-true, le-ltb, leb-true}
 use Rattle.answers.specs.Tests.{pick}
 use Rattle.answers.specs.declared.Tested.the-variants.{Passed}
+use Rattle.answers.proofs.Clashes.{impossible}
 use Rattle.reach.specs.References.{_∈_}
 use Rattle.volume.specs.Blocks.{Holds}
 use Rattle.volume.specs.Names.{allowed, longest, nameLength, nameFrom, nameOf, nameGood}
@@ -24,13 +25,13 @@ joined-split [] = refl
 joined-split (b ∷ bs) = go (eqb b slash) refl (split bs) (joined-split bs) (split-some bs)
   where
     split-some : (xs : List ℕ) → split xs ≢ []
-    split-some [] e = let z : _≡_ {A = ℕ} 0 1 = cc in omega arith
+    split-some [] e = impossible cc
     split-some (x ∷ xs) e = some (eqb x slash) (split xs) e
       where
         some : (t : Bool) (cs : List (List ℕ)) → pick t ([] ∷ cs) (onto x cs) ≢ []
-        some true cs e = let z : _≡_ {A = ℕ} 0 1 = cc in omega arith
-        some false [] e = let z : _≡_ {A = ℕ} 0 1 = cc in omega arith
-        some false (c ∷ cs) e = let z : _≡_ {A = ℕ} 0 1 = cc in omega arith
+        some true cs e = impossible cc
+        some false [] e = impossible cc
+        some false (c ∷ cs) e = impossible cc
 
     go : (t : Bool) → eqb b slash ≡ t → (cs : List (List ℕ)) → joined cs ≡ bs → cs ≢ [] → joined (pick t ([] ∷ cs) (onto b cs)) ≡ b ∷ bs
     go t q [] e h = absurd (h refl)
@@ -51,8 +52,8 @@ component-has c e = go (leb 1 (length c)) refl (leb (length c) longest) refl e
   where
     go : (a : Bool) → leb 1 (length c) ≡ a → (b : Bool) → leb (length c) longest ≡ b → pick a (pick b (allowed c) false) false ≡ true → Component c
     go true p true q h = record { some = leb-true _ _ p; few = leb-true _ _ q; clean = h }
-    go true p false q h = let z : _≡_ {A = ℕ} 0 1 = cc in absurd (omega arith)
-    go false p b q h = let z : _≡_ {A = ℕ} 0 1 = cc in absurd (omega arith)
+    go true p false q h = impossible cc
+    go false p b q h = impossible cc
 
 -- a good name is a component
 pub name-component : (s : List ℕ) (k : ℕ) → Holds s k → nameGood s k ≡ true → isComponent (nameOf s k) ≡ true
@@ -67,8 +68,8 @@ name-component s k h e = go (leb 1 n) refl (leb n longest) refl e
         let few = leb-true n longest q in
         let l : length (nameOf s k) ≡ n = length-slice (nameFrom k) (nameFrom k + n) s (omega arith) ∙ omega arith in
         rw (l, p, q) y
-    go true p false q y = let z : _≡_ {A = ℕ} 0 1 = cc in absurd (omega arith)
-    go false p b q y = let z : _≡_ {A = ℕ} 0 1 = cc in absurd (omega arith)
+    go true p false q y = impossible cc
+    go false p b q y = impossible cc
 
 -- ---- splitting what was joined
 
@@ -78,8 +79,8 @@ unfolding allowed pick
 clean-first b c e = go (eqb b 47) refl (eqb b 58) e
   where
     go : (t : Bool) → eqb b 47 ≡ t → (u : Bool) → pick t false (pick u false (allowed c)) ≡ true → (eqb b slash ≡ false) × (allowed c ≡ true)
-    go true p u h = let z : _≡_ {A = ℕ} 0 1 = cc in absurd (omega arith)
-    go false p true h = let z : _≡_ {A = ℕ} 0 1 = cc in absurd (omega arith)
+    go true p u h = impossible cc
+    go false p true h = impossible cc
     go false p false h = (p, h)
 
 split-last : (c : List ℕ) → allowed c ≡ true → split c ≡ c ∷ []

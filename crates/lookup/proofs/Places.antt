@@ -10,6 +10,7 @@ use lib.Dec.{eqb}
 use borrow.Author.Tests.{eq-eqb, ne-eqb, eqb-true, eqb-false}
 use Rattle.answers.specs.Tests.{pick}
 use Rattle.answers.specs.Refusals.{refusal}
+use Rattle.answers.proofs.Clashes.{impossible}
 use Rattle.volume.specs.declared.disk.Disk.{Disk}
 use Rattle.volume.specs.Disks.{chainLimit}
 use Rattle.volume.specs.Names.{slotOf, same, nameOf}
@@ -151,8 +152,8 @@ module _ (d : Disk) (s : List ℕ) (t : ℕ) (name : List ℕ) where
     where
       go : Outcome (searchOf d s t name) → searchOf d s t name ≡ At k m → (p : ℕ) × First d s t name p × (k ≡ placeKey d s t name p) × (m ≡ p + 1)
       go (at p h q) e = (p, h, (cc), (cc))
-      go (ended p h q) e = let z : _≡_ {A = ℕ} 0 1 = cc in absurd (omega arith)
-      go (faulty p h q) e = let z : _≡_ {A = ℕ} 0 1 = cc in absurd (omega arith)
+      go (ended p h q) e = impossible cc
+      go (faulty p h q) e = impossible cc
 
   -- a component compares no more entries than a chain may have
   pub compared-most : (k m : ℕ) → searchOf d s t name ≡ At k m → m ≤ chainLimit d

@@ -11,6 +11,7 @@ use borrow.Author.Tests.{lt-ltb, le-ltb, ltb-true, ltb-false}
 use Rattle.answers.specs.Tests.{pick, must, never, first}
 use Rattle.answers.specs.Refusals.{refusal}
 use Rattle.answers.specs.declared.Tested.the-variants.{Failed}
+use Rattle.answers.proofs.Clashes.{impossible}
 use Rattle.volume.specs.declared.disk.Disk.{Disk}
 use Rattle.volume.specs.Disks.{rootOf, inRange, chainLimit}
 use Rattle.volume.specs.Names.{slotOf}
@@ -121,8 +122,8 @@ module _ (d : Disk) (s path : List ℕ) where
     refused-why (form h f p q) e = let x : f ≡ refusal v k = cc in let y = form-exactly path v k .0 (p ∙ ap Failed x) in number-18 h (y .1) (y .0)
     refused-why (tag h p u q) e = let x = same 3 0 q e in number-3 h p u (x .0) (x .1)
     refused-why (root h p u z q) e = let x = same (rootFault d s) (rootOf d) q e in of-root h p u (λ y. z (sym (x .0) ∙ y)) (sym (x .0)) (x .1)
-    refused-why (leads-to o (holds k′ m h q)) e = let z : _≡_ {A = ℕ} 0 1 = cc in absurd (omega arith)
-    refused-why (leads-to o (file w p f u b q)) e = let z : _≡_ {A = ℕ} 0 1 = cc in absurd (omega arith)
+    refused-why (leads-to o (holds k′ m h q)) e = impossible cc
+    refused-why (leads-to o (file w p f u b q)) e = impossible cc
     refused-why (leads-to o (used w p f u b q)) e =
         let x = same 20 (0 + length (w .front)) q e in
         number-20 (record { opened = o; comes = w; place = p; found = f; kind = u; more = b; component = x .1 ∙ behind-none _ }) (x .0)
@@ -206,33 +207,33 @@ module _ (d : Disk) (s path : List ℕ) where
   directory-exactly k n = ((λ e. go (find-why d s path) e), (λ h. sym (why-find d s path (Directory k n) (leads-to (h .0) (holds k n (h .1) (rw (behind-none n)))))))
     where
       go : Why d s path (findOf d s path) → findOf d s path ≡ Directory k n → Opened d s path × Trail d s (rootOf d) (components path) k n
-      go (image h q) e = let z : _≡_ {A = ℕ} 0 1 = cc in absurd (omega arith)
-      go (form h f p q) e = let z : _≡_ {A = ℕ} 0 1 = cc in absurd (omega arith)
-      go (tag h p u q) e = let z : _≡_ {A = ℕ} 0 1 = cc in absurd (omega arith)
-      go (root h p u z q) e = let z : _≡_ {A = ℕ} 0 1 = cc in absurd (omega arith)
+      go (image h q) e = impossible cc
+      go (form h f p q) e = impossible cc
+      go (tag h p u q) e = impossible cc
+      go (root h p u z q) e = impossible cc
       go (leads-to o (holds k′ m h q)) e =
           let x : k′ ≡ k = cc in
           let y : 0 + m ≡ n = cc in
           let y′ : m ≡ n = omega arith in
           (o, rw x at (rw y′ at h))
-      go (leads-to o (file w p f u b q)) e = let z : _≡_ {A = ℕ} 0 1 = cc in absurd (omega arith)
-      go (leads-to o (used w p f u b q)) e = let z : _≡_ {A = ℕ} 0 1 = cc in absurd (omega arith)
-      go (leads-to o (missing w p f q)) e = let z : _≡_ {A = ℕ} 0 1 = cc in absurd (omega arith)
-      go (leads-to o (fault w p f q)) e = let z : _≡_ {A = ℕ} 0 1 = cc in absurd (omega arith)
+      go (leads-to o (file w p f u b q)) e = impossible cc
+      go (leads-to o (used w p f u b q)) e = impossible cc
+      go (leads-to o (missing w p f q)) e = impossible cc
+      go (leads-to o (fault w p f q)) e = impossible cc
 
   -- A file is found exactly if it is what the last component leads to.
   pub file-exactly : (k z n : ℕ) → (findOf d s path ≡ File k z n) ↔ IsFile d s path k z n
   file-exactly k z n = ((λ e. go (find-why d s path) e), (λ h. sym (why-find d s path (File k z n) (leads-to (h .opened) (file (h .comes) (h .place) (h .found) (h .kind) (h .last) (rw (h .count, h .size, h .key, behind-none n)))))))
     where
       go : Why d s path (findOf d s path) → findOf d s path ≡ File k z n → IsFile d s path k z n
-      go (image h q) e = let z : _≡_ {A = ℕ} 0 1 = cc in absurd (omega arith)
-      go (form h f p q) e = let z : _≡_ {A = ℕ} 0 1 = cc in absurd (omega arith)
-      go (tag h p u q) e = let z : _≡_ {A = ℕ} 0 1 = cc in absurd (omega arith)
-      go (root h p u z q) e = let z : _≡_ {A = ℕ} 0 1 = cc in absurd (omega arith)
-      go (leads-to o (holds k′ m h q)) e = let z : _≡_ {A = ℕ} 0 1 = cc in absurd (omega arith)
+      go (image h q) e = impossible cc
+      go (form h f p q) e = impossible cc
+      go (tag h p u q) e = impossible cc
+      go (root h p u z q) e = impossible cc
+      go (leads-to o (holds k′ m h q)) e = impossible cc
       go (leads-to o (file w p f u b q)) e =
           let y : 0 + (w .compared + (p + 1)) ≡ n = cc in
           record { opened = o; comes = w; place = p; found = f; kind = u; last = b; key = cc; size = cc; count = omega arith }
-      go (leads-to o (used w p f u b q)) e = let z : _≡_ {A = ℕ} 0 1 = cc in absurd (omega arith)
-      go (leads-to o (missing w p f q)) e = let z : _≡_ {A = ℕ} 0 1 = cc in absurd (omega arith)
-      go (leads-to o (fault w p f q)) e = let z : _≡_ {A = ℕ} 0 1 = cc in absurd (omega arith)
+      go (leads-to o (used w p f u b q)) e = impossible cc
+      go (leads-to o (missing w p f q)) e = impossible cc
+      go (leads-to o (fault w p f q)) e = impossible cc

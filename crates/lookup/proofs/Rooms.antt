@@ -6,6 +6,7 @@ use mathlib.Core.Logic.{_≢_, _⊎_, inl, inr}
 use mathlib.Core.List.{List, [], _∷_, map}
 use native.Mathlib.Omega.{arith}
 use lib.ListN.{length, getD, set, replicate, getD-replicate}
+use Rattle.answers.proofs.Clashes.{impossible}
 use Rattle.reach.specs.References.{At, _∈_, Uniq, Reached, top, ref}
 use Rattle.reach.specs.Walk.{free}
 use Rattle.reach.proofs.Lists.{at-in, in-either, map-in}
@@ -41,11 +42,11 @@ listed-none s b k h = go (in-either (to Kind.entry k) (map (to Kind.datum) (keys
   where
     last : (w : ℕ) → to Kind.entry k ∈ link Kind.list w → ⊥
     last zero m = m
-    last (suc w) (inl e) = let f : Kind.entry ≡ Kind.list = ap (λ (r : Ref). r .kind) e in let z : _≡_ {A = ℕ} 0 1 = cc in omega arith
+    last (suc w) (inl e) = let f : Kind.entry ≡ Kind.list = ap (λ (r : Ref). r .kind) e in impossible cc
     last (suc w) (inr m) = m
 
     go : (to Kind.entry k ∈ map (to Kind.datum) (keysDown s b 0 (wordOf s b 2))) ⊎ (to Kind.entry k ∈ link Kind.list (wordOf s b 126)) → ⊥
-    go (inl m) = let a = map-in (to Kind.datum) (to Kind.entry k) (keysDown s b 0 (wordOf s b 2)) m in let f : Kind.entry ≡ Kind.datum = ap (λ (r : Ref). r .kind) (a .2) in let z : _≡_ {A = ℕ} 0 1 = cc in omega arith
+    go (inl m) = let a = map-in (to Kind.datum) (to Kind.entry k) (keysDown s b 0 (wordOf s b 2)) m in let f : Kind.entry ≡ Kind.datum = ap (λ (r : Ref). r .kind) (a .2) in impossible cc
     go (inr m) = last (wordOf s b 126) m
 
 module _ (d : Disk) (s : List ℕ) (v : Volume d s) where
@@ -53,7 +54,7 @@ module _ (d : Disk) (s : List ℕ) (v : Volume d s) where
   B r = Reached (references d s) r
 
   not-root : (k : ℕ) → B (to Kind.entry k) → k ≢ rootOf d
-  not-root k (top e) = let f : Kind.entry ≡ Kind.root = ap (λ (r : Ref). r .kind) e in let z : _≡_ {A = ℕ} 0 1 = cc in absurd (omega arith)
+  not-root k (top e) = let f : Kind.entry ≡ Kind.root = ap (λ (r : Ref). r .kind) e in impossible cc
   not-root k (ref {m = m} i r h) = v .owned .none m (to Kind.entry k) i r h
 
   abbrev page : ℕ
@@ -75,7 +76,7 @@ module _ (d : Disk) (s : List ℕ) (v : Volume d s) where
   not-page k f e = let w = v .owned .once (f .from) (to Kind.root (rootOf d)) (to Kind.entry k) (to Kind.bitmap page) (f .nth) 0 (f .reached) (top refl) (f .stands) page-at e in go (f .from .kind) (f .from .key) (f .nth) (f .reached) (f .stands) (w .0) (w .1)
     where
       go : (a : Kind) (t n : ℕ) → B (to a t) → At n (to Kind.entry k) (refersTo s a t) → t ≡ rootOf d → n ≡ 0 → ⊥
-      go Kind.root t n r h q z = let y : to Kind.entry k ≡ to Kind.bitmap (wordOf s t 79) = rw z at h in let f : Kind.entry ≡ Kind.bitmap = ap (λ (r : Ref). r .kind) y in let z : _≡_ {A = ℕ} 0 1 = cc in omega arith
+      go Kind.root t n r h q z = let y : to Kind.entry k ≡ to Kind.bitmap (wordOf s t 79) = rw z at h in let f : Kind.entry ≡ Kind.bitmap = ap (λ (r : Ref). r .kind) y in impossible cc
       go Kind.bitmap t n r h q z = h
       go Kind.entry t n r h q z = not-root t r q
       go Kind.list t n r h q z = listed-none s t k (at-in (to Kind.entry k) n (listed s t) h)

@@ -6,6 +6,7 @@ use mathlib.Core.List.{List, [], _∷_, _++_, append-nil}
 use native.Mathlib.Omega.{arith}
 use lib.ListN.{length}
 use Rattle.answers.specs.Tests.{pick}
+use Rattle.answers.proofs.Clashes.{impossible}
 use Rattle.volume.specs.declared.disk.Disk.{Disk}
 use Rattle.volume.specs.Blocks.{directory}
 use Rattle.volume.specs.Files.{sizeOf}
@@ -80,7 +81,7 @@ module _ (d : Disk) (s : List ℕ) where
       ends [] x p f e =
           let y : 0 + (p + 1) ≡ p + 1 = omega arith in
           file (first t c cs) p f e x (rw y (is p f e ∙ ap (λ l. fileAt s i (n + (p + 1)) l (placeKey d s t c p)) x))
-      ends (b ∷ l) x p f e = used (first t c cs) p f e (λ y. let z : _≡_ {A = ℕ} 0 1 = cc in omega arith) (is p f e ∙ ap (λ l. fileAt s i (n + (p + 1)) l (placeKey d s t c p)) x ∙ (rw here))
+      ends (b ∷ l) x p f e = used (first t c cs) p f e (λ y. impossible cc) (is p f e ∙ ap (λ l. fileAt s i (n + (p + 1)) l (placeKey d s t c p)) x ∙ (rw here))
 
       which : (b : Bool) (p : ℕ) → First d s t c p → directory s (placeKey d s t c p) ≡ b → ((k m : ℕ) → Leads d s k (i + 1) m cs (lookupFrom d s k (i + 1) m cs)) → Leads d s t i n (c ∷ cs) (lookupFrom d s t i n (c ∷ cs))
       which true p f e ih = deeper t c cs p f e i n _ (rw (below t i n c cs p f e) (ih (placeKey d s t c p) (n + (p + 1))))

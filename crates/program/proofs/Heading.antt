@@ -13,6 +13,7 @@ use Rattle.answers.specs.Tests.{pick, must}
 use Rattle.answers.proofs.Tests.{must-passed, pick-passed}
 use Rattle.answers.specs.declared.Tested.{Tested}
 use Rattle.answers.specs.declared.Tested.the-variants.{Passed}
+use Rattle.answers.proofs.Clashes.{impossible}
 use Rattle.program.specs.Header.{totalOf, headFault, judge, heads}
 use Rattle.program.specs.Verdicts.{Fine}
 
@@ -42,7 +43,7 @@ split s [] rest at n e =
     let a : at + 4 * 0 ≡ at = omega arith in
     let b : n - 0 ≡ n = omega arith in
     record { long = omega arith; others = rw (a, b) e; first = λ i h. absurd (omega arith) }
-split s (x ∷ l) rest at zero e = let z : _≡_ {A = ℕ} 0 1 = cc in absurd (omega arith)
+split s (x ∷ l) rest at zero e = impossible cc
 split s (x ∷ l) rest at (suc n) e =
     let p : wordAt s at ≡ x = cc in
     let q : wordsAt s (at + 4) n ≡ l ++ rest = cc in
@@ -127,7 +128,7 @@ module _ (t w : ℕ) where
 
 judge-pass : (v at : ℕ) (r : Tested) → judge v at r ≡ Passed → (v ≡ 0) × (r ≡ Passed)
 judge-pass zero at r e = (refl, e)
-judge-pass (suc v) at r e = let z : _≡_ {A = ℕ} 0 1 = cc in absurd (omega arith)
+judge-pass (suc v) at r e = impossible cc
 
 pub each-fine : (file : List ℕ) (n i : ℕ) → heads file i n ≡ Passed → (j : ℕ) → i ≤ j → j < i + n → Fine file j
 unfolding heads

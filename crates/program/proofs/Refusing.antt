@@ -15,6 +15,7 @@ use Rattle.answers.specs.Refusals.{refusal}
 use Rattle.answers.specs.declared.Refusal.{Refusal}
 use Rattle.answers.specs.declared.Tested.{Tested}
 use Rattle.answers.specs.declared.Tested.the-variants.{Passed, Failed}
+use Rattle.answers.proofs.Clashes.{impossible}
 use Rattle.program.specs.declared.check.Answer.the-variants.{Refused}
 use Rattle.program.specs.declared.reader.Cursor.{Cursor}
 use Rattle.program.specs.declared.reader.Mode.{Mode}
@@ -64,25 +65,25 @@ refused-same : (r f : Refusal) → Refused r ≡ Refused f → f ≡ r
 refused-same r f e = cc
 
 on-bad : {X : Type 0} (d : Cursor) (v : ℕ) → On d ≡ Bad v → X
-on-bad d v e = let z : _≡_ {A = ℕ} 0 1 = cc in absurd (omega arith)
+on-bad d v e = impossible cc
 
 ended-why : (file : List ℕ) (f : Refusal) (c : Cursor) (m : Mode) → endedOf (length file) c m ≡ Refused f → (m ≢ End) × (f ≡ refusal 31 (length file))
 ended-why file f c End e = not-refused e
 ended-why file f c Begin e = ((λ q. absurd (other q)), refused-same _ f e)
   where
     other : Begin ≡ End → ⊥
-    other q = let z : _≡_ {A = ℕ} 0 1 = cc in omega arith
-ended-why file f c NameLength e = ((λ q. let z : _≡_ {A = ℕ} 0 1 = cc in omega arith), refused-same _ f e)
-ended-why file f c Body e = ((λ q. let z : _≡_ {A = ℕ} 0 1 = cc in omega arith), refused-same _ f e)
-ended-why file f c (Length k) e = ((λ q. let z : _≡_ {A = ℕ} 0 1 = cc in omega arith), refused-same _ f e)
-ended-why file f c (Stored i) e = ((λ q. let z : _≡_ {A = ℕ} 0 1 = cc in omega arith), refused-same _ f e)
-ended-why file f c Part e = ((λ q. let z : _≡_ {A = ℕ} 0 1 = cc in omega arith), refused-same _ f e)
-ended-why file f c Count e = ((λ q. let z : _≡_ {A = ℕ} 0 1 = cc in omega arith), refused-same _ f e)
-ended-why file f c (Number n) e = ((λ q. let z : _≡_ {A = ℕ} 0 1 = cc in omega arith), refused-same _ f e)
-ended-why file f c (Offset n k) e = ((λ q. let z : _≡_ {A = ℕ} 0 1 = cc in omega arith), refused-same _ f e)
-ended-why file f c Symbol e = ((λ q. let z : _≡_ {A = ℕ} 0 1 = cc in omega arith), refused-same _ f e)
-ended-why file f c DebugLength e = ((λ q. let z : _≡_ {A = ℕ} 0 1 = cc in omega arith), refused-same _ f e)
-ended-why file f c (Skip n a) e = ((λ q. let z : _≡_ {A = ℕ} 0 1 = cc in omega arith), refused-same _ f e)
+    other q = impossible cc
+ended-why file f c NameLength e = ((λ q. impossible cc), refused-same _ f e)
+ended-why file f c Body e = ((λ q. impossible cc), refused-same _ f e)
+ended-why file f c (Length k) e = ((λ q. impossible cc), refused-same _ f e)
+ended-why file f c (Stored i) e = ((λ q. impossible cc), refused-same _ f e)
+ended-why file f c Part e = ((λ q. impossible cc), refused-same _ f e)
+ended-why file f c Count e = ((λ q. impossible cc), refused-same _ f e)
+ended-why file f c (Number n) e = ((λ q. impossible cc), refused-same _ f e)
+ended-why file f c (Offset n k) e = ((λ q. impossible cc), refused-same _ f e)
+ended-why file f c Symbol e = ((λ q. impossible cc), refused-same _ f e)
+ended-why file f c DebugLength e = ((λ q. impossible cc), refused-same _ f e)
+ended-why file f c (Skip n a) e = ((λ q. impossible cc), refused-same _ f e)
 
 module _ (file : List ℕ) (even : length file % 4 ≡ 0) where
   -- n words are left

@@ -8,6 +8,7 @@ use native.Mathlib.Numerals.{add-one}
 use lib.Dec.{ltb, leb, eqb}
 use borrow.Author.Tests.{ltb-true, ltb-false, eqb-true, eqb-false}
 use Rattle.answers.specs.Tests.{pick}
+use Rattle.answers.proofs.Clashes.{impossible}
 use Rattle.program.specs.declared.reader.Cursor.{Cursor}
 use Rattle.program.specs.declared.reader.After.{After}
 use Rattle.program.specs.declared.reader.After.the-variants as after
@@ -20,7 +21,7 @@ use Rattle.program.specs.Reader.{start, on, resume, skip, bodyOf, stored
 use Rattle.program.specs.Sane.{Sound, placeOf, ModeFits, Sane}
 
 bad-on : {A : Type 0} (e : ℕ) (d : Cursor) → Bad e ≡ On d → A
-bad-on e d h = let z : _≡_ {A = ℕ} 0 1 = cc in absurd (omega arith)
+bad-on e d h = impossible cc
 
 on-on : (a d : Cursor) → On a ≡ On d → a ≡ d
 on-on a d h = cc

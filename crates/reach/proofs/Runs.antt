@@ -1,8 +1,8 @@
--- The walk with no fuel: the equations that code is proved by (`run-end`, `run-stop`, `run-enter`, `run-append`, `run-visit`), and
+-- The walk with no fuel: the equations that code is proved by (`run-end`, `run-stop`, `run-enter`), and
 -- the relation `Run` that a proof goes by induction on. Assumes nothing.
-use mathlib.Core.Path.{_≡_, refl, sym, ap, _∙_}
+use mathlib.Core.Path.{_≡_, refl, _∙_}
 use mathlib.Core.Logic.{_≢_}
-use mathlib.Core.List.{List, [], _∷_, _++_, append-assoc}
+use mathlib.Core.List.{List, [], _∷_, _++_}
 use Prim.Native.Nat.{ℕ, zero, suc, _<_}
 use native.Mathlib.Nat.{le-refl, not-suc-le-zero}
 use native.Mathlib.Omega.{arith}
@@ -10,7 +10,7 @@ use lib.ListN.{getD, set}
 use Rattle.reach.specs.References.{References}
 use Rattle.answers.specs.Tests.{first}
 use Rattle.answers.proofs.Tests.{first-zero}
-use Rattle.reach.specs.Walk.{Graph, Outcome, done, refused, claimed, free, verdict, walk, run, andThen}
+use Rattle.reach.specs.Walk.{Graph, Outcome, done, refused, claimed, free, verdict, walk, run}
 use Rattle.reach.proofs.Claims.{free-set}
 
 -- ---- tests
@@ -95,20 +95,6 @@ module _ {Node S : Type 0} (G : Graph Node S) where
 
   pub run-enter : (c : List ℕ) (s : S) (n : Node) (ns : List Node) → verdict G c n ≡ 0 → run G c s (n ∷ ns) ≡ run G (set c (key n) 1) (G .note n s) (refs n ++ ns)
   run-enter c s n ns e = runs-run (enter e (run-runs _ _ _))
-
-  split : {c : List ℕ} {s : S} {xs : List Node} {r : Outcome S} (ys : List Node) → Run c s xs r → run G c s (xs ++ ys) ≡ andThen G r ys
-  unfolding andThen
-  split ys end = refl
-  split ys (stop {c = c} {s = s} {n = n} {ns = ns} v e) = run-stop c s n (ns ++ ys) v e
-  split ys (enter {c = c} {s = s} {n = n} {ns = ns} e d) =
-      run-enter c s n (ns ++ ys) e ∙ ap (λ l. run G (set c (key n) 1) (G .note n s) l) (sym (append-assoc (refs n) ns ys)) ∙ split ys d
-
-  pub run-append : (c : List ℕ) (s : S) (xs ys : List Node) → run G c s (xs ++ ys) ≡ andThen G (run G c s xs) ys
-  run-append c s xs ys = split ys (run-runs c s xs)
-
-  -- the shape of recursive code: a node, then its references, then the rest
-  pub run-visit : (c : List ℕ) (s : S) (n : Node) (ns : List Node) → verdict G c n ≡ 0 → run G c s (n ∷ ns) ≡ andThen G (run G (set c (key n) 1) (G .note n s) (refs n)) ns
-  run-visit c s n ns e = run-enter c s n ns e ∙ run-append _ _ _ _
 
   -- ---- what holds at the start, and at every step, holds at the end
 

@@ -56,11 +56,6 @@ module _ {Node S : Type 0} (G : Graph Node S) where
   unfolding walk
   run c s ns = walk (suc (free c)) c s ns
 
-  -- go on with more, unless refused
-  unfoldable pub andThen : Outcome S → List Node → Outcome S
-  andThen (done c s) ns = run c s ns
-  andThen (refused v k) ns = refused v k
-
   -- the whole walk: N claim bytes that are 0, and the root to do
   unfoldable pub audit : ℕ → S → Outcome S
   unfolding run

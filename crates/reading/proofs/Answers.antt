@@ -8,6 +8,7 @@ use lib.ListN.{length, getD, drop, length-append, length-take, length-drop}
 use lib.Seq.{take-append-seam, getD-take, getD-drop, getD-append-add}
 use Rattle.answers.specs.declared.Tested.{Tested}
 use Rattle.answers.specs.declared.Tested.the-variants.{Passed, Failed}
+use Rattle.answers.proofs.Clashes.{impossible}
 use Rattle.volume.specs.declared.disk.Disk.{Disk}
 use Rattle.volume.specs.Disks.{imageBytes}
 use Rattle.volume.specs.Files.{sizeOf}
@@ -92,13 +93,13 @@ module _ (d : Disk) (s path : List ℕ) where
   read-exactly o n m = (there (findOf d s path) refl, back)
     where
       there : (f : Found) → findOf d s path ≡ f → reads d s path o n f ≡ Bytes m → Gives d s path o n m
-      there (found.Directory k c) e q = let z : _≡_ {A = ℕ} 0 1 = cc in absurd (omega arith)
-      there (found.Refused r) e q = let z : _≡_ {A = ℕ} 0 1 = cc in absurd (omega arith)
+      there (found.Directory k c) e q = impossible cc
+      there (found.Refused r) e q = impossible cc
       there (found.File k z c) e q = go (blocksFault d s k) refl q
         where
           go : (t : Tested) → blocksFault d s k ≡ t → tested d s k o n t ≡ Bytes m → Gives d s path o n m
           go Passed p q = let x : m ≡ length (part (fileBytes d s k) o n) = cc in record { key = k; size = z; compared = c; found = e; passed = p; count = x ∙ count-found k z c e p o n }
-          go (Failed r) p q = let z : _≡_ {A = ℕ} 0 1 = cc in absurd (omega arith)
+          go (Failed r) p q = impossible cc
 
       back : Gives d s path o n m → readOf d s path o n ≡ Bytes m
       back g = rw (g .found, g .passed) (ap Bytes (count-found (g .key) (g .size) (g .compared) (g .found) (g .passed) o n ∙ sym (g .count)))

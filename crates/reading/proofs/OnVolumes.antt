@@ -10,6 +10,7 @@ use lib.ListN.{length, drop}
 use lib.Seq.{take-all}
 use Rattle.answers.specs.Tests.{pick}
 use Rattle.answers.specs.declared.Tested.the-variants.{Passed}
+use Rattle.answers.proofs.Clashes.{impossible}
 use Rattle.reach.specs.References.{_∈_, Reached, ref}
 use Rattle.reach.proofs.Lists.{in-left, in-right, in-either, in-at, in-map}
 use Rattle.volume.specs.declared.disk.Disk.{Disk}
@@ -144,7 +145,7 @@ module _ (d : Disk) (s : List ℕ) (v : Volume d s) where
     volume-read-answers o n w i q = go (refused-exactly d s path o n w i .0 q)
       where
         none : (k z c : ℕ) → findOf d s path ≡ found.File k z c → ⊥
-        none k z c e = let y = volume-reads k z c e o n in let z : _≡_ {A = ℕ} 0 1 = cc in absurd (omega arith)
+        none k z c e = let y = volume-reads k z c e o n in impossible cc
 
         go : Refuses d s path w i → (w ≡ 18) ⊎ (w ≡ 19) ⊎ (w ≡ 20)
         go (of-lookup e) = volume-answers d s v path w i e

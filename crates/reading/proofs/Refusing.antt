@@ -4,13 +4,13 @@ use mathlib.Core.Path.{_≡_, refl, sym, ap, _∙_}
 use mathlib.Core.Logic.{_≢_, inl, inr, _↔_}
 use mathlib.Core.Bool.{Bool, true, false}
 use mathlib.Core.List.{List, [], _∷_, _++_}
-use native.Mathlib.Omega.{arith}
 use lib.Dec.{eqb}
 use borrow.Author.Tests.{eq-eqb, ne-eqb, eqb-true, eqb-false}
 use Rattle.answers.specs.Tests.{pick}
 use Rattle.answers.specs.Refusals.{refusal}
 use Rattle.answers.specs.declared.Tested.{Tested}
 use Rattle.answers.specs.declared.Tested.the-variants.{Passed, Failed}
+use Rattle.answers.proofs.Clashes.{impossible}
 use Rattle.reach.specs.References.{_∈_}
 use Rattle.volume.specs.declared.disk.Disk.{Disk}
 use Rattle.volume.specs.Rules.{fileFault}
@@ -28,7 +28,7 @@ use Rattle.reading.specs.Outcomes.{Fails, Refuses, of-lookup, of-directo
 module _ (d : Disk) (s : List ℕ) (v k : ℕ) where
   fails-there : (ns : List Node) → firstFault d s ns ≡ Failed (refusal v k) → Fails d s ns v k
   unfolding firstFault pick
-  fails-there [] e = let z : _≡_ {A = ℕ} 0 1 = cc in absurd (omega arith)
+  fails-there [] e = impossible cc
   fails-there (n ∷ ns) e = go (eqb (nodeFault d s n) 0) refl e (fails-there ns)
     where
       go : (b : Bool) → eqb (nodeFault d s n) 0 ≡ b → pick b (firstFault d s ns) (Failed (refusal (nodeFault d s n) (keyOf d n))) ≡ Failed (refusal v k) → (firstFault d s ns ≡ Failed (refusal v k) → Fails d s ns v k) → Fails d s (n ∷ ns) v k
@@ -74,7 +74,7 @@ module _ (d : Disk) (s path : List ℕ) (o n v k : ℕ) where
   read-why (found.File h z c) e q = go (blocksFault d s h) refl q
     where
       go : (t : Tested) → blocksFault d s h ≡ t → tested d s h o n t ≡ refuse v k → Refuses d s path v k
-      go Passed p q = let z : _≡_ {A = ℕ} 0 1 = cc in absurd (omega arith)
+      go Passed p q = impossible cc
       go (Failed r) p q = let x : r ≡ refusal v k = cc in blocks-why h z c e (p ∙ ap Failed x)
 
   why-read : Refuses d s path v k → readOf d s path o n ≡ refuse v k

@@ -12,6 +12,7 @@ use Rattle.answers.specs.Tests.{pick}
 use Rattle.answers.specs.Refusals.{refusal}
 use Rattle.answers.specs.declared.Tested.the-variants.{Passed, Failed}
 use Rattle.answers.proofs.Tests.{first-zero}
+use Rattle.answers.proofs.Clashes.{impossible}
 use Rattle.reach.specs.References.{_∈_}
 use Rattle.reach.proofs.Lists.{in-left, in-right, in-either}
 use Rattle.volume.specs.declared.disk.Disk.{Disk}
@@ -39,7 +40,7 @@ module _ (d : Disk) (s : List ℕ) where
       go : (b : Bool) → eqb (nodeFault d s n) 0 ≡ b → pick b (firstFault d s ns) (Failed (refusal (nodeFault d s n) (keyOf d n))) ≡ Passed → x ∈ (n ∷ ns) → (firstFault d s ns ≡ Passed → Pass ns) → nodeFault d s x ≡ 0
       go true q e (inl a) f = rw a (eqb-true _ 0 q)
       go true q e (inr a) f = f e x a
-      go false q e a f = let z : _≡_ {A = ℕ} 0 1 = cc in absurd (omega arith)
+      go false q e a f = impossible cc
 
   own : (x : Node) → nodeFault d s x ≡ 0 → faultOf d s x ≡ 0
   own x e = first-zero (keyFault d (keyOf d x)) _ e .1
@@ -121,7 +122,7 @@ module _ (d : Disk) (s : List ℕ) where
         where
           go : (b : Bool) → eqb (fileFault d s h) 0 ≡ b → pick b (firstFault d s (fileNodes d s h)) (Failed (refusal (fileFault d s h) h)) ≡ Passed → fileFault d s h ≡ 0
           go true q x = eqb-true _ 0 q
-          go false q x = let z : _≡_ {A = ℕ} 0 1 = cc in absurd (omega arith)
+          go false q x = impossible cc
 
       blocks-pass : Pass (fileNodes d s h)
       unfolding blocksFault pick

@@ -13,6 +13,7 @@ use Rattle.answers.specs.declared.Refusal.{Refusal}
 use Rattle.answers.specs.declared.Tested.{Tested}
 use Rattle.answers.specs.declared.Tested.the-variants.{Passed, Failed}
 use Rattle.answers.proofs.Tests.{first-zero, must-passed}
+use Rattle.answers.proofs.Clashes.{impossible}
 use Rattle.volume.specs.declared.disk.Disk.{Disk}
 use Rattle.volume.specs.Disks.{Sized, inRange, imageBytes, fileLimit}
 use Rattle.volume.specs.Blocks.{slots, Holds, wordOf, keyWord}
@@ -114,7 +115,7 @@ module _ (d : Disk) (s : List ℕ) (b : Lister) where
       keys-out r t q =
           record {
             told = q ∙ rw e (fault-stops d s (next d s b i last) _ f fault t) ∙ sym on ∙ ap (λ (j : ℕ). firstFault d s (nodes d s b 0 j)) (v .turn .counted);
-            keys = λ p. absurd (let z : _≡_ {A = ℕ} 0 1 = cc in omega arith);
+            keys = λ p. impossible cc;
           }
 
       pub keys-step : f ≡ 0 → KeysInv count k (i + 1)
@@ -134,7 +135,7 @@ module _ (d : Disk) (s : List ℕ) (b : Lister) where
 
 module _ (d : Disk) (s : List ℕ) (b : Lister) (f : ℕ) (g : f ≡ nodeFault d s (list (b .key) (b .header) (b .done) (b .last))) where
   pub list-stops : (r : Tested) → (f ≡ 0 → ⊥) → r ≡ Failed (refusal f (b .key)) → ListTested d s b r
-  list-stops r t q = record { told = q ∙ fault-stops d s _ _ f g t; known = λ p. absurd (let z : _≡_ {A = ℕ} 0 1 = cc in omega arith) }
+  list-stops r t q = record { told = q ∙ fault-stops d s _ _ f g t; known = λ p. impossible cc }
 
   module _ (z : f ≡ 0) where
     key-inside : b .key < d .blocks

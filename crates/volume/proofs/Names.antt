@@ -12,6 +12,7 @@ use lib.Seq.{slice, slice-cons, slice-empty, length-slice}
 use borrow.Author.Tests.{eqb-true, eq-eqb, ne-eqb, le-leb, lt-leb, leb-true}
 use Rattle.volume.specs.declared.disk.Disk.{Disk}
 use Rattle.answers.specs.Tests.{pick}
+use Rattle.answers.proofs.Clashes.{impossible}
 use Rattle.volume.specs.Blocks.{Holds, slots}
 use Rattle.volume.specs.Names.{foldPlain, foldOf, folded, hashFrom, slotOf, allowed, same, longest, nameLength, nameFrom, nameOf, nameGood}
 
@@ -163,8 +164,8 @@ name-short s k r e q = go (leb 1 n) (leb n longest) (allowed (nameOf s k)) refl 
 
     go : (a b c : Bool) → leb n longest ≡ b → pick a (pick b c false) false ≡ true → n ≤ longest
     go true true c p q = leb-true n longest p
-    go true false c p q = let z : _≡_ {A = ℕ} 0 1 = cc in absurd (omega arith)
-    go false b c p q = let z : _≡_ {A = ℕ} 0 1 = cc in absurd (omega arith)
+    go true false c p q = impossible cc
+    go false b c p q = impossible cc
 
 -- a block's name, of n bytes, and another: of different lengths, or of one
 module _ (d : Disk) (s : List ℕ) (k n : ℕ) (i : Holds s k) (p : nameLength s k ≤ longest) (h : n ≡ nameLength s k) (t : List ℕ) (at len : ℕ) (q : at + len ≤ length t) where

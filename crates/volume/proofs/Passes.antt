@@ -18,6 +18,7 @@ use Rattle.volume.specs.Blocks.{slots, wordOf, sumOf, directory}
 use Rattle.volume.specs.Names.{nameOf, slotOf}
 use Rattle.volume.specs.Files.{sizeOf, blocksOf}
 use Rattle.answers.proofs.Tests.{pick-true, pick-false}
+use Rattle.answers.proofs.Clashes.{impossible}
 use Rattle.volume.specs.Law.{Root, Entry, Lists, ListBlock, DataBlock}
 use Rattle.volume.specs.Rules.{rootRules, rootFault, allZero, mapRules, mapFault, bitmapFault, entryTypes, entryWords, entryName, entryFault, countRules, emptyRules, fileFault, listWords, listFault, dataWords, dataLinks, dataFault}
 
@@ -58,7 +59,7 @@ zeros-there s k i (suc n) e j l h = go (eqb (wordOf s k i) 0) refl e (zeros-ther
     go : (t : Bool) → eqb (wordOf s k i) 0 ≡ t → pick t (allZero s k (suc i) n) false ≡ true → (allZero s k (suc i) n ≡ true → (j : ℕ) → suc i ≤ j → j < suc i + n → wordOf s k j ≡ 0) → Dec (i < j) → wordOf s k j ≡ 0
     go true p e ih (yes q) = ih e j q (omega arith)
     go true p e ih (no q) = let g : j ≡ i = omega arith in rw g (eqb-true (wordOf s k i) 0 p)
-    go false p e ih q = let z : _≡_ {A = ℕ} 0 1 = cc in absurd (omega arith)
+    go false p e ih q = impossible cc
 
 pub zeros-found : (s : List ℕ) (k i n : ℕ) → ((j : ℕ) → i ≤ j → j < i + n → wordOf s k j ≡ 0) → allZero s k i n ≡ true
 unfolding allZero pick

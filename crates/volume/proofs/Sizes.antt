@@ -7,6 +7,7 @@ use borrow.Author.Tests.{ltb-true, ltb-false}
 use native.Mathlib.Omega.{arith}
 use Rattle.volume.specs.declared.disk.Disk.{Disk}
 use Rattle.answers.specs.Tests.{pick}
+use Rattle.answers.proofs.Clashes.{impossible}
 use Rattle.volume.specs.Blocks.{dataRoom}
 use Rattle.volume.specs.Disks.{floppy, Sized, mostBlocks, firstKey, inRange, dataBytes, fileLimit}
 use Rattle.volume.specs.Files.{dataBlocks, heldOf}
@@ -43,7 +44,7 @@ module _ (d : Disk) where
   module _ (k : ℕ) where
     range-go : (t : Bool) → ltb k firstKey ≡ t → pick t false (ltb k (d .blocks)) ≡ true → (firstKey ≤ k) × (k < d .blocks)
     unfolding pick
-    range-go true e p = let z : _≡_ {A = ℕ} 0 1 = cc in absurd (omega arith)
+    range-go true e p = impossible cc
     range-go false e p = (ltb-false k firstKey e, ltb-true k (d .blocks) p)
 
     pub range-is : inRange d k ≡ true → (firstKey ≤ k) × (k < d .blocks)
