@@ -51,6 +51,29 @@ pub fn rattle(name: &str) -> Command {
     command
 }
 
+/// A request: its number and its body.
+pub type Request = (u32, Vec<u8>);
+
+/// A request as a program reads it.
+pub fn framed(number: u32, body: &[u8]) -> Vec<u8> {
+    let length = u32::try_from(body.len()).expect("a body's length");
+    [&number.to_be_bytes(), &length.to_be_bytes(), body].concat()
+}
+
+/// What a program answers to these requests, line by line. A bad end is told in one line more.
+pub fn answers(mut command: Command, requests: &[Request]) -> Vec<String> {
+    let place = Temporary::new();
+    let input: Vec<u8> = requests.iter().flat_map(|(number, body)| framed(*number, body)).collect();
+    fs::write(&place.0, input).expect("room for the requests");
+    let input = File::open(&place.0).expect("the requests written before");
+    let run = command.stdin(Stdio::from(input)).output().expect("a program that starts");
+    let text = String::from_utf8_lossy(&run.stdout);
+    let without = |line: &str| format!("{line} without an end of line");
+    let line = |line: &str| line.strip_suffix('\n').map_or_else(|| without(line), str::to_string);
+    let bad_end = (!run.status.success()).then(|| format!("ended with {}", run.status));
+    text.split_inclusive('\n').map(line).chain(bad_end).collect()
+}
+
 /// A file that goes when this value does, also while a failed test unwinds.
 struct Temporary(PathBuf);
 
@@ -92,10 +115,7 @@ impl Batch {
 
     /// Adds a request and the line that it is to be answered with.
     pub fn ask(&mut self, number: u32, body: &[u8], answer: &str) {
-        let length = u32::try_from(body.len()).expect("a body's length");
-        self.write(&number.to_be_bytes());
-        self.write(&length.to_be_bytes());
-        self.write(body);
+        self.write(&framed(number, body));
         self.expect(format!("number {number}"), answer);
     }
 
@@ -232,6 +252,16 @@ mod tests {
         let mut od = Command::new("od");
         od.args(["-An", "-v", "-t", "x1"]);
         batch.compare_with(od);
+    }
+
+    #[test]
+    fn answers_are_lines_and_a_bad_end_is_one() {
+        let requests = [(0x6F6E_650A, b"two\r\nlast".to_vec())];
+        let lines = ["one", "\0\0\0\ttwo\r", "last without an end of line"];
+        assert_eq!(answers(Command::new("cat"), &requests), lines);
+        assert_eq!(answers(Command::new("true"), &requests), [""; 0]);
+        let ended = answers(Command::new("false"), &[]);
+        assert!(ended.len() == 1 && ended[0].starts_with("ended with "), "{ended:?}");
     }
 
     /// `cat` answers with its input, which is the whole temporary file.

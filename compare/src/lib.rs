@@ -28,9 +28,12 @@
 //! - [`bad_volumes`]: what can be wrong with them, each with the refusal due for it;
 //! - [`paths`]: paths to look for on good volumes, each with the answer due;
 //! - [`talk`]: an image that the instrument holds, and its patches;
+//! - [`model`]: what the instrument is to answer, request by request;
 //! - [`samples`]: the files of the folder `samples`;
 //! - [`counter`]: what the counter's tool is to say;
-//! - [`driver`]: runs a Rattle program on a batch of requests and compares every line it answers.
+//! - [`driver`]: runs a Rattle program on a batch of requests and compares every line it answers;
+//! - [`fuzz`]: cases drawn for as long as one likes, put to two answerers;
+//! - [`shrink`]: a case that they differ about, made small.
 
 pub mod audit;
 pub mod bad_programs;
@@ -41,8 +44,10 @@ pub mod counter;
 pub mod declared;
 pub mod disk;
 pub mod driver;
+pub mod fuzz;
 pub mod loader;
 pub mod lookup;
+pub mod model;
 pub mod names;
 pub mod paths;
 pub mod program;
@@ -50,6 +55,7 @@ pub mod programs;
 pub mod reading;
 pub mod rng;
 pub mod samples;
+pub mod shrink;
 pub mod sizes;
 pub mod talk;
 pub mod volumes;

@@ -1,135 +1,25 @@
 //! Holds the program `probe` to the loader of this package: 6 takes a program file over, 7 loads it, 8 moves it.
 //!
-//! Every answer but those of the worked case comes from a [`Model`] of `probe`. Where the instrument's description
-//! leaves room, the model takes it like this:
-//!
-//! - What answers `bad request` changes nothing: the held file, memory, table and their lengths stay.
-//! - A load or move that is refused has been made all the same. Such a load fills the areas and sets their lengths.
-//! - A move may lend at most the memory and the records that the last load was lent, even after moves that were lent
-//!   less; what such a move was not lent keeps its bytes. Before any load both lengths are 0.
-//! - The work area of a move is lent anew and bound by its room alone, not by the last load.
-//! - Each list of bases may have 256 entries, so a move's two lists together 512.
-//! - A new file leaves memory and table alone.
-//! - A body that is not whole numbers is a bad request with 7 and 8.
+//! Every answer but those of the worked case comes from a [`Model`] of `probe`.
 
 use std::collections::BTreeMap;
 
 use compare::bad_programs::{bad_bases, scratch, short_room, BASE_CAUSES, CAUSES};
 use compare::driver::{checksum, Batch};
-use compare::loader::{load, relocate, Lent, Loaded, RECORD};
-use compare::program::{Refusal, BSS, CODE, DATA, END, HEADER, RELOCATIONS};
+use compare::loader::RECORD;
+use compare::model::{
+    load_body, move_body, Model, AREA_ROOM, BAD, BASES, FILE, FILE_ROOM, LOAD, MEMORY_BEFORE as MEMORY, MOST,
+    MOVE, RECORDS, TABLE_BEFORE as TABLE,
+};
+use compare::program::{BSS, CODE, DATA, END, HEADER, RELOCATIONS};
 use compare::programs::{bytes, file, good_bases, good_program, long_file, worked_file, Room};
 use compare::rng::Rng;
-
-const FILE: u32 = 6;
-const LOAD: u32 = 7;
-const MOVE: u32 = 8;
-
-/// The longest file that `probe` takes.
-const FILE_ROOM: usize = 1_048_576;
-/// The most memory, and the largest work area, that it lends.
-const AREA_ROOM: usize = 524_288;
-/// The most records that it lends.
-const RECORDS: usize = 80;
-/// The most entries of a list of bases.
-const BASES: usize = 256;
-
-const BAD: &str = "bad request";
-
-/// What is in the areas before a load; the work area is filled before a move too.
-const MEMORY: u8 = 0x55;
-const TABLE: u32 = 0x5555_5555;
-const WORK: u8 = 0xAA;
-
-/// The largest room that `probe` lends.
-const MOST: Room = Room { memory: AREA_ROOM, records: RECORDS, work: AREA_ROOM };
 
 /// No room at all.
 const NONE: Room = Room { memory: 0, records: 0, work: 0 };
 
 /// Room for all small files of these tests.
 const SOME: Room = Room { memory: 100, records: 5, work: 100 };
-
-/// What `probe` remembers between requests.
-#[derive(Default)]
-struct Model {
-    file: Vec<u8>,
-    memory: Vec<u8>,
-    table: Vec<u32>,
-}
-
-/// The numbers of a body, if it is made of whole ones.
-fn numbers(body: &[u8]) -> Option<Vec<u32>> {
-    let whole = body.len().is_multiple_of(4);
-    let number = |four: &[u8]| four.iter().fold(0, |high, &low| high << 8 | u32::from(low));
-    whole.then(|| body.chunks(4).map(number).collect())
-}
-
-/// The room that the first three numbers ask for, if `most` has as much, and the other numbers.
-fn room(numbers: &[u32], most: Room) -> Option<(Room, &[u32])> {
-    let (&[memory, records, work], rest) = numbers.split_first_chunk()?;
-    let room = Room { memory: memory as usize, records: records as usize, work: work as usize };
-    let fits = room.memory <= most.memory && room.records <= most.records && room.work <= most.work;
-    fits.then_some((room, rest))
-}
-
-/// The line for a call that was made with these areas.
-fn line(verb: &str, result: Result<Loaded, Refusal>, memory: &[u8], table: &[u32], work: &[u8]) -> String {
-    let answer = match result {
-        Ok(Loaded { hunks, bytes }) => format!("{verb} {hunks} {bytes}"),
-        Err(Refusal { number, place }) => format!("refused {number} {place}"),
-    };
-    let [memory, table, work] = [checksum(memory), checksum(&bytes(table)), checksum(work)];
-    format!("{answer} memory {memory} table {table} work {work}")
-}
-
-impl Model {
-    fn answer(&mut self, number: u32, body: &[u8]) -> String {
-        let answer = match number {
-            FILE => self.take(body),
-            LOAD => numbers(body).and_then(|numbers| self.load(&numbers)),
-            MOVE => numbers(body).and_then(|numbers| self.relocate(&numbers)),
-            _ => None,
-        };
-        answer.unwrap_or(BAD.to_string())
-    }
-
-    fn take(&mut self, body: &[u8]) -> Option<String> {
-        if body.len() > FILE_ROOM {
-            return None;
-        }
-        self.file = body.to_vec();
-        Some(format!("file {}", body.len()))
-    }
-
-    fn load(&mut self, numbers: &[u32]) -> Option<String> {
-        let (room, bases) = room(numbers, MOST)?;
-        if bases.len() > BASES {
-            return None;
-        }
-        self.memory = vec![MEMORY; room.memory];
-        self.table = vec![TABLE; RECORD * room.records];
-        let mut work = vec![WORK; room.work];
-        let lent = Lent { memory: &mut self.memory, table: &mut self.table, work: &mut work };
-        let result = load(&self.file, bases, lent);
-        Some(line("loaded", result, &self.memory, &self.table, &work))
-    }
-
-    fn relocate(&mut self, numbers: &[u32]) -> Option<String> {
-        let held = Room { memory: self.memory.len(), records: self.table.len() / RECORD, ..MOST };
-        let (room, lists) = room(numbers, held)?;
-        let (&count, lists) = lists.split_first()?;
-        let (old, new) = lists.split_at_checked(count as usize)?;
-        if old.len() > BASES || new.len() > BASES {
-            return None;
-        }
-        let memory = &mut self.memory[..room.memory];
-        let table = &mut self.table[..RECORD * room.records];
-        let mut work = vec![WORK; room.work];
-        let result = relocate(&self.file, old, new, Lent { memory, table, work: &mut work });
-        Some(line("moved", result, &self.memory[..room.memory], &self.table[..RECORD * room.records], &work))
-    }
-}
 
 /// How often each kind of answer is due.
 #[derive(Default)]
@@ -165,17 +55,6 @@ struct Talk {
     batch: Batch,
     tally: Tally,
     about: String,
-}
-
-/// The body of a load.
-fn load_body(room: Room, bases: &[u32]) -> Vec<u8> {
-    bytes(&[&[room.memory as u32, room.records as u32, room.work as u32], bases].concat())
-}
-
-/// The body of a move.
-fn move_body(room: Room, old: &[u32], new: &[u32]) -> Vec<u8> {
-    let numbers = [room.memory as u32, room.records as u32, room.work as u32, old.len() as u32];
-    bytes(&[&numbers, old, new].concat())
 }
 
 impl Talk {

@@ -1,0 +1,120 @@
+//! Holds the program `probe` to this package for as long as it is let:
+//! `cargo run --release --manifest-path compare/Cargo.toml --bin fuzz -- [SEED] [SECONDS]`.
+//!
+//! Without a seed the clock gives one; without a time it goes on until it is stopped. Round after round draws damaged
+//! volumes and damaged programs. The seed of a round is the seed at the start plus the rounds before it, so that a
+//! round can be had again alone. At a difference the case is made small, told and saved, and the run ends.
+
+use std::collections::BTreeMap;
+use std::fs;
+use std::path::{Path, PathBuf};
+use std::process::ExitCode;
+use std::time::{Duration, Instant, SystemTime, UNIX_EPOCH};
+
+use compare::driver::{answers, framed, rattle, Request};
+use compare::fuzz::{compare, differ, due, requests, round, told, Case, Difference, Tally};
+use compare::model::{AUDIT, FIND, LOAD, MOVE, READ};
+use compare::shrink::shrink;
+
+/// How often the counts are told.
+const PAUSE: Duration = Duration::from_secs(20);
+
+fn probe(requests: &[Request]) -> Vec<String> {
+    answers(rattle("probe"), requests)
+}
+
+/// The words of the command line: a seed and a number of seconds, both or neither or the first alone.
+fn arguments() -> Option<(u64, Option<u64>)> {
+    let words: Vec<String> = std::env::args().skip(1).collect();
+    let numbers: Vec<u64> = words.iter().map(|word| word.parse().ok()).collect::<Option<_>>()?;
+    let clock = SystemTime::now().duration_since(UNIX_EPOCH).map_or(0, |time| time.as_secs());
+    match numbers[..] {
+        [] => Some((clock, None)),
+        [seed] => Some((seed, None)),
+        [seed, seconds] => Some((seed, Some(seconds))),
+        _ => None,
+    }
+}
+
+/// The calls of a tally: how many of each kind, and how many of them were refused.
+fn counted(tally: &Tally) -> String {
+    let kinds = [(AUDIT, "audits"), (FIND, "finds"), (READ, "reads"), (LOAD, "loads"), (MOVE, "moves")];
+    let count =
+        |of: u32, least: u32| -> usize { tally.range((of, least)..(of + 1, 0)).map(|(_, times)| times).sum() };
+    let told = kinds.map(|(of, name)| format!("{} {name} ({} refused)", count(of, 0), count(of, 1)));
+    told.join(", ")
+}
+
+/// How often each number was refused, over all calls.
+fn by_number(tally: &Tally) -> String {
+    let mut numbers: BTreeMap<u32, usize> = BTreeMap::new();
+    for (&(_, number), times) in tally.iter().filter(|((_, number), _)| *number > 0) {
+        *numbers.entry(number).or_default() += times;
+    }
+    format!("refusals by number: {numbers:?}")
+}
+
+/// Where a case is saved.
+fn folder() -> PathBuf {
+    let repository = Path::new(env!("CARGO_MANIFEST_DIR")).parent();
+    repository.expect("this package lies in a repository").join("target/fuzz")
+}
+
+/// Saves a case: in words, and as the input for `probe` that shows it.
+fn save(seed: u64, case: &Case, text: &str) -> std::io::Result<PathBuf> {
+    fs::create_dir_all(folder())?;
+    let place = folder().join(format!("{seed}.txt"));
+    fs::write(&place, text)?;
+    let input: Vec<u8> = requests(case).iter().flat_map(|(number, body)| framed(*number, body)).collect();
+    fs::write(folder().join(format!("{seed}.requests")), input)?;
+    Ok(place)
+}
+
+/// Makes the case of a difference small, tells it and saves it.
+fn report(seed: u64, cases: &[Case], difference: &Difference) {
+    println!("round {seed}: {:?}\nmaking the case small ..", difference.lines);
+    let mut small = cases[difference.case].clone();
+    let mut lines = difference.lines.clone();
+    if differ(&small, &mut due, &mut probe) {
+        small = shrink(&small, &mut |case| differ(case, &mut due, &mut probe));
+        if let Err(left) = compare(std::slice::from_ref(&small), &mut due, &mut probe) {
+            lines = left.lines;
+        }
+    } else {
+        println!("alone it makes no difference; the round as a whole does");
+    }
+    let text = format!("{}due: {}\ngot: {}\n", told(&small), lines[0], lines[1]);
+    println!("{text}");
+    match save(seed, &small, &text) {
+        Ok(place) => println!("saved as {}", place.display()),
+        Err(error) => println!("not saved: {error}"),
+    }
+}
+
+fn main() -> ExitCode {
+    let Some((seed, seconds)) = arguments() else {
+        eprintln!("fuzz takes a SEED and a number of SECONDS, or the seed alone, or nothing");
+        return ExitCode::FAILURE;
+    };
+    println!("seed {seed}");
+    let start = Instant::now();
+    let (mut tally, mut rounds, mut told_at) = (Tally::new(), 0, start);
+    while seconds.is_none_or(|seconds| start.elapsed().as_secs() < seconds) {
+        let seed = seed.wrapping_add(rounds);
+        let cases = round(seed);
+        match compare(&cases, &mut due, &mut probe) {
+            Ok(more) => more.into_iter().for_each(|(kind, times)| *tally.entry(kind).or_default() += times),
+            Err(difference) => {
+                report(seed, &cases, &difference);
+                return ExitCode::FAILURE;
+            }
+        }
+        rounds += 1;
+        if told_at.elapsed() >= PAUSE {
+            told_at = Instant::now();
+            println!("{} s, {rounds} rounds: {}", start.elapsed().as_secs(), counted(&tally));
+        }
+    }
+    println!("{rounds} rounds, no difference: {}\n{}", counted(&tally), by_number(&tally));
+    ExitCode::SUCCESS
+}

@@ -1,0 +1,496 @@
+//! Cases drawn at random for as long as one likes: damaged volumes and damaged programs, each put to two answerers
+//! whose lines are compared. One of them is mostly the [`Model`], the other the instrument.
+//!
+//! All that a round draws follows from its seed.
+
+use std::collections::{BTreeMap, BTreeSet};
+use std::rc::Rc;
+
+use crate::bad_programs::{bad_bases, scratch as scratch_program, short_room, CAUSES};
+use crate::bad_volumes::{apply, causes, harmless, scratch, wrong_lengths, Cause, Harm, Patch};
+use crate::disk::Disk;
+use crate::driver::Request;
+use crate::model::{load_body, move_body, read_body, Model, AUDIT, FILE, FIND, IMAGE, LOAD, MOVE, PATCH, READ};
+use crate::paths::{bad_forms, telling_offsets, telling_rooms, Paths};
+use crate::programs::{file, good_bases, good_program, Room};
+use crate::rng::Rng;
+use crate::volumes::{
+    any_style, chain, empty, files, full, mixed, nested, shuffle, Kind, Part, Volume, TELLING_SIZES,
+};
+use crate::words::BLOCK_BYTES;
+
+const DISK: Disk = Disk::FLOPPY;
+
+/// What is asked of an image.
+#[derive(Clone, Debug, PartialEq, Eq)]
+pub enum Asked {
+    /// An audit with a claim area of this length.
+    Audit(u32),
+    /// A lookup of a path.
+    Find(Vec<u8>),
+    /// A read of so much of a path, from this offset on.
+    Read { offset: u32, room: u32, path: Vec<u8> },
+}
+
+impl Asked {
+    fn told(&self) -> String {
+        match self {
+            Asked::Audit(claim) => format!("audit with a claim area of {claim}"),
+            Asked::Find(path) => format!("find \"{}\"", path.escape_ascii()),
+            Asked::Read { offset, room, path } => {
+                format!("read \"{}\" from {offset} into {room}", path.escape_ascii())
+            }
+        }
+    }
+
+    fn request(&self) -> Request {
+        match self {
+            Asked::Audit(claim) => (AUDIT, claim.to_be_bytes().to_vec()),
+            Asked::Find(path) => (FIND, path.clone()),
+            Asked::Read { offset, room, path } => (READ, read_body(*offset, *room, path)),
+        }
+    }
+}
+
+/// What is done with a program file.
+#[derive(Clone, Debug, PartialEq, Eq)]
+pub enum Call {
+    /// A load at these bases.
+    Load(Room, Vec<u32>),
+    /// A move from the old bases to the new.
+    Move(Room, Vec<u32>, Vec<u32>),
+}
+
+impl Call {
+    fn request(&self) -> Request {
+        match self {
+            Call::Load(room, bases) => (LOAD, load_body(*room, bases)),
+            Call::Move(room, old, new) => (MOVE, move_body(*room, old, new)),
+        }
+    }
+}
+
+/// Something to ask.
+#[derive(Clone, Debug)]
+pub enum Case {
+    /// A question about an image, which is another one patched.
+    Image { good: Rc<Vec<u8>>, patches: Vec<Patch>, asked: Asked },
+    /// Calls with a program file.
+    Program { file: Vec<u8>, calls: Vec<Call> },
+}
+
+fn patch_request((place, bytes): &Patch) -> Request {
+    (PATCH, [&(*place as u32).to_be_bytes(), &bytes[..]].concat())
+}
+
+/// The patches that change an image back.
+fn undoing(good: &[u8], patches: &[Patch]) -> Vec<Patch> {
+    patches.iter().map(|(place, bytes)| (*place, good[*place..][..bytes.len()].to_vec())).collect()
+}
+
+/// The requests for these cases one after the other, each with the number of its case. An image that several cases in a
+/// row begin with is sent once.
+fn numbered_requests(cases: &[Case]) -> Vec<(usize, Request)> {
+    let mut held: Option<&Rc<Vec<u8>>> = None;
+    let mut all = Vec::new();
+    for (number, case) in cases.iter().enumerate() {
+        match case {
+            Case::Image { good, patches, asked } => {
+                if !held.is_some_and(|held| Rc::ptr_eq(held, good)) {
+                    all.push((number, (IMAGE, good.to_vec())));
+                    held = Some(good);
+                }
+                all.extend(patches.iter().map(|patch| (number, patch_request(patch))));
+                all.push((number, asked.request()));
+                all.extend(undoing(good, patches).iter().map(|patch| (number, patch_request(patch))));
+            }
+            Case::Program { file, calls } => {
+                all.push((number, (FILE, file.clone())));
+                all.extend(calls.iter().map(|call| (number, call.request())));
+            }
+        }
+    }
+    all
+}
+
+/// The requests for one case.
+pub fn requests(case: &Case) -> Vec<Request> {
+    numbered_requests(std::slice::from_ref(case)).into_iter().map(|(_, request)| request).collect()
+}
+
+/// Whoever answers requests, a line for each.
+pub type Answerer<'a> = dyn FnMut(&[Request]) -> Vec<String> + 'a;
+
+/// The lines due for requests.
+pub fn due(requests: &[Request]) -> Vec<String> {
+    let mut model = Model::default();
+    requests.iter().map(|(number, body)| model.answer(*number, body)).collect()
+}
+
+/// Two lines that are not the same.
+#[derive(Clone, Debug, PartialEq, Eq)]
+pub struct Difference {
+    /// The number of the case.
+    pub case: usize,
+    /// The number of the request.
+    pub request: u32,
+    /// The line of the one, and that of the other.
+    pub lines: [String; 2],
+}
+
+/// How often each kind of answer came: by request and by number of refusal, which is 0 for all else.
+pub type Tally = BTreeMap<(u32, u32), usize>;
+
+fn refusal_number(line: &str) -> u32 {
+    line.strip_prefix("refused ").and_then(|rest| rest.split(' ').next()?.parse().ok()).unwrap_or(0)
+}
+
+/// Puts cases to both; the first difference, or how often each kind of answer came.
+pub fn compare(cases: &[Case], one: &mut Answerer, other: &mut Answerer) -> Result<Tally, Difference> {
+    let (numbers, requests): (Vec<usize>, Vec<Request>) = numbered_requests(cases).into_iter().unzip();
+    let (ours, theirs) = (one(&requests), other(&requests));
+    let mut tally = Tally::new();
+    let line = |lines: &[String], index: usize| lines.get(index).cloned().unwrap_or("no answer".to_string());
+    for (index, (request, _)) in requests.iter().enumerate() {
+        let lines = [line(&ours, index), line(&theirs, index)];
+        if lines[0] != lines[1] {
+            return Err(Difference { case: numbers[index], request: *request, lines });
+        }
+        *tally.entry((*request, refusal_number(&lines[0]))).or_default() += 1;
+    }
+    if ours.len() != theirs.len() {
+        let lines = [line(&ours, requests.len()), line(&theirs, requests.len())];
+        return Err(Difference { case: cases.len() - 1, request: 0, lines });
+    }
+    Ok(tally)
+}
+
+/// Whether the two differ about this one case.
+pub fn differ(case: &Case, one: &mut Answerer, other: &mut Answerer) -> bool {
+    compare(std::slice::from_ref(case), one, other).is_err()
+}
+
+fn any_volume(rng: &mut Rng) -> Volume {
+    let few = 1 + rng.below(60) as u32;
+    let plan = match rng.below(40) {
+        0 => empty(),
+        1..4 => nested(rng, few),
+        4..8 => chain(rng, few),
+        8..10 => files(rng, &TELLING_SIZES),
+        10..13 => files(rng, &[105_409, 70_272, 1]),
+        13 => nested(rng, DISK.chain_limit()),
+        14 => chain(rng, DISK.chain_limit()),
+        15 => files(rng, &[844_728]),
+        16..18 => full(rng, &DISK),
+        _ => {
+            let blocks = rng.pick(&[10, 30, 80, 200, 400]);
+            mixed(rng, &DISK, blocks)
+        }
+    };
+    let style = any_style(rng);
+    Volume::new(rng, &DISK, &plan, style)
+}
+
+/// Some harms of which it is known what they are, mended or not, alone or two of them.
+fn aimed(rng: &mut Rng, volume: &Volume) -> Vec<Patch> {
+    let all: Vec<&Cause> = causes().collect();
+    let [one, two] = [(); 2].map(|()| rng.pick(&all).harm(rng, volume));
+    let harm = match (one, two, rng.below(3)) {
+        (Some(one), Some(two), 0) => one.with(&two),
+        (Some(one), _, 1) => one.unmended(),
+        (one, two, _) => one.or(two),
+    };
+    harm.as_ref().map(Harm::patches).unwrap_or_default()
+}
+
+/// Many scratches at once; the boot tag and the root would hide the rest.
+fn wreck(rng: &mut Rng, volume: &Volume) -> Vec<Patch> {
+    let times = 2 + rng.below(10);
+    let all = (0..times).flat_map(|_| scratch(rng, volume));
+    let is_hiding = |place: usize| [0, DISK.root() as usize].contains(&(place / BLOCK_BYTES));
+    all.filter(|(place, _)| !is_hiding(*place)).collect::<BTreeMap<_, _>>().into_iter().collect()
+}
+
+/// A run of other bytes anywhere, often in a block that is in use.
+fn torn(rng: &mut Rng, volume: &Volume) -> Vec<Patch> {
+    let (any, used) = (rng.below(u64::from(DISK.blocks)) as u32, rng.pick(&volume.order).key);
+    let key = rng.pick(&[any, used, used, DISK.root()]);
+    let place = key as usize * BLOCK_BYTES + rng.below(BLOCK_BYTES as u64) as usize;
+    let length = rng.pick(&[1, 1, 2, 4, 30, 512, 3_000]).min(DISK.image_length() - place);
+    let alike = vec![rng.pick(&[0, 0xF6, 0xFF]); length];
+    vec![(place, if rng.below(2) == 0 { alike } else { rng.bytes(length) })]
+}
+
+fn damage(rng: &mut Rng, volume: &Volume) -> Vec<Patch> {
+    match rng.below(12) {
+        0 => Vec::new(),
+        1 => harmless(rng, volume),
+        2..5 => aimed(rng, volume),
+        5 => wreck(rng, volume),
+        6 => torn(rng, volume),
+        _ => scratch(rng, volume),
+    }
+}
+
+/// The entry that a block belongs to.
+fn owner(volume: &Volume, key: u32) -> Option<usize> {
+    match volume.order[volume.position(key)?].part {
+        Part::Root | Part::Bitmap => None,
+        Part::Directory(number) | Part::File(number) => Some(number),
+        Part::List(number, _) | Part::Data(number, _) => Some(number),
+    }
+}
+
+/// Paths on a volume without regard to its damage: to some of its entries, and a few to where nothing is.
+fn any_paths(rng: &mut Rng, paths: &Paths) -> Vec<Vec<u8>> {
+    let count = paths.volume.entries.len();
+    let numbers: Vec<usize> = (0..count.min(20)).map(|_| rng.below(count as u64) as usize).collect();
+    let mut missing = paths.missing(rng, None);
+    for &number in &numbers {
+        match paths.volume.entries[number].kind {
+            Kind::Directory => missing.extend(paths.missing(rng, Some(number))),
+            Kind::File(_) => missing.push(paths.past_file(rng, number)),
+        }
+    }
+    let mut bad = bad_forms(rng, &paths.components(numbers.first().copied()));
+    shuffle(rng, &mut missing);
+    shuffle(rng, &mut bad);
+    let existing = numbers.iter().map(|&number| paths.existing(rng, number)).collect::<Vec<_>>();
+    let all = [paths.root()].into_iter().chain(existing);
+    all.chain(missing.into_iter().take(10)).chain(bad.into_iter().take(3)).map(|question| question.path).collect()
+}
+
+/// The paths to ask for where these patches are: to what they harm, and two of the others.
+fn concerned(rng: &mut Rng, paths: &Paths, patches: &[Patch], others: &[Vec<u8>]) -> Vec<Vec<u8>> {
+    let keys = patches.iter().map(|(place, _)| (place / BLOCK_BYTES) as u32);
+    let owners: BTreeSet<usize> = keys.filter_map(|key| owner(paths.volume, key)).collect();
+    let harmed = owners.into_iter().take(3).map(|number| paths.existing(rng, number).path);
+    let mut all: Vec<Vec<u8>> = harmed.collect();
+    all.extend((0..2).map(|_| others[rng.below(others.len() as u64) as usize].clone()));
+    all
+}
+
+/// A read of a path, small more often than large.
+fn any_read(rng: &mut Rng, path: &[u8]) -> Asked {
+    let size = rng.pick(&[0, 1, 488, 489, 1_000, 35_137, 70_273]);
+    let offset = rng.pick(&telling_offsets(&DISK, size));
+    let room = rng.pick(&telling_rooms(&DISK, size.saturating_sub(offset) as usize)) as u32;
+    let room = if room > 2_000 && rng.below(6) > 0 { rng.below(2_000) as u32 } else { room };
+    Asked::Read { offset, room, path: path.to_vec() }
+}
+
+/// Cases about one volume with so many damages, one after the other.
+fn image_cases(rng: &mut Rng, damages: usize) -> Vec<Case> {
+    let volume = any_volume(rng);
+    let (good, paths) = (Rc::new(volume.image.clone()), Paths::new(&volume));
+    let others = any_paths(rng, &paths);
+    let mut cases = Vec::new();
+    for _ in 0..damages {
+        let patches = damage(rng, &volume);
+        let claim = rng.pick(&[1_760, 1_760, 1_760, 1_761, 4_096, 1_759]);
+        let mut questions = vec![Asked::Audit(claim)];
+        for path in concerned(rng, &paths, &patches, &others) {
+            questions.push(any_read(rng, &path));
+            questions.push(Asked::Find(path));
+        }
+        let case = |asked| Case::Image { good: good.clone(), patches: patches.clone(), asked };
+        cases.extend(questions.into_iter().map(case));
+    }
+    if rng.below(10) == 0 {
+        let mut image = volume.image.clone();
+        image.resize(rng.pick(&wrong_lengths(&DISK)), 0);
+        let good = Rc::new(image);
+        let asked = [Asked::Audit(1_760), Asked::Find(others[0].clone()), any_read(rng, &others[0])];
+        cases.extend(asked.map(|asked| Case::Image { good: good.clone(), patches: Vec::new(), asked }));
+    }
+    cases
+}
+
+/// A program file, mostly damaged, and the sizes that its hunks have or had.
+fn any_file(rng: &mut Rng) -> (Vec<u8>, Vec<u32>) {
+    if rng.below(4) == 0 {
+        let bad = CAUSES[rng.below(CAUSES.len() as u64) as usize].file(rng);
+        return (bad.bytes, bad.sizes);
+    }
+    let program = good_program(rng);
+    let mut bytes = file(&program.written());
+    (0..rng.pick(&[0, 1, 1, 2])).for_each(|_| scratch_program(rng, &mut bytes));
+    (bytes, program.sizes())
+}
+
+fn any_bases(rng: &mut Rng, sizes: &[u32]) -> Vec<u32> {
+    if rng.below(8) == 0 {
+        bad_bases(rng, sizes).0
+    } else {
+        good_bases(rng, sizes)
+    }
+}
+
+fn any_room(rng: &mut Rng, sizes: &[u32]) -> Room {
+    let needed = Room::needed(sizes);
+    if rng.below(8) == 0 {
+        short_room(rng, needed)
+    } else {
+        needed.widened(rng)
+    }
+}
+
+/// A program that is loaded, and most often moved once or twice.
+fn program_case(rng: &mut Rng) -> Case {
+    let (file, sizes) = any_file(rng);
+    let mut room = any_room(rng, &sizes);
+    let mut at = any_bases(rng, &sizes);
+    let mut calls = vec![Call::Load(room, at.clone())];
+    for _ in 0..rng.pick(&[0, 1, 1, 2]) {
+        let new = any_bases(rng, &sizes);
+        if rng.below(10) == 0 {
+            room = any_room(rng, &sizes);
+        }
+        calls.push(Call::Move(room, at, new.clone()));
+        at = new;
+    }
+    Case::Program { file, calls }
+}
+
+/// The cases of a round.
+pub fn round(seed: u64) -> Vec<Case> {
+    let mut rng = Rng::new(seed);
+    let mut cases = image_cases(&mut rng, 40);
+    cases.extend((0..200).map(|_| program_case(&mut rng)));
+    cases
+}
+
+/// An image with patches in it.
+pub fn patched(good: &[u8], patches: &[Patch]) -> Vec<u8> {
+    let mut image = good.to_vec();
+    apply(patches, &mut image);
+    image
+}
+
+/// The words in which two images differ, as patches of one word each that make the first the second.
+pub fn differing_words(one: &[u8], other: &[u8]) -> Vec<Patch> {
+    let words = one.chunks(4).zip(other.chunks(4)).enumerate();
+    words.filter(|(_, (old, new))| old != new).map(|(index, (_, new))| (4 * index, new.to_vec())).collect()
+}
+
+/// A case in words.
+pub fn told(case: &Case) -> String {
+    let hex = |bytes: &[u8]| bytes.iter().map(|byte| format!("{byte:02X}")).collect::<String>();
+    match case {
+        Case::Image { good, patches, asked } => {
+            let word = |(place, new): &Patch| {
+                let old = &good[*place..][..new.len()];
+                let (block, index) = (place / BLOCK_BYTES, place % BLOCK_BYTES / 4);
+                format!("block {block} w{index}: {} instead of {}\n", hex(new), hex(old))
+            };
+            let words: String = differing_words(good, &patched(good, patches)).iter().map(word).collect();
+            let blank = |block: &&[u8]| block.iter().all(|&byte| byte == 0);
+            let blocks = good.chunks(BLOCK_BYTES).filter(|block| !blank(block)).count();
+            format!("an image of {} bytes, {blocks} blocks not blank\n{words}{}\n", good.len(), asked.told())
+        }
+        Case::Program { file, calls } => {
+            let words: String = file.chunks(4).map(|word| hex(word) + " ").collect();
+            let calls: String = calls.iter().map(|call| format!("{call:X?}\n")).collect();
+            format!("a file of {} bytes: {words}\n{calls}", file.len())
+        }
+    }
+}
+
+#[cfg(test)]
+mod tests {
+    use super::*;
+    use crate::shrink::shrink;
+
+    /// The calls among the requests.
+    const CALLS: [u32; 5] = [AUDIT, FIND, READ, LOAD, MOVE];
+
+    #[test]
+    fn a_round_follows_from_its_seed_and_has_everything() {
+        let mut sum = Tally::new();
+        for seed in 0..6 {
+            let cases = round(seed);
+            let tally = compare(&cases, &mut due, &mut due).expect("the model agrees with itself");
+            tally.into_iter().for_each(|(kind, times)| *sum.entry(kind).or_default() += times);
+            let told_again: Vec<String> = round(seed).iter().map(told).collect();
+            assert!(cases.iter().map(told).eq(told_again), "{seed}");
+        }
+        for call in CALLS {
+            let accepted = sum.get(&(call, 0)).copied().unwrap_or(0);
+            let refused: usize = sum.range((call, 1)..(call + 1, 0)).map(|(_, times)| times).sum();
+            assert!(accepted > 30 && refused > 30, "{call}: {accepted} accepted, {refused} refused");
+        }
+    }
+
+    /// A wrong answerer: the model, but for one kind of line.
+    type Slip = fn(u32, &str) -> Option<String>;
+
+    fn slipped(slip: Slip) -> impl Fn(&[Request]) -> Vec<String> {
+        move |requests| {
+            let lines = due(requests).into_iter().zip(requests);
+            lines.map(|(line, (number, _))| slip(*number, &line).unwrap_or(line)).collect()
+        }
+    }
+
+    /// The first case that an answerer gets wrong, made small.
+    fn caught(slip: Slip) -> Case {
+        let mut wrong = slipped(slip);
+        let found = (100..160).find_map(|seed| {
+            let cases = round(seed);
+            let difference = compare(&cases, &mut due, &mut wrong).err()?;
+            Some(cases[difference.case].clone())
+        });
+        shrink(&found.expect("a slip that is met"), &mut |case| differ(case, &mut due, &mut wrong))
+    }
+
+    /// The words in which the small case's image differs from a good one, and its blocks that are not blank.
+    fn image_size(case: &Case) -> (usize, usize) {
+        let Case::Image { good, patches, .. } = case else { panic!("a case about an image: {case:?}") };
+        let in_use = good.chunks(BLOCK_BYTES).filter(|block| block.iter().any(|&byte| byte != 0));
+        (differing_words(good, &patched(good, patches)).len(), in_use.count())
+    }
+
+    #[test]
+    fn slips_of_audits_are_caught_and_made_small() {
+        // a link that passes for a wrong type: the tag, the root, the bitmap block and the entry are needed
+        let case = caught(|_, line| line.strip_prefix("refused 9 ").map(|rest| format!("refused 8 {rest}")));
+        let (words, blocks) = image_size(&case);
+        assert!(words <= 2 && blocks <= 4, "{}", told(&case));
+        let case = caught(|number, line| (number == AUDIT && line.starts_with("refused 17 ")).then(String::new));
+        let (words, blocks) = image_size(&case);
+        assert!(words <= 2 && blocks <= 3, "{}", told(&case));
+    }
+
+    #[test]
+    fn slips_of_lookups_and_reads_are_caught_and_made_small() {
+        let case = caught(|number, line| (number == FIND && line.starts_with("refused 19 ")).then(String::new));
+        assert!(image_size(&case) == (0, 2), "{}", told(&case));
+        let Case::Image { asked: Asked::Find(path), .. } = case else { panic!("a lookup") };
+        assert_eq!(path.len(), 1);
+        let case = caught(|number, line| (number == READ && line.starts_with("bytes ")).then(String::new));
+        assert!(image_size(&case).0 == 0, "{}", told(&case));
+        let Case::Image { asked: Asked::Read { offset, room, .. }, .. } = case else { panic!("a read") };
+        assert_eq!((offset, room), (0, 0));
+    }
+
+    #[test]
+    fn slips_of_loads_and_moves_are_caught_and_made_small() {
+        let case = caught(|_, line| line.strip_prefix("refused 38 ").map(|rest| format!("refused 37 {rest}")));
+        let Case::Program { file, calls } = &case else { panic!("a program") };
+        // header, one size, body and its length, block, count, hunk number and at most one offset
+        assert!(file.len() <= 4 * 12 && calls.len() == 1, "{}", told(&case));
+        let case = caught(|_, line| line.strip_prefix("moved ").map(|rest| format!("loaded {rest}")));
+        let Case::Program { file, calls } = &case else { panic!("a program") };
+        assert!(file.len() == 4 * 9 && calls.len() == 2, "{}", told(&case));
+    }
+
+    #[test]
+    fn a_missing_line_and_one_too_many_are_differences() {
+        let cases = [Case::Program { file: vec![1], calls: vec![Call::Load(Room::needed(&[]), vec![])] }];
+        let mut cut = |requests: &[Request]| due(requests)[..1].to_vec();
+        let difference = compare(&cases, &mut due, &mut cut).expect_err("a line is missing");
+        assert_eq!((difference.request, &difference.lines[1][..]), (LOAD, "no answer"));
+        let mut more = |requests: &[Request]| [due(requests), vec!["ended with 1".into()]].concat();
+        let difference = compare(&cases, &mut due, &mut more).expect_err("a line too many");
+        assert_eq!(difference.lines, ["no answer", "ended with 1"]);
+    }
+}

@@ -1,0 +1,41 @@
+//! The fuzzing run against `probe`: a few rounds of it, and that it finds what is wrong.
+
+use compare::driver::{answers, rattle, Request};
+use compare::fuzz::{compare, differ, due, round, told, Case};
+use compare::model::{AUDIT, FIND, LOAD, MOVE, READ};
+use compare::shrink::shrink;
+
+fn probe(requests: &[Request]) -> Vec<String> {
+    answers(rattle("probe"), requests)
+}
+
+#[test]
+fn some_rounds_without_a_difference() {
+    for seed in [7_000, 7_001, 7_002] {
+        let tally = compare(&round(seed), &mut due, &mut probe).expect("the same answers");
+        let calls = [AUDIT, FIND, READ, LOAD, MOVE];
+        assert!(calls.iter().all(|&call| tally.range((call, 0)..(call + 1, 0)).next().is_some()), "{tally:?}");
+    }
+}
+
+/// An expectation that is wrong on purpose: offsets that are not allowed are to be refused as symbols.
+fn wrong(requests: &[Request]) -> Vec<String> {
+    due(requests).into_iter().map(|line| line.replace("refused 38 ", "refused 37 ")).collect()
+}
+
+/// That is made as small as can be without `probe` elsewhere; here it ends after some tries, for the sake of time.
+#[test]
+fn a_wrong_expectation_is_found_and_made_smaller() {
+    let length = |case: &Case| if let Case::Program { file, .. } = case { Some(file.len()) } else { None };
+    let cases: Vec<Case> = round(7_003).into_iter().filter(|case| length(case).is_some()).collect();
+    let difference = compare(&cases, &mut wrong, &mut probe).expect_err("a difference");
+    assert!(difference.lines[0].starts_with("refused 37 "), "{difference:?}");
+    assert!(difference.lines[1].starts_with("refused 38 "), "{difference:?}");
+    let (large, mut tries) = (&cases[difference.case], 0);
+    let small = shrink(large, &mut |case| {
+        tries += 1;
+        tries <= 80 && differ(case, &mut wrong, &mut probe)
+    });
+    assert!(differ(&small, &mut wrong, &mut probe) && !differ(&small, &mut due, &mut probe));
+    assert!(tries > 80 && length(&small) < length(large), "{}", told(&small));
+}
