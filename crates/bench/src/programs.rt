@@ -34,16 +34,6 @@ fn refused_file(file: &[u8], fault: Refusal) {
     refused(&name[..n], file, fault);
 }
 
-// Loads a file and lists it.
-fn load_file(file: &[u8], bases: &[u32], memory: &mut [u8], work: &mut [u8]) {
-    let mut table = rooms::table();
-    let answer = loader::calls::load(file, bases, memory, &mut table, work);
-    match answer {
-        Answer::Accepted(count, bytes) => listing::program(count, bytes, memory, &table),
-        Answer::Refused(fault) => refused_file(file, fault),
-    }
-}
-
 // Moves a loaded file and lists it.
 fn move_loaded(file: &[u8], old: &[u32], new: &[u32], memory: &mut [u8], work: &mut [u8]) {
     let mut table = rooms::table();
@@ -54,24 +44,29 @@ fn move_loaded(file: &[u8], old: &[u32], new: &[u32], memory: &mut [u8], work: &
     }
 }
 
-// Loads a file at the old bases, moves it to the new ones and lists it.
-fn move_file(file: &[u8], old: &[u32], new: &[u32], memory: &mut [u8], work: &mut [u8]) {
+// Loads a file at the old bases, moves it to the new ones if there are any, and lists it.
+fn load_file(file: &[u8], old: &[u32], new: &[u32], memory: &mut [u8], work: &mut [u8]) {
     let mut table = rooms::table();
     let answer = loader::calls::load(file, old, memory, &mut table, work);
     match answer {
-        Answer::Accepted(_, _) => move_loaded(file, old, new, memory, work),
+        Answer::Accepted(count, bytes) => {
+            if new.len() == 0 {
+                return listing::program(count, bytes, memory, &table);
+            }
+            move_loaded(file, old, new, memory, work);
+        }
         Answer::Refused(fault) => refused_file(file, fault),
     }
 }
 
 // ---- the verbs, over so many arguments
 
-// Loads the file that argument 2 names.
-fn load_at(bases: &[u32], room: &mut [u8], memory: &mut [u8], work: &mut [u8]) {
+// The same for the file that argument 2 names.
+fn load_argument(old: &[u32], new: &[u32], room: &mut [u8], memory: &mut [u8], work: &mut [u8]) {
     let held = files::read_argument(2, Kind::Program, room);
     if held.whole {
         let n = held.bytes;
-        load_file(&room[..n], bases, memory, work);
+        load_file(&room[..n], old, new, memory, work);
     }
 }
 
@@ -80,18 +75,10 @@ pub fn load(count: usize, room: &mut [u8], memory: &mut [u8], work: &mut [u8]) {
         return wrong(b"load", b" needs a FILE and a BASE for each hunk");
     }
     let mut list = rooms::bases();
+    let none = [0u32; 0];
     let n = bases::list(3, count, &mut list);
     if n > 0 {
-        load_at(&list[..n], room, memory, work);
-    }
-}
-
-// Moves the file that argument 2 names.
-fn move_at(old: &[u32], new: &[u32], room: &mut [u8], memory: &mut [u8], work: &mut [u8]) {
-    let held = files::read_argument(2, Kind::Program, room);
-    if held.whole {
-        let n = held.bytes;
-        move_file(&room[..n], old, new, memory, work);
+        load_argument(&list[..n], &none, room, memory, work);
     }
 }
 
@@ -130,7 +117,7 @@ fn move_around(at: usize, count: usize, room: &mut [u8], memory: &mut [u8], work
     if m == 0 {
         return;
     }
-    move_at(&old[..n], &new[..m], room, memory, work);
+    load_argument(&old[..n], &new[..m], room, memory, work);
 }
 
 pub fn move_program(count: usize, room: &mut [u8], memory: &mut [u8], work: &mut [u8]) {

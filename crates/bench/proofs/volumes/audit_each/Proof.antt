@@ -3,9 +3,9 @@ use Prim.Native.Nat.{_-_}
 use mathlib.Core.Path.{_≡_}
 use borrow.Author.Needs.{needs}
 use lib.ListN.{length}
-use Rattle.bench.specs.Tallies.{Below}
 use Rattle.bench.proofs.volumes.audit_each.Statement.{statement}
 use Rattle.bench.proofs.volumes.audit_each.Tie as tie
+use Rattle.bench.specs.Tallies.{Below}
 
 abbrev Inv-loop : tie.InvT-loop
 Inv-loop count room₀ tally₀ i₀ room tally i = (length room ≡ length room₀) × (Below tally i)
