@@ -4,17 +4,34 @@ mod cases;
 mod plot;
 mod rattle;
 
-use std::time::{Duration, Instant};
+use std::time::Duration;
 
 use cases::Case;
 
 /// How long a measured stretch should take at least, in which a short call is made many times.
 const STRETCH: Duration = Duration::from_millis(5);
 
+/// The processor time of this thread so far, which other work on the machine disturbs less than the time on the clock.
+fn spent() -> Duration {
+    #[repr(C)]
+    struct Time {
+        seconds: i64,
+        nanoseconds: i64,
+    }
+    extern "C" {
+        fn clock_gettime(clock: i32, time: *mut Time) -> i32;
+    }
+    const THREAD: i32 = 3; // Linux: CLOCK_THREAD_CPUTIME_ID
+    let mut time = Time { seconds: 0, nanoseconds: 0 };
+    // the struct is that of C on 64-bit Linux
+    assert_eq!(unsafe { clock_gettime(THREAD, &mut time) }, 0);
+    Duration::new(time.seconds as u64, time.nanoseconds as u32)
+}
+
 fn timed(run: &mut dyn FnMut(), times: u32) -> Duration {
-    let start = Instant::now();
+    let start = spent();
     (0..times).for_each(|_| run());
-    start.elapsed()
+    spent() - start
 }
 
 /// The least time of each side over some rounds, in nanoseconds a call; in a round every side has its turn.
