@@ -77,7 +77,7 @@ pub fn program(targets: u32) -> (Vec<u8>, Vec<u32>, Vec<u32>) {
     let mut rng = Rng::new(5);
     let hunk = |rng: &mut Rng| {
         let stored = (0..WORDS).map(|_| rng.draw() as u32).collect();
-        // evenly spread, the first group of offsets at multiples of 4 and the others not
+        // evenly spread, at multiples of 4
         let offsets: Vec<u32> =
             (0..targets).map(|i| (u64::from(i) * u64::from(WORDS - 1) / u64::from(targets)) as u32 * 4).collect();
         let group = |k: u32| {
