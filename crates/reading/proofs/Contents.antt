@@ -1,4 +1,4 @@
--- A file has as many keys and as many bytes as its size says. Assumes nothing.
+-- A file has as many bytes as its size says. Assumes nothing.
 use Prim.Native.Nat.{ℕ, zero, suc, _+_, _-_, _*_, _/_, _%_, _≤_, _<_, min}
 use mathlib.Core.Path.{_≡_, refl, sym, ap, _∙_}
 use mathlib.Core.Logic.{inl, inr}
@@ -9,10 +9,11 @@ use lib.ListN.{length, getD, take, drop, length-take, length-drop, length-append
 use lib.Seq.{drop-drop, drop-nil, drop-append-add}
 use Rattle.reach.specs.References.{_∈_}
 use Rattle.volume.specs.declared.disk.Disk.{Disk}
-use Rattle.volume.specs.Blocks.{blockBytes, slots, wordOf}
+use Rattle.volume.specs.Blocks.{blockBytes, wordOf}
 use Rattle.volume.specs.Disks.{dataBytes, imageBytes, dataStart}
-use Rattle.volume.specs.Files.{keysDown, listsFrom, keysFrom, listBlocks, sizeOf, blocksOf, listsOf, keysOf}
+use Rattle.volume.specs.Files.{sizeOf, keysOf}
 use Rattle.volume.proofs.Sizes.{data-is, blocks-hold}
+use Rattle.volume.proofs.Keys.{keys-long}
 use Rattle.reading.specs.Bytes.{dataOf, dataIn, fileBytes, part}
 use Rattle.reading.specs.Parts.{Followed}
 use Rattle.reading.proofs.Parts.{drop-take, take-least, getD-in, leads-first, leads-next}
@@ -27,32 +28,6 @@ module _ (d : Disk) where
 
   pub data-some : 0 < dataBytes d
   data-some = rw (data-is d) (omega arith)
-
--- ---- a file's keys are as many as its data blocks
-
-module _ (s : List ℕ) where
-  down-long : (b i n : ℕ) → length (keysDown s b i n) ≡ n
-  unfolding keysDown
-  down-long b i zero = refl
-  down-long b i (suc n) = ap suc (down-long b (suc i) n)
-
-  lists-long : (b n : ℕ) → length (listsFrom s b n) ≡ n
-  unfolding listsFrom
-  lists-long b zero = refl
-  lists-long b (suc n) = ap suc (lists-long (wordOf s b 126) n)
-
-  from-long : (n : ℕ) (bs : List ℕ) → length (keysFrom s n bs) ≡ min n (slots * length bs)
-  unfolding keysFrom
-  from-long n [] = omega arith
-  from-long n (b ∷ bs) =
-      rw (length-append (keysDown s b 0 (min n slots)) (keysFrom s (n - slots) bs), down-long b 0 (min n slots), from-long (n - slots) bs)
-      (omega arith)
-
-pub keys-long : (d : Disk) (s : List ℕ) (h : ℕ) → length (keysOf d s h) ≡ blocksOf d s h
-keys-long d s h = from-long s (blocksOf d s h) (h ∷ listsOf d s h) ∙ rw (lists-long s h (listBlocks (blocksOf d s h))) (few (blocksOf d s h))
-  where
-    few : (n : ℕ) → min n (slots * suc (listBlocks n)) ≡ n
-    few n = omega arith
 
 -- ---- the data of no blocks, and of some
 

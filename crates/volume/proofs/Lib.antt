@@ -1,6 +1,8 @@
 -- Laws of what specs/ defines, for this crate and those above it.
 -- a disk's numbers, and a file's
 pub mod Sizes
+-- how many data keys a file has
+pub mod Keys
 -- names, folding and slots
 pub mod Names
 -- the tests of a block, part by part

@@ -6,13 +6,14 @@ use mathlib.Core.Logic.{inl, inr, _↔_}
 use mathlib.Core.List.{List, [], _∷_, _++_, map, head-eq-of-cons-eq, tail-eq-of-cons-eq}
 use native.Mathlib.Nat.{zero-add}
 use native.Mathlib.Omega.{arith}
-use lib.ListN.{length, length-append}
+use lib.ListN.{length}
 use Rattle.reach.specs.References.{At, _∈_}
 use Rattle.volume.specs.declared.disk.Disk.{Disk}
 use Rattle.volume.specs.Disks.{fileLimit}
 use Rattle.volume.specs.Blocks.{slots, wordOf}
 use Rattle.volume.specs.Files.{keysHere, listBlocks, keysDown, listsFrom, keysFrom, sizeOf, blocksOf}
 use Rattle.volume.specs.Law.{Lists, ListBlock, DataBlock, File}
+use Rattle.volume.proofs.Keys.{down-long, keys-long}
 use Rattle.walk.specs.Nodes.{before}
 
 -- ---- keys in a row
@@ -23,25 +24,10 @@ lastOf c [] = c
 lastOf c (k ∷ ks) = lastOf k ks
 
 module _ (s : List ℕ) (b : ℕ) where
-  keys-long : (i n : ℕ) → length (keysDown s b i n) ≡ n
-  unfolding keysDown
-  keys-long i zero = refl
-  keys-long i (suc n) = ap suc (keys-long (suc i) n)
-
   keys-last : (c i n : ℕ) → lastOf (before s b c i) (keysDown s b i n) ≡ before s b c (i + n)
   unfolding keysDown
   keys-last c i zero = let e : i ≡ i + 0 = omega arith in ap (before s b c) e
   keys-last c i (suc n) = let e : suc i + n ≡ i + suc n = omega arith in keys-last c (suc i) n ∙ ap (before s b c) e
-
--- all keys of a file of r blocks, from b and the list blocks behind it
-all-long : (s : List ℕ) (q b r : ℕ) → q ≡ listBlocks r → length (keysFrom s r (b ∷ listsFrom s b q)) ≡ r
-unfolding keysFrom listsFrom
-all-long s zero b r e = let f = keys-long s b 0 (keysHere r) in let g = length-append (keysDown s b 0 (keysHere r)) [] in omega arith
-all-long s (suc q) b r e =
-    let f = keys-long s b 0 (keysHere r) in
-    let g = length-append (keysDown s b 0 (keysHere r)) (keysFrom s (r - slots) (wordOf s b 126 ∷ listsFrom s (wordOf s b 126) q)) in
-    let l = all-long s q (wordOf s b 126) (r - slots) (omega arith) in
-    omega arith
 
 module _ (d : Disk) (s : List ℕ) (h : ℕ) where
   abbrev N : ℕ
@@ -115,7 +101,7 @@ module _ (d : Disk) (s : List ℕ) (h : ℕ) where
   run-here m c b r ys e =
       let f : keysHere r ≡ here m = ap keysHere e in
       let g = keys-last s b c 0 (here m) ∙ ap (before s b c) (zero-add (here m)) in
-      rw (f, ← g) (run-append m c (m + here m) (keysDown s b 0 (here m)) ys (ap (m +_) (keys-long s b 0 (here m))))
+      rw (f, ← g) (run-append m c (m + here m) (keysDown s b 0 (here m)) ys (ap (m +_) (down-long s b 0 (here m))))
 
   law-spread : (q b m c r : ℕ) → r ≡ N - m → Listing q b r → Behind q b → Run m c (keys q b r) → Spread q b m c
   unfolding keysFrom listsFrom
@@ -148,7 +134,7 @@ module _ (d : Disk) (s : List ℕ) (h : ℕ) where
   -- ---- the whole file
 
   whole : 0 + length (keys (listBlocks N) h N) ≡ N
-  whole = zero-add (length (keys (listBlocks N) h N)) ∙ all-long s (listBlocks N) h N refl
+  whole = zero-add (length (keys (listBlocks N) h N)) ∙ keys-long d s h
 
   -- the header's own rules, and the rest
   abbrev pub Spreads : Type 0
