@@ -5,13 +5,14 @@ use mathlib.Core.Logic.{_≢_, _↔_}
 use mathlib.Core.Bool.{Bool, true, false}
 use mathlib.Core.List.{List}
 use native.Mathlib.Omega.{arith}
-use lib.Dec.{T, leb, leb→le, ltb}
+use lib.Dec.{ltb}
 use lib.ListN.{length}
 use borrow.Author.Tests.{lt-ltb, le-ltb, ltb-true, ltb-false}
-use Rattle.answers.specs.Tests.{pick, must, never, first}
+use Rattle.answers.specs.Tests.{must, first}
 use Rattle.answers.specs.Refusals.{refusal}
 use Rattle.answers.specs.declared.Tested.the-variants.{Failed}
 use Rattle.answers.proofs.Clashes.{impossible}
+use Rattle.answers.proofs.Between.{Between, between}
 use Rattle.volume.specs.declared.disk.Disk.{Disk}
 use Rattle.volume.specs.Disks.{rootOf, inRange, chainLimit}
 use Rattle.volume.specs.Names.{slotOf}
@@ -28,55 +29,13 @@ use Rattle.lookup.proofs.Deciding.{form-exactly, number-is, place-is, W
 
 -- ---- which numbers tests give
 
--- 0, or a number from a to b
-pub record Gives (a b v : ℕ) : Type 0 where
-  pub low : v ≢ 0 → a ≤ v
-  pub high : v ≤ b
-
-module _ (a b : ℕ) where
-  none : Gives a b 0
-  none = record { low = λ h. absurd (h refl); high = omega arith }
-
-  some : (v : ℕ) → T (leb a v) → T (leb v b) → Gives a b v
-  some v p q = record { low = λ h. leb→le a v p; high = leb→le v b q }
-
-  musts : (t : Bool) (v : ℕ) → T (leb a v) → T (leb v b) → Gives a b (must t v)
-  unfolding must
-  musts true v p q = none
-  musts false v p q = some v p q
-
-  nevers : (t : Bool) (v : ℕ) → T (leb a v) → T (leb v b) → Gives a b (never t v)
-  unfolding never
-  nevers true v p q = some v p q
-  nevers false v p q = none
-
-  picks : (t : Bool) (v w : ℕ) → Gives a b v → Gives a b w → Gives a b (pick t v w)
-  unfolding pick
-  picks true v w p q = p
-  picks false v w p q = q
-
-infixr 5 _&_
-_&_ : {a b v w : ℕ} → Gives a b v → Gives a b w → Gives a b (first v w)
-unfolding first
-_&_ {v = zero} p q = q
-_&_ {v = suc v} p q = p
-
-pub root-gives : (d : Disk) (s : List ℕ) → Gives 4 11 (rootFault d s)
+pub root-gives : (d : Disk) (s : List ℕ) → Between 4 11 (rootFault d s)
 unfolding rootFault
-root-gives d s = m _ 7 tt tt & m _ 8 tt tt & m _ 8 tt tt & m _ 4 tt tt & m _ 4 tt tt & m _ 4 tt tt & m _ 4 tt tt & m _ 4 tt tt & m _ 4 tt tt & m _ 4 tt tt & m _ 11 tt tt & none 4 11
-  where
-    m : (t : Bool) (v : ℕ) → T (leb 4 v) → T (leb v 11) → Gives 4 11 (must t v)
-    m t v p q = musts 4 11 t v p q
+root-gives d s = search between depth 16
 
-pub entry-gives : (d : Disk) (s : List ℕ) (k t i : ℕ) → Gives 7 12 (entryFault d s k t i)
+pub entry-gives : (d : Disk) (s : List ℕ) (k t i : ℕ) → Between 7 12 (entryFault d s k t i)
 unfolding entryFault
-entry-gives d s k t i = m _ 7 tt tt & m _ 8 tt tt & n _ 9 tt tt & n _ 9 tt tt & n _ 9 tt tt & picks 7 12 _ _ _ (none 7 12) (m _ 8 tt tt) & m _ 10 tt tt & m _ 10 tt tt & picks 7 12 _ _ _ (m _ 10 tt tt) (none 7 12) & m _ 11 tt tt & m _ 12 tt tt & none 7 12
-  where
-    m : (t : Bool) (v : ℕ) → T (leb 7 v) → T (leb v 12) → Gives 7 12 (must t v)
-    m t v p q = musts 7 12 t v p q
-
-    n : (t : Bool) (v : ℕ) → T (leb 7 v) → T (leb v 12) → Gives 7 12 (never t v)
-    n t v p q = nevers 7 12 t v p q
+entry-gives d s k t i = search between depth 16
 
 -- ---- what a key's tests say: v is not 0
 
