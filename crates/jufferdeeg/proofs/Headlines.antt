@@ -1,11 +1,12 @@
 -- The headline theorems side by side, each cited from the crate that proves it. What the names in them mean is in the specs/ of that crate.
 -- Assumes nothing.
-use Prim.Native.Nat.{ℕ, _≤_}
+use Prim.Native.Nat.{ℕ, _≤_, _<_}
 use mathlib.Core.Path.{_≡_}
 use mathlib.Core.Logic.{_↔_}
 use mathlib.Core.List.{List, _++_}
 use lib.ListN.{length, getD, drop, replicate}
 use Rattle.answers.specs.declared.Refusal.{Refusal}
+use Rattle.answers.specs.declared.Tested.the-variants.{Failed}
 use Rattle.words.specs.Word.{Bytes}
 use Rattle.volume.specs.declared.disk.Disk.{Disk}
 use Rattle.volume.specs.Disks.{claimBytes}
@@ -40,11 +41,14 @@ use Rattle.program.specs.Verdicts.{Because}
 use Rattle.program.proofs.Pages as pages
 use Rattle.program.proofs.Refusing as faults
 use Rattle.loader.specs.Calls.{loadAnswer, moveAnswer}
-use Rattle.loader.specs.Memory.{amountOf, moved}
-use Rattle.loader.specs.Pages.{imageOf, pageTargets, Adds, Outside, placedHunks}
-use Rattle.loader.specs.Verdicts.{LoadWhy, MoveWhy}
+use Rattle.loader.specs.Memory.{targetsOf, amountOf, moved}
+use Rattle.loader.specs.Near.{clashOf}
+use Rattle.loader.specs.Pages.{imageOf, pageTargets, targetsIn, aimOf, Adds, Outside, placedHunks}
+use Rattle.loader.specs.Verdicts.{LoadWhy, MoveWhy, Member, ClashWhy}
 use Rattle.loader.specs.Moving.{Addresses}
 use Rattle.loader.proofs.Refusing as unloaded
+use Rattle.loader.proofs.NearTargets as nearness
+use Rattle.loader.proofs.OneHunk as onehunk
 use Rattle.hunks.specs.declared.Hunk.{Hunk}
 use Rattle.hunks.specs.Calls.{Loads, Moves}
 use Rattle.hunks.specs.Moving.{SameRoom, LoadsAt}
@@ -121,6 +125,13 @@ module _ (file : List ℕ) where
 
   pub move-refused-exactly : (old new : List ℕ) (m r w : ℕ) (f : Refusal) → (moveAnswer file old new m r w ≡ Refused f) ↔ MoveWhy file old new m r w f
   move-refused-exactly old new m r w f = unloaded.move-why file m r w f old new
+
+  -- 42 exactly at the first target that is too near one before it; both are of one hunk
+  pub clash-exactly : (f : Refusal) → (clashOf file ≡ Failed f) ↔ ClashWhy (targetsOf file) f
+  clash-exactly f = nearness.clash-why (targetsOf file) f
+
+  pub clash-one-hunk : (hs : List paper.Hunk) → paper.Holds file hs → (f : Refusal) (r : ClashWhy (targetsOf file) f) → (i : ℕ) × (i < length hs) × Member (aimOf (r .target)) (targetsIn 0 hs i) × Member (aimOf (r .other)) (targetsIn 0 hs i)
+  clash-one-hunk hs h f r = onehunk.clash-one-hunk file hs h f r
 
 -- ---- loading and moving
 

@@ -92,10 +92,15 @@ module _ (ts : List Target) (f : Refusal) where
     where
       go : (r : Clashes [] ts f) → Before [] (r .0) (r .6) → ClashWhy ts f
       go r (inl a) = absurd a
-      go r (inr x) = let e = x .2 in (r .0, r .1, r .2, r .3, r .4, r .5, x .0, x .1, omega (arith, r .8, e), omega (arith, r .9, e))
+      go r (inr x) =
+          let e = x .2 in
+          record { before = r .0; target = r .1; behind = r .2; split = r .3; said = r .4; first = r .5; other = x .0; among = x .1; below = omega (arith, r .8, e); above = omega (arith, r .9, e) }
 
   clash-back : ClashWhy ts f → clash [] ts ≡ Failed f
-  clash-back r = ap (clash []) (r .3) ∙ clash-then [] (r .0) (r .1) (r .2) (r .6 .place) (r .5) (inr (r .6, r .7, refl)) (r .8) (r .9) ∙ ap Failed (sym (r .4))
+  clash-back r =
+      ap (clash []) (r .split)
+      ∙ clash-then [] (r .before) (r .target) (r .behind) (r .other .place) (r .first) (inr (r .other, r .among, refl)) (r .below) (r .above)
+      ∙ ap Failed (sym (r .said))
 
   pub clash-why : (clash [] ts ≡ Failed f) ↔ ClashWhy ts f
   clash-why = (clash-there, clash-back)

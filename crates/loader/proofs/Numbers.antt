@@ -150,7 +150,7 @@ module _ (file : List ℕ) (f : Refusal) where
   of-room t n m r w h = ap (λ (g : Refusal). g .number) (room-why t n m r w f .0 h .0)
 
   of-clash : clashOf file ≡ Failed f → f .number ≡ 42
-  of-clash h = ap (λ (g : Refusal). g .number) (clash-why (targetsOf file) f .0 h .4)
+  of-clash h = ap (λ (g : Refusal). g .number) (clash-why (targetsOf file) f .0 h .said)
 
 module _ (file bases : List ℕ) (m r w : ℕ) (f : Refusal) where
   pub load-40 : Gives (loadAnswer file bases m r w) f 40 ↔ (Accepts (checkOf file) × (basesFault file bases 0 ≡ Failed f))

@@ -13,12 +13,12 @@ use Rattle.words.specs.Shift.{Target}
 use Rattle.words.proofs.Words.{Far}
 use Rattle.answers.specs.Tests.{pick}
 use Rattle.answers.specs.declared.Refusal.{Refusal}
-use Rattle.program.specs.Page.{Group, Part, Hunk, relocation, symbols, debug, Each, storedWords, OffsetFits, GroupFits, PartFits, HunkFits, Holds, total}
+use Rattle.program.specs.Page.{Group, Part, Hunk, relocation, symbols, debug, Each, storedWords, OffsetFits, GroupFits, PartFits, HunkFits, Program, Holds, total}
 use Rattle.loader.specs.Memory.{targetsOf}
 use Rattle.loader.specs.Near.{near}
-use Rattle.loader.specs.Pages.{groupTargets, partTargets, pageTargets, targetsIn}
+use Rattle.loader.specs.Pages.{groupTargets, partTargets, pageTargets, targetsIn, aimOf}
 use Rattle.loader.specs.Verdicts.{Member, ClashWhy}
-use Rattle.loader.proofs.PageLoads.{aimOf, stored-fit, page-targets}
+use Rattle.loader.proofs.PageLoads.{stored-fit, page-targets}
 
 -- ---- lists
 
@@ -125,13 +125,13 @@ far-near p q (inl h) = rw (le-ltb q (p + 4) h) (go (ltb p (q + 4)))
     go false = refl
 far-near p q (inr h) = rw (le-ltb p (q + 4) h)
 
-module _ (t : ℕ) (hs : List Hunk) (f : Each (HunkFits t) hs) (x y : ℕ × ℕ) where
+module _ (hs : List Hunk) (pr : Program hs) (x y : ℕ × ℕ) where
   hunks-far : (i j : ℕ) → i ≢ j → Member x (targetsIn 0 hs i) → Member y (targetsIn 0 hs j) → Far (x .0) (y .0)
   hunks-far i j d m n = go (decLt i j)
     where
       go : Dec (i < j) → Far (x .0) (y .0)
-      go (yes l) = inl (in-order t 0 hs i j x y f l m n)
-      go (no l) = inr (in-order t 0 hs j i y x f (omega (arith, d, l)) n m)
+      go (yes l) = inl (in-order (length hs) 0 hs i j x y (pr .hunks) l m n)
+      go (no l) = inr (in-order (length hs) 0 hs j i y x (pr .hunks) (omega (arith, d, l)) n m)
 
   -- Targets of two hunks are not near.
   pub hunks-apart : (i j : ℕ) → i ≢ j → Member x (targetsIn 0 hs i) → Member y (targetsIn 0 hs j) → near (x .0) (y .0) ≡ false
@@ -142,16 +142,16 @@ module _ (t : ℕ) (hs : List Hunk) (f : Each (HunkFits t) hs) (x y : ℕ × ℕ
   near-one-hunk m n a b = let u = in-some 0 hs x m in let v = in-some 0 hs y n in go (u .0) (v .0) (u .1) (u .2) (v .2) (decLt (u .0) (v .0)) (decLt (v .0) (u .0))
     where
       go : (i j : ℕ) → i < length hs → Member x (targetsIn 0 hs i) → Member y (targetsIn 0 hs j) → Dec (i < j) → Dec (j < i) → (i : ℕ) × (i < length hs) × Member x (targetsIn 0 hs i) × Member y (targetsIn 0 hs i)
-      go i j l p q (yes h) k = absurd (omega (arith, in-order t 0 hs i j x y f h p q))
-      go i j l p q (no h) (yes k) = absurd (omega (arith, in-order t 0 hs j i y x f k q p))
+      go i j l p q (yes h) k = absurd (omega (arith, in-order (length hs) 0 hs i j x y (pr .hunks) h p q))
+      go i j l p q (no h) (yes k) = absurd (omega (arith, in-order (length hs) 0 hs j i y x (pr .hunks) k q p))
       go i j l p q (no h) (no k) = let e : j ≡ i = omega (arith, h, k) in (i, l, p, subst (λ (z : ℕ). Member y (targetsIn 0 hs z)) e q)
 
--- 42 names a target, and an earlier one too near it, of one hunk.
-pub clash-one-hunk : (file : List ℕ) (hs : List Hunk) → Holds file hs → (f : Refusal) (r : ClashWhy (targetsOf file) f) → (i : ℕ) × (i < length hs) × Member (aimOf (r .1)) (targetsIn 0 hs i) × Member (aimOf (r .6)) (targetsIn 0 hs i)
+-- 42 names a target of one hunk, and the other target that it is too near is of that hunk.
+pub clash-one-hunk : (file : List ℕ) (hs : List Hunk) → Holds file hs → (f : Refusal) (r : ClashWhy (targetsOf file) f) → (i : ℕ) × (i < length hs) × Member (aimOf (r .target)) (targetsIn 0 hs i) × Member (aimOf (r .other)) (targetsIn 0 hs i)
 clash-one-hunk file hs h f r =
     let e = page-targets file hs (h .fits) (h .even) (h .words) in
     let all : (u : Target) → Member u (targetsOf file) → Member (aimOf u) (pageTargets 0 hs) =
     λ u m. subst (Member (aimOf u)) e (member-aim u (targetsOf file) m) in
-    let here : Member (r .1) (targetsOf file) = subst (Member (r .1)) (sym (r .3)) (member-here (r .1) (r .0) (r .2)) in
-    let there : Member (r .6) (targetsOf file) = subst (Member (r .6)) (sym (r .3)) (member-left (r .6) (r .0) (r .1 ∷ r .2) (r .7)) in
-    near-one-hunk (length hs) hs (h .fits .hunks) (aimOf (r .1)) (aimOf (r .6)) (all (r .1) here) (all (r .6) there) (r .8) (r .9)
+    let here : Member (r .target) (targetsOf file) = subst (Member (r .target)) (sym (r .split)) (member-here (r .target) (r .before) (r .behind)) in
+    let there : Member (r .other) (targetsOf file) = subst (Member (r .other)) (sym (r .split)) (member-left (r .other) (r .before) (r .target ∷ r .behind) (r .among)) in
+    near-one-hunk hs (h .fits) (aimOf (r .target)) (aimOf (r .other)) (all (r .target) here) (all (r .other) there) (r .below) (r .above)

@@ -18,7 +18,7 @@ use Rattle.program.proofs.Taken.{Sized}
 use Rattle.program.proofs.Pages.{is-total, all-sized}
 use Rattle.loader.specs.Memory.{loadedOf, place1, placed, targets, targetsOf, amountOf, bodiesOf, loadOf, moved, moveOf}
 use Rattle.loader.specs.Table.{entry1, listed, recordsOf}
-use Rattle.loader.specs.Pages.{kindOf, recordNumbers, wordBytes, hunkBytes, imageOf, partTargets, pageTargets, relocated}
+use Rattle.loader.specs.Pages.{kindOf, recordNumbers, wordBytes, hunkBytes, imageOf, partTargets, pageTargets, aimOf, relocated}
 use Rattle.loader.proofs.PageActs.{plain, storing, adding, pageActs, page-acts}
 
 -- ---- passes
@@ -144,10 +144,6 @@ place-total t size (x ∷ xs) h f =
     omega (arith, place-total t size xs (h + 1) (f .2), r, f .0)
 
 -- ---- targets
-
--- place and hunk
-abbrev pub aimOf : Target → ℕ × ℕ
-aimOf t = (t .place, t .key)
 
 abbrev aims : List Act → List (ℕ × ℕ)
 aims us = map aimOf (targets us)

@@ -13,11 +13,11 @@ use Rattle.program.specs.declared.check.Answer.the-variants.{Accepted}
 use Rattle.program.specs.Page.{Hunk, Each, Holds, total}
 use Rattle.loader.specs.Memory.{targetsOf, amountOf, bodiesOf, loadOf, moved, moveOf}
 use Rattle.loader.specs.Calls.{Loads, Moves}
-use Rattle.loader.specs.Pages.{imageOf, pageTargets, Adds, Outside, placedHunks}
+use Rattle.loader.specs.Pages.{imageOf, pageTargets, aimOf, Adds, Outside, placedHunks}
 use Rattle.loader.proofs.Inside.{within-targets, within-more, length-bodies}
 use Rattle.loader.proofs.Answering.{load-facts, move-facts}
 use Rattle.loader.proofs.Moving.{apart}
-use Rattle.loader.proofs.PageLoads.{aimOf, length-image, page-bodies, page-targets}
+use Rattle.loader.proofs.PageLoads.{length-image, page-bodies, page-targets}
 use Rattle.loader.proofs.OneHunk.{Between, page-between}
 
 -- ---- targets by place and hunk

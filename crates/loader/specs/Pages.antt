@@ -5,6 +5,7 @@ use mathlib.Core.Logic.{_⊎_}
 use mathlib.Core.List.{List, [], _∷_, _++_, map}
 use lib.ListN.{length, replicate, drop}
 use Rattle.words.specs.Word.{wordAt, addAt}
+use Rattle.words.specs.Shift.{Target}
 use Rattle.program.specs.Page.{Body, Group, Part, Hunk, code, stores, bss, relocation, symbols, debug, joined, Each, storedWords, total}
 use Rattle.loader.specs.Memory.{amountOf, moved}
 
@@ -57,6 +58,10 @@ abbrev pub targetsIn : ℕ → List Hunk → ℕ → List (ℕ × ℕ)
 targetsIn p [] i = []
 targetsIn p (h ∷ hs) zero = partTargets p (h .parts)
 targetsIn p (h ∷ hs) (suc i) = targetsIn (p + 4 * h .size) hs i
+
+-- place and hunk of a target that the file names
+abbrev pub aimOf : Target → ℕ × ℕ
+aimOf t = (t .place, t .key)
 
 -- each target gets its amount, one after the other
 unfoldable pub relocated : List ℕ → List (ℕ × ℕ) → (ℕ → ℕ) → List ℕ

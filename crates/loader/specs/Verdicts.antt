@@ -80,16 +80,15 @@ abbrev pub Member : {A : Type 0} → A → List A → Type 0
 Member u [] = ⊥
 Member u (x ∷ xs) = (u ≡ x) ⊎ Member u xs
 
--- t is the first target that has less than 4 bytes to one before it, u
-abbrev pub ClashWhy : List Target → Refusal → Type 0
-ClashWhy ts f =
-    (us : List Target)
-    × (t : Target)
-    × (vs : List Target)
-    × (ts ≡ us ++ (t ∷ vs))
-    × (f ≡ refusal 42 (t .byte))
-    × (clash [] us ≡ Passed)
-    × (u : Target)
-    × Member u us
-    × (t .place < u .place + 4)
-    × (u .place < t .place + 4)
+-- a target is the first that has less than 4 bytes to one before it, the other
+pub record ClashWhy (ts : List Target) (f : Refusal) : Type 0 where
+  pub before : List Target
+  pub target : Target
+  pub behind : List Target
+  pub split : ts ≡ before ++ (target ∷ behind)
+  pub said : f ≡ refusal 42 (target .byte)
+  pub first : clash [] before ≡ Passed
+  pub other : Target
+  pub among : Member other before
+  pub below : target .place < other .place + 4
+  pub above : other .place < target .place + 4
