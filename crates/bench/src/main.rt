@@ -45,43 +45,36 @@ fn verb_of(text: &[u8]) -> Verb {
     Verb::Unknown
 }
 
-// Does what the verb says. The rooms are made once and lent to each: for an image, for a program file, for memory and for the work area.
-fn act(
-    text: &[u8],
-    count: usize,
-    image: &mut [u8],
-    file: &mut [u8],
-    memory: &mut [u8],
-    work: &mut [u8],
-) {
-    let verb = verb_of(text);
-    match verb {
-        Verb::Audit => volumes::audit_images(count, image),
-        Verb::Find => volumes::find_paths(count, image),
-        Verb::Read => volumes::read_file(count, image, file),
-        Verb::Load => programs::load(count, file, memory, work),
-        Verb::Move => programs::move_program(count, file, memory, work),
-        Verb::Reset => reset::reset(count, image, file, memory, work),
-        Verb::Unknown => saying::wrong(text, b" is no verb; ./bench alone says how it is used"),
-    }
-}
-
-// The same for the verb among so many arguments, in rooms of its own.
-fn run(count: usize) {
-    let mut verb = io::buffer();
-    let n = os::arg(1, &mut verb);
+// Does what the verb says with so many arguments. The rooms are made once and lent to each: for an image, a program file, memory and the
+// work area.
+fn act(verb: Verb, count: usize) {
     let mut image = rooms::image();
     let mut file = rooms::file();
     let mut memory = rooms::memory();
     let mut work = rooms::memory();
-    act(
-        &verb[..n],
-        count,
-        &mut image,
-        &mut file,
-        &mut memory,
-        &mut work,
-    );
+    match verb {
+        Verb::Audit => volumes::audit_images(count, &mut image),
+        Verb::Find => volumes::find_paths(count, &mut image),
+        Verb::Read => volumes::read_file(count, &mut image, &mut file),
+        Verb::Load => programs::load(count, &mut file, &mut memory, &mut work),
+        Verb::Move => programs::move_program(count, &mut file, &mut memory, &mut work),
+        Verb::Reset => reset::reset(count, &mut image, &mut file, &mut memory, &mut work),
+        Verb::Unknown => {}
+    }
+}
+
+// The same for the verb that argument 1 is.
+fn run(count: usize) {
+    let mut text = io::buffer();
+    let n = os::arg(1, &mut text);
+    let verb = verb_of(&text[..n]);
+    if let Verb::Unknown = verb {
+        saying::wrong(
+            &text[..n],
+            b" is no verb; ./bench alone says how it is used",
+        );
+    }
+    act(verb, count);
 }
 
 fn main() {
