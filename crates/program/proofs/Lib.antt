@@ -21,3 +21,5 @@ pub mod Traced
 pub mod Pages
 -- what each refusal of the check says
 pub mod Refusing
+-- words that a pass may go on behind
+pub mod Runs

@@ -11,5 +11,7 @@ pub mod Check
 pub mod Acts
 -- what holds while a file is read
 pub mod Sane
+-- words that a pass may go on behind
+pub mod Runs
 -- what a refusal of the check says
 pub mod Verdicts

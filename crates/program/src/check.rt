@@ -6,6 +6,7 @@ use crate::reader::Cursor;
 use crate::reader::Mode;
 use crate::reader::Next;
 use crate::reader::begin;
+use crate::reader::past;
 use crate::reader::step;
 use answers::Refusal;
 use answers::Tested;
@@ -54,13 +55,14 @@ fn hunks(file: &[u8]) -> Answer
         let n = step(file, c, w);
         match n {
             Next::On(d) => {
-                c = d;
+                let s = past(file, d, at + 4);
+                c = s.cursor;
+                at = s.at;
             }
             Next::Bad(number) => {
                 return refused(number, at);
             }
         }
-        at += 4;
     }
     ended(file, c)
 }

@@ -2,13 +2,14 @@
 use crate::header::size;
 use crate::header::total;
 ghost use mathlib.Core.Path.{_≡_};
-ghost use Prim.Native.Nat.{_+_, _*_, _<_, _≤_};
+ghost use Prim.Native.Nat.{_+_, _*_, _%_, _<_, _≤_, min};
 ghost use lib.ListN.{length};
 ghost use lib.Dec.{eqb};
 ghost use Rattle.answers.specs.Tests.{pick};
 ghost use Rattle.program.specs.Header.{totalOf, sizeOf};
 ghost use Rattle.program.specs.Reader.{on, resume, skip, bodyOf, beginOf, storedFrom, lengthOf, partOf, endOf, countOf, numberOf, offsetOf, symbolOf, stepOf, start};
 ghost use Rattle.program.specs.Sane.{Sane};
+ghost use Rattle.program.specs.Runs.{modedOf, skipAt, storedAt, Leads};
 
 // Types of blocks.
 pub const NAME: u32 = 0x3E8;
@@ -88,15 +89,22 @@ pub fn begin() -> Cursor
     }
 }
 
-fn to(c: Cursor, m: Mode) -> Next
-    ensures { λ r. ⌜ r ≡ on c m ⌝ }
+// The same hunk, with another word to come.
+fn moded(c: Cursor, m: Mode) -> Cursor
+    ensures { λ r. ⌜ r ≡ modedOf c m ⌝ }
 {
-    Next::On(Cursor {
+    Cursor {
         mode: m,
         hunk: c.hunk,
         place: c.place,
         stored: c.stored,
-    })
+    }
+}
+
+fn to(c: Cursor, m: Mode) -> Next
+    ensures { λ r. ⌜ r ≡ on c m ⌝ }
+{
+    Next::On(moded(c, m))
 }
 
 fn resumed(a: After) -> Mode
@@ -109,14 +117,21 @@ fn resumed(a: After) -> Mode
     }
 }
 
+// Before n words that are passed over.
+fn skip_at(c: Cursor, n: u32, a: After) -> Cursor
+    ensures { λ r. ⌜ r ≡ skipAt c n a ⌝ }
+{
+    if n == 0 {
+        return moded(c, resumed(a));
+    }
+    moded(c, Mode::Skip(n - 1, a))
+}
+
 // Passes over n words.
 fn skipped(c: Cursor, n: u32, a: After) -> Next
     ensures { λ r. ⌜ r ≡ skip c n a ⌝ }
 {
-    if n == 0 {
-        return to(c, resumed(a));
-    }
-    to(c, Mode::Skip(n - 1, a))
+    Next::On(skip_at(c, n, a))
 }
 
 // Code, data or bss.
@@ -135,14 +150,21 @@ fn body(c: Cursor, w: u32) -> Next
     Next::Bad(35)
 }
 
+// Before the stored word i, or behind the last.
+fn stored_at(c: Cursor, i: u32) -> Cursor
+    ensures { λ r. ⌜ r ≡ storedAt c i ⌝ }
+{
+    if i == c.stored {
+        return moded(c, Mode::Part);
+    }
+    moded(c, Mode::Stored(i))
+}
+
 // The stored word i, if there is one.
 fn stored_from(c: Cursor, i: u32) -> Next
     ensures { λ r. ⌜ r ≡ storedFrom c i ⌝ }
 {
-    if i == c.stored {
-        return to(c, Mode::Part);
-    }
-    to(c, Mode::Stored(i))
+    Next::On(stored_at(c, i))
 }
 
 // How many of w words a body of this type stores.
@@ -295,5 +317,46 @@ pub fn step(file: &[u8], c: Cursor, w: u32) -> Next
         Mode::DebugLength => skipped(c, w, After::Part),
         Mode::Skip(n, a) => skipped(c, n, a),
         Mode::End => Next::Bad(39),
+    }
+}
+
+// A byte of the file, and the cursor there.
+pub struct Spot {
+    pub cursor: Cursor,
+    pub at: usize,
+}
+
+fn least(a: usize, b: usize) -> usize
+    ensures { λ r. ⌜ r ≡ min a b ⌝ }
+{
+    if a <= b { a } else { b }
+}
+
+// Behind the words from `at` on that the reader takes whatever they are: words that are stored or passed over, as many as there are.
+pub fn past(file: &[u8], c: Cursor, at: usize) -> Spot
+    requires { ⌜ (Sane (now file) c) × (length (now file) % 4 ≡ 0) × (at % 4 ≡ 0) ⌝ }
+    ensures { λ r. ⌜ Leads (now (file .entry)) c at (r .cursor) (r .at) ⌝ }
+{
+    if file.len() <= at {
+        return Spot { cursor: c, at: at };
+    }
+    let left = (file.len() - at) / 4;
+    let m = c.mode;
+    match m {
+        Mode::Stored(i) => {
+            let n = least((c.stored - i) as usize, left);
+            Spot {
+                cursor: stored_at(c, i + n as u32),
+                at: at + 4 * n,
+            }
+        }
+        Mode::Skip(l, a) => {
+            let n = least(l as usize + 1, left);
+            Spot {
+                cursor: skip_at(c, (l as usize + 1 - n) as u32, a),
+                at: at + 4 * n,
+            }
+        }
+        _ => Spot { cursor: c, at: at },
     }
 }

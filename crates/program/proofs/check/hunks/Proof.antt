@@ -2,8 +2,11 @@
 use borrow.Author.Needs.{needs}
 use Prim.Native.Nat.{_-_}
 use mathlib.Core.Path.{refl, sym, _∙_}
+use native.Mathlib.Omega.{arith}
 use lib.ListN.{length}
 use Rattle.program.proofs.Walks.{Reads, reads-start, reads-on, walk-bad, walk-end}
+use Rattle.program.proofs.Runs.{leads-far, leads-reads}
+use borrow.Author.Needs.{needs}
 use Rattle.program.proofs.check.hunks.Statement.{statement}
 use Rattle.program.proofs.check.hunks.Tie as tie
 
@@ -43,6 +46,18 @@ step-requires c κs = c .before .before .loop .inv .sane
 enum-known-n : tie.Need-enum-known-n Inv-loop μ-loop
 enum-known-n c = search needs
 
+add-past : tie.Need-add-past Inv-loop μ-loop
+add-past c = search needs
+
+past-requires : tie.Need-past-requires Inv-loop μ-loop
+past-requires c κs = let r = reads-on _ _ _ _ _ _ (c .before .before .before .before .before .before .loop .inv) (c .before .before .before .before .before .before .before .before .before .before .pre .1) (c .before .before .before .before .before .loop-test .taken) (c .before .before .before .before .word .ensures) (c .before .before .before .step .ensures) (c .before .n .given .1) in (r .sane, c .before .before .before .before .before .before .before .before .before .before .pre .1, r .aligned)
+
+loop-less : tie.Need-loop-less Inv-loop μ-loop
+loop-less c = omega (arith, leads-far _ (c .before .past .ensures))
+
+loop-again : tie.Need-loop-again Inv-loop μ-loop
+loop-again c = leads-reads _ (c .before .before .before .before .before .before .before .before .before .before .before .before .pre .1) (c .before .past .ensures) (reads-on _ _ _ _ _ _ (c .before .before .before .before .before .before .before .before .loop .inv) (c .before .before .before .before .before .before .before .before .before .before .before .before .pre .1) (c .before .before .before .before .before .before .before .loop-test .taken) (c .before .before .before .before .before .before .word .ensures) (c .before .before .before .before .before .step .ensures) (c .before .before .before .n .given .1))
+
 enum-known-n-2 : tie.Need-enum-known-n-2 Inv-loop μ-loop
 enum-known-n-2 c = search needs
 
@@ -51,15 +66,6 @@ refused-requires c κs = search needs
 
 returns : tie.Need-returns Inv-loop μ-loop
 returns c = c .refused .ensures ∙ sym (c .before .before .before .before .before .before .before .loop .inv .rest ∙ walk-bad _ _ _ _ _ (c .before .before .before .before .before .before .before .before .before .before .before .pre .1) (c .before .before .before .before .before .before .before .loop .inv .aligned) (c .before .before .before .before .before .before .loop-test .taken) (c .before .before .before .before .before .word .ensures) (c .before .before .before .before .step .ensures) _ (c .before .before .n2 .given .1))
-
-add-at-2 : tie.Need-add-at-2 Inv-loop μ-loop
-add-at-2 c = search needs
-
-loop-less : tie.Need-loop-less Inv-loop μ-loop
-loop-less c = search needs
-
-loop-again : tie.Need-loop-again Inv-loop μ-loop
-loop-again c = reads-on _ _ _ _ _ _ (c .before .before .before .before .before .before .loop .inv) (c .before .before .before .before .before .before .before .before .before .before .pre .1) (c .before .before .before .before .before .loop-test .taken) (c .before .before .before .before .word .ensures) (c .before .before .before .step .ensures) (c .before .n .given .1)
 
 ended-requires : tie.Need-ended-requires Inv-loop μ-loop
 ended-requires c κs = search needs
@@ -83,11 +89,12 @@ hunks-spec =
     word-requires
     step-requires
     enum-known-n
+    add-past
+    past-requires
+    loop-less
+    loop-again
     enum-known-n-2
     refused-requires
     returns
-    add-at-2
-    loop-less
-    loop-again
     ended-requires
     returns-2)

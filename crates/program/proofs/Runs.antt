@@ -1,0 +1,121 @@
+-- Words that are stored or passed over lead on (`past-stored`, `past-skipped`), and what a reader or a pass makes of the rest stays
+-- (`leads-reads`, `going-past`). Assumes nothing.
+use Prim.Native.Nat.{ℕ, zero, suc, _+_, _-_, _*_, _/_, _%_, _<_, _≤_, min}
+use mathlib.Core.Path.{_≡_, refl, sym, ap, subst, _∙_}
+use mathlib.Core.List.{List}
+use mathlib.Core.Bool.{Bool, true, false}
+use native.Mathlib.Omega.{arith}
+use lib.Dec.{eqb}
+use lib.ListN.{length}
+use borrow.Author.Tests.{ne-eqb}
+use Rattle.words.specs.Word.{wordAt}
+use Rattle.answers.specs.Tests.{pick}
+use Rattle.program.specs.declared.act.Act.{Act}
+use Rattle.program.specs.declared.reader.After.{After}
+use Rattle.program.specs.declared.reader.Cursor.{Cursor}
+use Rattle.program.specs.declared.reader.Mode.the-variants.{Stored, Part, Skip}
+use Rattle.program.specs.declared.reader.Next.the-variants.{On}
+use Rattle.program.specs.Header.{totalOf, sizeOf}
+use Rattle.program.specs.Reader.{on, resume, skip, storedFrom, stepOf}
+use Rattle.program.specs.Acts.{actOf, actsFrom, actsOf, pass}
+use Rattle.program.specs.Sane.{Sane}
+use Rattle.program.specs.Runs.{modedOf, skipAt, storedAt, Calm, Leads, here, along}
+use Rattle.program.proofs.Walks.{Reads, reads-on}
+use Rattle.program.proofs.Passes.{acts-on, Going}
+
+-- ---- where a step takes the cursor
+
+on-skip : (c : Cursor) (n : ℕ) (a : After) → On (skipAt c n a) ≡ skip c n a
+unfolding pick
+on-skip c n a = go (eqb n 0)
+  where
+    go : (t : Bool) → On (pick t (modedOf c (resume a)) (modedOf c (Skip (n - 1) a))) ≡ pick t (on c (resume a)) (on c (Skip (n - 1) a))
+    go true = refl
+    go false = refl
+
+on-stored : (c : Cursor) (i : ℕ) → On (storedAt c i) ≡ storedFrom c i
+unfolding pick
+on-stored c i = go (eqb i (c .stored))
+  where
+    go : (t : Bool) → On (pick t (modedOf c Part) (modedOf c (Stored i))) ≡ pick t (on c Part) (on c (Stored i))
+    go true = refl
+    go false = refl
+
+pub skip-is : (c : Cursor) (n : ℕ) (a : After) (d : Cursor) → d ≡ skipAt c n a → On d ≡ skip c n a
+skip-is c n a d e = ap On e ∙ on-skip c n a
+
+pub stored-is : (c : Cursor) (i : ℕ) (d : Cursor) → d ≡ storedAt c i → On d ≡ storedFrom c i
+stored-is c i d e = ap On e ∙ on-stored c i
+
+stored-open : (c : Cursor) (i : ℕ) → i < c .stored → storedAt c i ≡ modedOf c (Stored i)
+unfolding pick
+stored-open c i h = rw (ne-eqb i (c .stored) (λ e. omega arith))
+
+skip-open : (c : Cursor) (n : ℕ) (a : After) → skipAt c (n + 1) a ≡ modedOf c (Skip n a)
+unfolding pick
+skip-open c n a = let e : n + 1 - 1 ≡ n = omega arith in rw (ne-eqb (n + 1) 0 (λ z. omega arith), e)
+
+-- ---- runs
+
+module _ (file : List ℕ) where
+  stored-on : (c : Cursor) (k j at n to : ℕ) → n ≡ j + k → to ≡ at + 4 * k → n ≤ c .stored → to ≤ length file → Leads file (storedAt c j) at (storedAt c n) to
+  unfolding stepOf actOf
+  stored-on c zero j at n to e f h l = let p : n ≡ j = omega arith in let q : to ≡ at = omega arith in rw (p, q) here
+  stored-on c (suc k) j at n to e f h l =
+      rw (stored-open c j (omega arith))
+      (along {at = at} (omega arith) (sym (on-stored (modedOf c (Stored j)) (j + 1))) tt (stored-on c k (j + 1) (at + 4) n to (omega arith) (omega arith) h l))
+
+  skip-on : (c : Cursor) (a : After) (k n at m to : ℕ) → n ≡ m + k → to ≡ at + 4 * k → to ≤ length file → Leads file (skipAt c n a) at (skipAt c m a) to
+  unfolding stepOf actOf
+  skip-on c a zero n at m to e f l = let p : n ≡ m = omega arith in let q : to ≡ at = omega arith in rw (p, q) here
+  skip-on c a (suc k) n at m to e f l =
+      let p : n ≡ m + k + 1 = omega arith in
+      rw (p, skip-open c (m + k) a)
+      (along {at = at} (omega arith) (sym (on-skip (modedOf c (Skip (m + k) a)) (m + k) a)) tt (skip-on c a k (m + k) (at + 4) m to refl (omega arith) l))
+
+  stored-leads : (c : Cursor) (i k at n to : ℕ) → c .mode ≡ Stored i → i < c .stored → n ≡ i + k → to ≡ at + 4 * k → n ≤ c .stored → to ≤ length file → Leads file c at (storedAt c n) to
+  stored-leads c i k at n to m s e f h l =
+      subst (λ d. Leads file d at (storedAt c n) to) (stored-open c i s ∙ ap (modedOf c) (sym m)) (stored-on c k i at n to e f h l)
+
+  skip-leads : (c : Cursor) (i : ℕ) (a : After) (k at n to : ℕ) → c .mode ≡ Skip i a → i + 1 ≡ n + k → to ≡ at + 4 * k → to ≤ length file → Leads file c at (skipAt c n a) to
+  skip-leads c i a k at n to m e f l =
+      subst (λ d. Leads file d at (skipAt c n a) to) (skip-open c i a ∙ ap (modedOf c) (sym m)) (skip-on c a k (i + 1) at n to e f l)
+
+  -- ---- as the code counts them
+
+  pub stored-some : (c : Cursor) (i : ℕ) → Sane file c → c .mode ≡ Stored i → i < c .stored
+  stored-some c i s e = (rw e at (s .mode)) .1
+
+  module _ (c : Cursor) (i at left n : ℕ) (d : Cursor) (there : at < length file) (words : left ≡ (length file - at) / 4) where
+    pub past-stored : Sane file c → c .mode ≡ Stored i → n ≡ min (c .stored - i) left → d ≡ storedAt c (i + n) → Leads file c at d (at + 4 * n)
+    past-stored s m e f =
+        let l = stored-some c i s m in rw f (stored-leads c i n at (i + n) (at + 4 * n) m l refl refl (omega arith) (omega arith))
+
+    pub past-skipped : (a : After) → c .mode ≡ Skip i a → n ≡ min (i + 1) left → d ≡ skipAt c (i + 1 - n) a → Leads file c at d (at + 4 * n)
+    past-skipped a m e f = rw f (skip-leads c i a n at (i + 1 - n) (at + 4 * n) m (omega arith) refl (omega arith))
+
+  -- ---- what stays
+
+  pub leads-far : {c d : Cursor} {at to : ℕ} → Leads file c at d to → at ≤ to
+  leads-far here = omega arith
+  leads-far (along l e a k) = let h = leads-far k in omega arith
+
+  pub leads-reads : {c d : Cursor} {at to : ℕ} → length file % 4 ≡ 0 → Leads file c at d to → Reads file c at → Reads file d to
+  leads-reads h here i = i
+  leads-reads h (along {c = c} {d = d} {at = at} l e a k) i = leads-reads h k (reads-on file c at _ _ d i h l refl refl e)
+
+-- a pass that does nothing at a store, or where nothing is asked
+abbrev pub Calmly : {X : Type 0} → (X → Act → X) → Type 0
+Calmly {X} g = (x : X) (a : Act) → Calm a → g x a ≡ x
+
+module _ {X : Type 0} (g : X → Act → X) (file : List ℕ) (calm : Calmly g) where
+  leads-pass : {c d : Cursor} {at to : ℕ} → length file % 4 ≡ 0 → Leads file c at d to → Reads file c at → (x : X) → pass g x (actsFrom file at c) ≡ pass g x (actsFrom file to d)
+  unfolding pass
+  leads-pass h here i x = refl
+  leads-pass h (along {c = c} {d = d} {at = at} l e a k) i x =
+      ap (pass g x) (acts-on file at c _ _ h i l refl refl d _ e refl)
+      ∙ ap (λ y. pass g y (actsFrom file (at + 4) d)) (calm x _ a)
+      ∙ leads-pass h k (reads-on file c at _ _ d i h l refl refl e) x
+
+  pub going-past : (x₀ x : X) {c d : Cursor} {at to : ℕ} → length file % 4 ≡ 0 → Going g file x₀ x c at → Leads file c at d to → Going g file x₀ x d to
+  going-past x₀ x h i k = record { reads = leads-reads file h k (i .reads); left = i .left ∙ leads-pass h k (i .reads) x }
