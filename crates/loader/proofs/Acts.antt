@@ -25,6 +25,7 @@ use Rattle.program.specs.Header.{totalOf, sizeOf}
 use Rattle.program.specs.Reader.{turn, stepOf}
 use Rattle.program.specs.Acts.{asks, actOf, pass}
 use Rattle.program.specs.Sane.{Sound, Sane, ModeFits, placeOf}
+use Rattle.program.specs.Runs.{Calm}
 use Rattle.program.proofs.Modes.{none}
 use Rattle.program.proofs.Sanes.{offset-in}
 use Rattle.loader.specs.Memory.{loadedOf, ActFits, place1, placed, target1, targets, shift1, amountOf}
@@ -176,3 +177,24 @@ length-entry file bases t r Quiet e = ap length e
 length-entry file bases t r (Body h p k) e = ap length e ∙ simp length-set
 length-entry file bases t r (Store p w) e = ap length e
 length-entry file bases t r (Add p k b) e = ap length e
+
+-- ---- passes that make nothing of stored words, and of words that ask for nothing
+
+pub calm-shift : (f : ℕ → ℕ) (m : List ℕ) (a : Act) → Calm a → shift1 m f a ≡ m
+calm-shift f m Quiet h = refl
+calm-shift f m (Body i p k) h = refl
+calm-shift f m (Store p w) h = refl
+calm-shift f m (Add p k b) h = absurd h
+
+pub calm-entry : (file bases t : List ℕ) (a : Act) → Calm a → entry1 file bases t a ≡ t
+calm-entry file bases t Quiet h = refl
+calm-entry file bases t (Body i p k) h = absurd h
+calm-entry file bases t (Store p w) h = refl
+calm-entry file bases t (Add p k b) h = refl
+
+pub calm-target : (a : Act) (us : List Act) → Calm a → targets (a ∷ us) ≡ targets us
+unfolding targets
+calm-target Quiet us h = refl
+calm-target (Body i p k) us h = refl
+calm-target (Store p w) us h = refl
+calm-target (Add p k b) us h = absurd h

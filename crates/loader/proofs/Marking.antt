@@ -28,11 +28,14 @@ use Rattle.program.specs.Header.{totalOf, sizeOf}
 use Rattle.program.specs.Reader.{start, stepOf}
 use Rattle.program.specs.Acts.{asks, actOf, actsFrom}
 use Rattle.program.specs.Sane.{Sound}
+use Rattle.program.specs.Runs.{Leads}
 use Rattle.program.proofs.Modes.{none}
 use Rattle.program.proofs.Walks.{Reads, reads-start, reads-on}
 use Rattle.program.proofs.Passes.{acts-on, acts-bad, acts-end}
+use Rattle.program.proofs.Runs.{leads-reads, leads-acts}
 use Rattle.loader.specs.Memory.{ActFits, targets}
 use Rattle.loader.specs.Near.{near, nearAny, clash, clashOf, marks1, Marks}
+use Rattle.loader.proofs.Acts.{calm-target}
 
 -- ---- one act
 
@@ -185,6 +188,11 @@ pub record Clashes (file work : List ℕ) (c : Cursor) (at : ℕ) : Type 0 where
 pub clash-start : (file work : List ℕ) (c : Cursor) (at t : ℕ) → Sound file → c ≡ start → t ≡ totalOf file → at ≡ 20 + 4 * t → ((k : ℕ) → getD work k 0 ≡ 0) → Clashes file work c at
 clash-start file work c at t s e k h z =
     record { reads = reads-start file c at t s e k h; seen = []; marked = record { set1 = λ k l s. absurd s; set0 = λ k o. z k }; left = rw (e, h, k) }
+
+-- words that ask for no target leave the rest as it is
+pub clash-past : (file work : List ℕ) {c d : Cursor} {at to : ℕ} → length file % 4 ≡ 0 → Clashes file work c at → Leads file c at d to → Clashes file work d to
+clash-past file work h i k =
+    record { reads = leads-reads file h k (i .reads); seen = i .seen; marked = i .marked; left = i .left ∙ ap (clash (i .seen)) (leads-acts targets file calm-target h k (i .reads)) }
 
 -- an offset names its own byte
 abbrev byteOf : Act → ℕ → ℕ

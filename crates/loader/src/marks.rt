@@ -7,6 +7,7 @@ use program::header::WORDS;
 use program::header::total;
 use program::reader::Next;
 use program::reader::begin;
+use program::reader::past;
 use program::reader::step;
 ghost use mathlib.Core.Path.{_≡_};
 ghost use Prim.Native.Nat.{ℕ, _+_, _%_, _≤_};
@@ -61,8 +62,9 @@ pub fn mark_all(file: &[u8], work: &mut [u8]) -> Tested
                 place: at,
             });
         }
-        c = d;
-        at += 4;
+        let s = past(file, d, at + 4);
+        c = s.cursor;
+        at = s.at;
     }
     Tested::Passed
 }

@@ -5,6 +5,7 @@ use program::header::WORDS;
 use program::header::total;
 use program::reader::Next;
 use program::reader::begin;
+use program::reader::past;
 use program::reader::step;
 ghost use mathlib.Core.Path.{_≡_};
 ghost use Prim.Native.Nat.{_+_, _%_, _<_, _≤_};
@@ -76,7 +77,8 @@ pub fn add_all(file: &[u8], memory: &mut [u8], amounts: &[u32])
             return;
         };
         add_act(memory, amounts, act_of(c, at, w));
-        c = d;
-        at += 4;
+        let s = past(file, d, at + 4);
+        c = s.cursor;
+        at = s.at;
     }
 }

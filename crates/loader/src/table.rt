@@ -6,6 +6,7 @@ use program::header::size;
 use program::header::total;
 use program::reader::Next;
 use program::reader::begin;
+use program::reader::past;
 use program::reader::step;
 ghost use mathlib.Core.Path.{_≡_};
 ghost use Prim.Native.Nat.{_*_, _%_, _≤_};
@@ -43,7 +44,8 @@ pub fn write_all(file: &[u8], bases: &[u32], table: &mut [u32])
             return;
         };
         write_act(file, bases, table, act_of(c, at, w));
-        c = d;
-        at += 4;
+        let s = past(file, d, at + 4);
+        c = s.cursor;
+        at = s.at;
     }
 }

@@ -2,7 +2,7 @@
 -- (`leads-reads`, `going-past`). Assumes nothing.
 use Prim.Native.Nat.{ℕ, zero, suc, _+_, _-_, _*_, _/_, _%_, _<_, _≤_, min}
 use mathlib.Core.Path.{_≡_, refl, sym, ap, subst, _∙_}
-use mathlib.Core.List.{List}
+use mathlib.Core.List.{List, _∷_}
 use mathlib.Core.Bool.{Bool, true, false}
 use native.Mathlib.Omega.{arith}
 use lib.Dec.{eqb}
@@ -104,18 +104,18 @@ module _ (file : List ℕ) where
   leads-reads h here i = i
   leads-reads h (along {c = c} {d = d} {at = at} l e a k) i = leads-reads h k (reads-on file c at _ _ d i h l refl refl e)
 
--- a pass that does nothing at a store, or where nothing is asked
-abbrev pub Calmly : {X : Type 0} → (X → Act → X) → Type 0
-Calmly {X} g = (x : X) (a : Act) → Calm a → g x a ≡ x
+-- what makes nothing of calm acts makes the same of the acts from here and from there
+pub leads-acts : {Y : Type 0} (f : List Act → Y) (file : List ℕ) → ((a : Act) (us : List Act) → Calm a → f (a ∷ us) ≡ f us) → {c d : Cursor} {at to : ℕ} → length file % 4 ≡ 0 → Leads file c at d to → Reads file c at → f (actsFrom file at c) ≡ f (actsFrom file to d)
+leads-acts f file calm h here i = refl
+leads-acts f file calm h (along {c = c} {d = d} {at = at} l e a k) i =
+    ap f (acts-on file at c _ _ h i l refl refl d _ e refl)
+    ∙ calm _ _ a
+    ∙ leads-acts f file calm h k (reads-on file c at _ _ d i h l refl refl e)
 
-module _ {X : Type 0} (g : X → Act → X) (file : List ℕ) (calm : Calmly g) where
-  leads-pass : {c d : Cursor} {at to : ℕ} → length file % 4 ≡ 0 → Leads file c at d to → Reads file c at → (x : X) → pass g x (actsFrom file at c) ≡ pass g x (actsFrom file to d)
-  unfolding pass
-  leads-pass h here i x = refl
-  leads-pass h (along {c = c} {d = d} {at = at} l e a k) i x =
-      ap (pass g x) (acts-on file at c _ _ h i l refl refl d _ e refl)
-      ∙ ap (λ y. pass g y (actsFrom file (at + 4) d)) (calm x _ a)
-      ∙ leads-pass h k (reads-on file c at _ _ d i h l refl refl e) x
-
-  pub going-past : (x₀ x : X) {c d : Cursor} {at to : ℕ} → length file % 4 ≡ 0 → Going g file x₀ x c at → Leads file c at d to → Going g file x₀ x d to
-  going-past x₀ x h i k = record { reads = leads-reads file h k (i .reads); left = i .left ∙ leads-pass h k (i .reads) x }
+pub going-past : {X : Type 0} (g : X → Act → X) → ((x : X) (a : Act) → Calm a → g x a ≡ x) → (file : List ℕ) (x₀ x : X) {c d : Cursor} {at to : ℕ} → length file % 4 ≡ 0 → Going g file x₀ x c at → Leads file c at d to → Going g file x₀ x d to
+unfolding pass
+going-past g calm file x₀ x h i k =
+    record {
+      reads = leads-reads file h k (i .reads);
+      left = i .left ∙ leads-acts (pass g x) file (λ a us m. ap (λ y. pass g y us) (calm x a m)) h k (i .reads);
+    }

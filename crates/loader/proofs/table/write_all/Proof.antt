@@ -5,8 +5,11 @@ use mathlib.Core.Path.{_≡_, refl, _∙_}
 use native.Mathlib.Omega.{arith}
 use lib.ListN.{length}
 use Rattle.program.proofs.Passes.{Going, going-start, going-on, going-bad, going-end}
+use Rattle.program.proofs.Walks.{reads-on}
+use Rattle.program.proofs.Runs.{leads-far, going-past}
 use Rattle.loader.specs.Table.{entry1}
-use Rattle.loader.proofs.Acts.{fits, cursor-low, loaded-low, length-entry}
+use Rattle.loader.proofs.Acts.{calm-entry, fits, cursor-low, loaded-low, length-entry}
+use borrow.Author.Needs.{needs}
 use Rattle.loader.proofs.table.write_all.Statement.{statement}
 use Rattle.loader.proofs.table.write_all.Tie as tie
 
@@ -61,14 +64,17 @@ act-of-requires c κs = cursor-low _ _ (c .before .before .before .before .befor
 write-act-requires : tie.Need-write-act-requires Inv-loop μ-loop
 write-act-requires c κs = (c .before .before .before .before .before .before .before .before .before .before .before .before .before .before .pre .0, fits _ _ _ _ _ _ _ _ _ (c .before .before .before .before .before .before .before .before .loop .inv .0 .reads .sane) (c .before .before .before .before .before .step .ensures) (c .before .before .before .n .given .1) (c .act-of .ensures) (loaded-low _ (c .before .before .before .before .before .before .before .before .before .before .before .before .before .before .pre .0)) (omega arith), omega arith, omega (arith, c .before .before .before .before .before .before .before .before .loop .inv .1))
 
-add-at-2 : tie.Need-add-at-2 Inv-loop μ-loop
-add-at-2 c = search needs
+add-past : tie.Need-add-past Inv-loop μ-loop
+add-past c = search needs
+
+past-requires : tie.Need-past-requires Inv-loop μ-loop
+past-requires c κs = let r = reads-on _ _ _ _ _ _ (c .before .before .before .before .before .before .before .before .before .before .before .loop .inv .0 .reads) (c .before .before .before .before .before .before .before .before .before .before .before .before .before .before .before .before .before .pre .1) (c .before .before .before .before .before .before .before .before .before .before .loop-test .taken) (c .before .before .before .before .before .before .before .before .before .word .ensures) (c .before .before .before .before .before .before .before .before .step .ensures) (c .before .before .before .before .before .before .n .given .1) in (r .sane, c .before .before .before .before .before .before .before .before .before .before .before .before .before .before .before .before .before .pre .1, r .aligned)
 
 loop-less : tie.Need-loop-less Inv-loop μ-loop
-loop-less c = search needs
+loop-less c = omega (arith, leads-far _ (c .before .past .ensures))
 
 loop-again : tie.Need-loop-again Inv-loop μ-loop
-loop-again c = (going-on _ _ _ _ _ _ (c .before .before .before .before .before .before .before .before .before .before .before .loop .inv .0) _ _ (c .before .before .before .before .before .before .before .before .before .before .before .before .before .before .before .before .before .pre .1) (c .before .before .before .before .before .before .before .before .before .before .loop-test .taken) (c .before .before .before .before .before .before .before .before .before .word .ensures) (c .before .before .before .before .before .before .before .before .step .ensures) _ _ _ (c .before .before .before .before .before .before .n .given .1) (c .before .before .before .act-of .ensures) (c .before .before .write-act .ensures), length-entry (c .before .before .before .before .before .before .before .before .before .before .before .before .before .before .before .before .before .args .file .now) (c .before .before .before .before .before .before .before .before .before .before .before .before .before .before .before .before .before .args .bases .now) (c .before .before .before .before .before .before .before .before .before .before .before .loop .table) _ (c .before .before .before .act-of .result) (c .before .before .write-act .ensures) ∙ c .before .before .before .before .before .before .before .before .before .before .before .loop .inv .1)
+loop-again c = (going-past _ (calm-entry _ _) _ _ _ (c .before .before .before .before .before .before .before .before .before .before .before .before .before .before .before .before .before .before .before .pre .1) (going-on _ _ _ _ _ _ (c .before .before .before .before .before .before .before .before .before .before .before .before .before .loop .inv .0) _ _ (c .before .before .before .before .before .before .before .before .before .before .before .before .before .before .before .before .before .before .before .pre .1) (c .before .before .before .before .before .before .before .before .before .before .before .before .loop-test .taken) (c .before .before .before .before .before .before .before .before .before .before .before .word .ensures) (c .before .before .before .before .before .before .before .before .before .before .step .ensures) _ _ _ (c .before .before .before .before .before .before .before .before .n .given .1) (c .before .before .before .before .before .act-of .ensures) (c .before .before .before .before .write-act .ensures)) (c .before .past .ensures), length-entry (c .before .before .before .before .before .before .before .before .before .before .before .before .before .before .before .before .before .before .before .args .file .now) (c .before .before .before .before .before .before .before .before .before .before .before .before .before .before .before .before .before .before .before .args .bases .now) (c .before .before .before .before .before .before .before .before .before .before .before .before .before .loop .table) _ (c .before .before .before .before .before .act-of .result) (c .before .before .before .before .write-act .ensures) ∙ c .before .before .before .before .before .before .before .before .before .before .before .before .before .loop .inv .1)
 
 same-length-2 : tie.Need-same-length-2 Inv-loop μ-loop
 same-length-2 c = c .before .loop .inv .1
@@ -97,7 +103,8 @@ write-all-spec =
     returns
     act-of-requires
     write-act-requires
-    add-at-2
+    add-past
+    past-requires
     loop-less
     loop-again
     same-length-2
