@@ -8,16 +8,14 @@ use native.Mathlib.Omega.{arith}
 use lib.Dec.{eqb}
 use lib.ListN.{length}
 use borrow.Author.Tests.{ne-eqb}
-use Rattle.words.specs.Word.{wordAt}
 use Rattle.answers.specs.Tests.{pick}
 use Rattle.program.specs.declared.act.Act.{Act}
 use Rattle.program.specs.declared.reader.After.{After}
 use Rattle.program.specs.declared.reader.Cursor.{Cursor}
 use Rattle.program.specs.declared.reader.Mode.the-variants.{Stored, Part, Skip}
 use Rattle.program.specs.declared.reader.Next.the-variants.{On}
-use Rattle.program.specs.Header.{totalOf, sizeOf}
 use Rattle.program.specs.Reader.{on, resume, skip, storedFrom, stepOf}
-use Rattle.program.specs.Acts.{actOf, actsFrom, actsOf, pass}
+use Rattle.program.specs.Acts.{actOf, actsFrom, pass}
 use Rattle.program.specs.Sane.{Sane}
 use Rattle.program.specs.Runs.{modedOf, skipAt, storedAt, Calm, Leads, here, along}
 use Rattle.program.proofs.Walks.{Reads, reads-on}
