@@ -198,14 +198,19 @@ fn near(rng: &mut Rng, words: &[Written], how: Near, by: i32) -> Faulty {
     let new = at + more.iter().position(|word| word.part == Part::Offset)?;
     words.splice(at..at, more);
 
-    // the offsets that were there before get on with each other: the new one is the fault if it has a neighbour in
-    // front of it, else its first neighbour behind it is
+    let first = first_of_two(&words, new)?;
+    Some((file(&words), 4 * first))
+}
+
+/// The offset at fault, `new` being one that came to others. These get on with each other: it is the new one if it has a neighbour in front of
+/// it, else its first neighbour behind it.
+fn first_of_two(words: &[Written], new: usize) -> Option<usize> {
+    let (hunk, offset) = (words[new].hunk, words[new].value);
     let neighbour = |index: &usize| {
         let word = words[*index];
         *index != new && word.part == Part::Offset && word.hunk == hunk && word.value.abs_diff(offset) < 4
     };
-    let first = (0..words.len()).find(neighbour)?;
-    Some((file(&words), 4 * first.max(new)))
+    (0..words.len()).find(neighbour).map(|first| first.max(new))
 }
 
 const fn cause(number: u32, what: &'static str, make: fn(&mut Rng, &[Written]) -> Faulty) -> Cause {
@@ -703,34 +708,36 @@ pub fn short_room(rng: &mut Rng, needed: Room) -> Room {
     room
 }
 
+/// Words that mean something, or nearly so.
+const TELLING: [u32; 24] = [
+    0,
+    1,
+    2,
+    3,
+    4,
+    6,
+    63,
+    64,
+    65,
+    NAME,
+    CODE,
+    DATA,
+    BSS,
+    RELOCATIONS,
+    SYMBOLS,
+    DEBUG,
+    END,
+    HEADER,
+    0x3F5,
+    0x1_0000,
+    0x1_0001,
+    0x0100_0001,
+    0xFFFF_FFFE,
+    u32::MAX,
+];
+
 /// Changes one thing in a file, or a few, without regard to what it means.
 pub fn scratch(rng: &mut Rng, bytes: &mut Vec<u8>) {
-    const TELLING: [u32; 24] = [
-        0,
-        1,
-        2,
-        3,
-        4,
-        6,
-        63,
-        64,
-        65,
-        NAME,
-        CODE,
-        DATA,
-        BSS,
-        RELOCATIONS,
-        SYMBOLS,
-        DEBUG,
-        END,
-        HEADER,
-        0x3F5,
-        0x1_0000,
-        0x1_0001,
-        0x0100_0001,
-        0xFFFF_FFFE,
-        u32::MAX,
-    ];
     for _ in 0..rng.pick(&[1, 1, 1, 2, 4]) {
         let words = bytes.len() / 4;
         if words == 0 {

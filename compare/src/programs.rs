@@ -473,62 +473,68 @@ mod tests {
         }
     }
 
+    /// What there is to meet in a hunk's body.
+    fn of_body(hunk: &Hunk, wanted: &Wanted) -> Vec<(&'static str, bool)> {
+        let is_bss = matches!(hunk.body, Body::Bss(_));
+        let (stored, size) = (wanted.stored.len(), wanted.size);
+        vec![
+            ("size 0", hunk.size == 0),
+            ("code", matches!(hunk.body, Body::Code(_))),
+            ("data", matches!(hunk.body, Body::Data(_))),
+            ("bss", is_bss),
+            ("bss with a number below its size", matches!(hunk.body, Body::Bss(n) if n < hunk.size)),
+            ("a tail after stored words", stored > 0 && stored < size),
+            ("no tail", stored > 0 && stored == size),
+            ("a tail alone", !is_bss && stored == 0 && size > 0),
+            ("a name", hunk.name.as_ref().is_some_and(|name| !name.is_empty())),
+            ("an empty name", hunk.name.as_ref().is_some_and(|name| name.is_empty())),
+        ]
+    }
+
+    /// .. and in its other blocks.
+    fn of_blocks(hunk: &Hunk, wanted: &Wanted) -> Vec<(&'static str, bool)> {
+        let groups: Vec<_> = hunk
+            .blocks
+            .iter()
+            .filter_map(|block| match block {
+                Block::Relocations(groups) => Some(groups),
+                _ => None,
+            })
+            .collect();
+        let any = |is: fn(&Block) -> bool| hunk.blocks.iter().any(is);
+        let targets = &wanted.targets;
+        let within = |offset: usize| targets.iter().any(|target| target.offset % 4 == offset);
+        vec![
+            ("bss with a relocation block", matches!(hunk.body, Body::Bss(_)) && !groups.is_empty()),
+            ("two relocation blocks in use", groups.iter().filter(|groups| !groups.is_empty()).count() > 1),
+            ("two groups in a block", groups.iter().any(|groups| groups.len() > 1)),
+            ("two offsets in a group", groups.iter().copied().flatten().any(|(_, offsets)| offsets.len() > 1)),
+            ("an empty relocation block", groups.iter().any(|groups| groups.is_empty())),
+            ("symbols", any(|block| matches!(block, Block::Symbols(s) if s.len() > 1))),
+            ("no symbols", any(|block| matches!(block, Block::Symbols(s) if s.is_empty()))),
+            ("debug words", any(|block| matches!(block, Block::Debug(d) if !d.is_empty()))),
+            ("no debug words", any(|block| matches!(block, Block::Debug(d) if d.is_empty()))),
+            ("a target over two words", within(2)),
+            ("a target in a word", within(0)),
+            ("a target in the last stored word", targets.iter().any(|t| t.offset + 4 == 4 * wanted.stored.len())),
+            ("offsets that do not rise", targets.windows(2).any(|pair| pair[0].offset > pair[1].offset)),
+        ]
+    }
+
     /// Everything that a file may hold is drawn often.
     #[test]
     fn good_files_are_of_all_kinds() {
         let mut rng = Rng::new(31);
         let mut met = std::collections::BTreeMap::new();
-        let mut meet = |what: &'static str, is_met: bool| *met.entry(what).or_insert(0) += u32::from(is_met);
         for _ in 0..3_000 {
             let program = good_program(&mut rng);
-            meet("one hunk", program.hunks.len() == 1);
-            meet("64 hunks", program.hunks.len() == 64);
+            let mut here = vec![("one hunk", program.hunks.len() == 1), ("64 hunks", program.hunks.len() == 64)];
             for (hunk, wanted) in program.hunks.iter().zip(program.wanted()) {
-                let relocations = || {
-                    hunk.blocks.iter().filter_map(|block| match block {
-                        Block::Relocations(groups) => Some(groups),
-                        _ => None,
-                    })
-                };
-                let is_bss = matches!(hunk.body, Body::Bss(_));
-                let word_target = |offset: usize| wanted.targets.iter().any(|target| target.offset % 4 == offset);
-                meet("size 0", hunk.size == 0);
-                meet("code", matches!(hunk.body, Body::Code(_)));
-                meet("data", matches!(hunk.body, Body::Data(_)));
-                meet("bss", is_bss);
-                meet("bss with a number below its size", matches!(hunk.body, Body::Bss(n) if n < hunk.size));
-                meet("bss with a relocation block", is_bss && relocations().count() > 0);
-                meet("a tail after stored words", !wanted.stored.is_empty() && wanted.stored.len() < wanted.size);
-                meet("no tail", !wanted.stored.is_empty() && wanted.stored.len() == wanted.size);
-                meet("a tail alone", !is_bss && wanted.stored.is_empty() && wanted.size > 0);
-                meet("a name", hunk.name.as_ref().is_some_and(|name| !name.is_empty()));
-                meet("an empty name", hunk.name.as_ref().is_some_and(|name| name.is_empty()));
-                meet(
-                    "two relocation blocks in use",
-                    relocations().filter(|groups| !groups.is_empty()).count() > 1,
-                );
-                meet("two groups in a block", relocations().any(|groups| groups.len() > 1));
-                meet("two offsets in a group", relocations().flatten().any(|(_, offsets)| offsets.len() > 1));
-                meet("an empty relocation block", relocations().any(|groups| groups.is_empty()));
-                meet("symbols", hunk.blocks.iter().any(|block| matches!(block, Block::Symbols(s) if s.len() > 1)));
-                meet(
-                    "no symbols",
-                    hunk.blocks.iter().any(|block| matches!(block, Block::Symbols(s) if s.is_empty())),
-                );
-                meet(
-                    "debug words",
-                    hunk.blocks.iter().any(|block| matches!(block, Block::Debug(d) if !d.is_empty())),
-                );
-                meet(
-                    "no debug words",
-                    hunk.blocks.iter().any(|block| matches!(block, Block::Debug(d) if d.is_empty())),
-                );
-                meet("a target over two words", word_target(2));
-                meet("a target in a word", word_target(0));
-                let last = wanted.targets.iter().any(|target| target.offset + 4 == 4 * wanted.stored.len());
-                meet("a target in the last stored word", last);
-                let falling = wanted.targets.windows(2).any(|pair| pair[0].offset > pair[1].offset);
-                meet("offsets that do not rise", falling);
+                here.extend(of_body(hunk, &wanted));
+                here.extend(of_blocks(hunk, &wanted));
+            }
+            for (what, is_met) in here {
+                *met.entry(what).or_insert(0) += u32::from(is_met);
             }
         }
         let rare: Vec<_> = met.iter().filter(|(_, &times)| times < 50).collect();

@@ -437,44 +437,49 @@ fn good_files(talk: &mut Talk, rng: &mut Rng) {
     for _ in 0..550 {
         let program = good_program(rng);
         let (sizes, bytes) = (program.sizes(), file(&program.written()));
-        let [a, b, c] = [(); 3].map(|()| good_bases(rng, &sizes));
-        let needed = Room::needed(&sizes);
-        let room = needed.widened(rng);
-        let accepted = format!("{} {} ", sizes.len(), needed.memory);
+        let lists = [(); 3].map(|()| good_bases(rng, &sizes));
+        let room = Room::needed(&sizes).widened(rng);
         talk.about(format!("a good program of {} hunks", sizes.len()));
         talk.file(&bytes);
+        moved_around(talk, &sizes, room, &lists);
+        refused_after(talk, rng, &sizes, room, &lists);
+    }
+}
 
-        // load at A, move to B, to C and back to A: as it was; and at C as if it had been loaded there
-        let moved = format!("moved {accepted}");
-        let at_a = talk.load(room, &a);
-        assert!(at_a.starts_with(&format!("loaded {accepted}")), "{at_a}");
-        talk.expect(MOVE, &move_body(room, &a, &b), &moved);
-        let at_c = talk.relocate(room, &b, &c);
-        assert_eq!(talk.relocate(room, &c, &a), at_a.replace("loaded", "moved"));
-        assert_eq!(talk.load(room, &c).replace("loaded", "moved"), at_c);
+/// Loaded at A, moved to B, to C and back to A: as it was; and at C as if it had been loaded there.
+fn moved_around(talk: &mut Talk, sizes: &[u32], room: Room, [a, b, c]: &[Vec<u32>; 3]) {
+    let needed = Room::needed(sizes);
+    let accepted = format!("{} {} ", sizes.len(), needed.memory);
+    let moved = format!("moved {accepted}");
+    let at_a = talk.load(room, a);
+    assert!(at_a.starts_with(&format!("loaded {accepted}")), "{at_a}");
+    talk.expect(MOVE, &move_body(room, a, b), &moved);
+    let at_c = talk.relocate(room, b, c);
+    assert_eq!(talk.relocate(room, c, a), at_a.replace("loaded", "moved"));
+    assert_eq!(talk.load(room, c).replace("loaded", "moved"), at_c);
+    // on memory that it was not loaded into with these bases
+    talk.expect(MOVE, &move_body(needed, a, b), &moved);
+}
 
-        // on memory that it was not loaded into with these bases
-        talk.expect(MOVE, &move_body(needed, &a, &b), &moved);
-
-        talk.about("bad bases");
-        let ((bad, entry), (also_bad, _)) = (bad_bases(rng, &sizes), bad_bases(rng, &sizes));
-        let refused = |entry: usize| format!("refused 40 {entry} ");
-        match rng.below(3) {
-            0 => talk.expect(MOVE, &move_body(room, &a, &bad), &refused(sizes.len() + entry)),
-            1 => talk.expect(MOVE, &move_body(room, &bad, &a), &refused(entry)),
-            _ => talk.expect(MOVE, &move_body(room, &bad, &also_bad), &refused(entry)),
-        }
-        talk.about("short room");
-        let short = short_room(rng, needed);
-        let cut =
-            Room { memory: short.memory.min(room.memory), records: short.records.min(room.records), ..short };
-        talk.expect(MOVE, &move_body(cut, &b, &c), "refused 41 0 ");
-        talk.expect(LOAD, &load_body(short, &c), "refused 41 0 ");
-        if rng.below(2) == 0 {
-            talk.about("bad bases and perhaps short room");
-            let room = rng.pick(&[room, short]);
-            talk.expect(LOAD, &load_body(room, &bad), &refused(entry));
-        }
+/// Refused for its bases, and for its room.
+fn refused_after(talk: &mut Talk, rng: &mut Rng, sizes: &[u32], room: Room, [a, b, c]: &[Vec<u32>; 3]) {
+    talk.about("bad bases");
+    let ((bad, entry), (also_bad, _)) = (bad_bases(rng, sizes), bad_bases(rng, sizes));
+    let refused = |entry: usize| format!("refused 40 {entry} ");
+    match rng.below(3) {
+        0 => talk.expect(MOVE, &move_body(room, a, &bad), &refused(sizes.len() + entry)),
+        1 => talk.expect(MOVE, &move_body(room, &bad, a), &refused(entry)),
+        _ => talk.expect(MOVE, &move_body(room, &bad, &also_bad), &refused(entry)),
+    }
+    talk.about("short room");
+    let short = short_room(rng, Room::needed(sizes));
+    let cut = Room { memory: short.memory.min(room.memory), records: short.records.min(room.records), ..short };
+    talk.expect(MOVE, &move_body(cut, b, c), "refused 41 0 ");
+    talk.expect(LOAD, &load_body(short, c), "refused 41 0 ");
+    if rng.below(2) == 0 {
+        talk.about("bad bases and perhaps short room");
+        let room = rng.pick(&[room, short]);
+        talk.expect(LOAD, &load_body(room, &bad), &refused(entry));
     }
 }
 
