@@ -10,10 +10,11 @@ use Rattle.answers.specs.Tests.{pick}
 use Rattle.words.specs.Word.{wordAt}
 use Rattle.volume.specs.declared.disk.Disk.{Disk}
 use Rattle.volume.specs.Disks.{imageBytes, claimBytes, tagOf}
+use Rattle.volume.specs.Law.{Tree, Valid}
 use Rattle.walk.specs.Refusals.{FirstRefusal, Refused}
 use Rattle.walk.proofs.Refuses.{refused-first, refused-why}
 use Rattle.audit.specs.Audits.{refuse, auditOf}
-use Rattle.audit.specs.Verdicts.{FirstWrong, Opened, Sound, Test, size, area, tag, walk, bits, testOf, Says}
+use Rattle.audit.specs.Verdicts.{FirstWrong, Opened, Test, size, area, tag, walk, bits, testOf, Says}
 use Rattle.audit.proofs.Answers.{answers-exactly}
 use Rattle.audit.proofs.Numbers.{Numbered, walk-number, numbered, by-walk}
 
@@ -54,6 +55,6 @@ module _ (d : Disk) (s : List ℕ) (n k : ℕ) where
   unfolding pick
   refused-3 = refused-exactly d s n 3 k
 
-  pub refused-17 : (auditOf d s n ≡ refuse 17 k) ↔ (Opened d s n × Sound d s × FirstWrong d s k)
+  pub refused-17 : (auditOf d s n ≡ refuse 17 k) ↔ ((claimBytes d ≤ n) × Tree d s × Valid d s × FirstWrong d s k)
   unfolding pick
   refused-17 = refused-exactly d s n 17 k

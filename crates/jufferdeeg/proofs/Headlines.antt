@@ -10,7 +10,7 @@ use Rattle.answers.specs.declared.Tested.the-variants.{Failed}
 use Rattle.words.specs.Word.{Bytes}
 use Rattle.volume.specs.declared.disk.Disk.{Disk}
 use Rattle.volume.specs.Disks.{claimBytes}
-use Rattle.volume.specs.Law.{Volume}
+use Rattle.volume.specs.Law.{Tree, Volume}
 use Rattle.audit.specs.declared.audit.Report.{Report}
 use Rattle.audit.specs.declared.audit.Audited.{Audited}
 use Rattle.audit.specs.declared.audit.Audited.the-variants as audited
@@ -32,7 +32,7 @@ use Rattle.reading.specs.Outcomes as outcomes
 use Rattle.reading.proofs.Answers as answers
 use Rattle.reading.proofs.Refusing as unread
 use Rattle.reading.proofs.Readings as readings
-use Rattle.reading.proofs.OnVolumes as reads
+use Rattle.reading.proofs.OnTrees as reads
 use Rattle.program.specs.declared.check.Answer.{Answer}
 use Rattle.program.specs.declared.check.Answer.the-variants.{Accepted, Refused}
 use Rattle.program.specs.Page as paper
@@ -104,10 +104,10 @@ module _ (d : Disk) (s path : List ℕ) where
   pub read-determined : (o : ℕ) (output : List ℕ) (r r′ : Reading) (a a′ : List ℕ) → read.Reads d s path o output r a → read.Reads d s path o output r′ a′ → (read.numbersOf r ≡ read.numbersOf r′) × (r ≡ r′) × (a ≡ a′)
   read-determined o output r r′ a a′ h h′ = readings.read-determined d s path o output r r′ a a′ h h′
 
-  -- on a volume: a found file is read whole
-  pub volume-read-whole : Volume d s → (k z c : ℕ) → lookup.findOf d s path ≡ found.File k z c → (output : List ℕ) → z ≤ length output → (r : Reading) (output′ : List ℕ) → read.Reads d s path 0 output r output′
+  -- in a tree a found file is read whole
+  pub tree-read-whole : Tree d s → (k z c : ℕ) → lookup.findOf d s path ≡ found.File k z c → (output : List ℕ) → z ≤ length output → (r : Reading) (output′ : List ℕ) → read.Reads d s path 0 output r output′
       → (r ≡ reading.Bytes z) × (length (fileBytes d s k) ≡ z) × (output′ ≡ fileBytes d s k ++ drop z output)
-  volume-read-whole v k z c e output h r output′ w = reads.volume-read-whole d s v path k z c e output output′ r h w
+  tree-read-whole v k z c e output h r output′ w = reads.tree-read-whole d s v path k z c e output output′ r h w
 
 -- ---- a program file
 

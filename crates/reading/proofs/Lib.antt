@@ -17,5 +17,5 @@ pub mod Answers
 pub mod Passing
 -- `refused-exactly`: each refusal exactly then
 pub mod Refusing
--- `volume-file-passes`, `volume-read-whole`, `volume-read-answers`: reads on a volume
-pub mod OnVolumes
+-- `tree-file-passes`, `tree-read-whole`, `tree-read-answers`: reads in a tree
+pub mod OnTrees

@@ -19,7 +19,7 @@ use Rattle.volume.specs.Names.{nameOf, slotOf}
 use Rattle.volume.specs.Files.{sizeOf, blocksOf}
 use Rattle.answers.proofs.Tests.{pick-true, pick-false}
 use Rattle.answers.proofs.Clashes.{impossible}
-use Rattle.volume.specs.Law.{Root, Entry, Lists, ListBlock, DataBlock}
+use Rattle.volume.specs.Law.{Root, Valid, Entry, Lists, ListBlock, DataBlock}
 use Rattle.volume.specs.Rules.{rootRules, rootFault, allZero, mapRules, mapFault, bitmapFault, entryTypes, entryWords, entryName, entryFault, countRules, emptyRules, fileFault, listWords, listFault, dataWords, dataLinks, dataFault}
 
 -- ---- what a passed test says, and what makes it pass
@@ -73,7 +73,7 @@ module _ (d : Disk) (s : List ℕ) where
   abbrev r : ℕ
   r = rootOf d
 
-  pub root-passed : rootFault d s ≡ 0 → mapFault d s ≡ 0 → (sumOf s r ≡ 0) × Root s r
+  pub root-passed : rootFault d s ≡ 0 → mapFault d s ≡ 0 → (sumOf s r ≡ 0) × Root s r × Valid d s
   unfolding rootFault mapFault
   root-passed e f = (
     is _ _ 6 (test-at 0 (rootRules s r) e refl),
@@ -83,9 +83,9 @@ module _ (d : Disk) (s : List ℕ) where
       zeros = zeros′;
       table = is _ _ 3 (test-at 5 (rootRules s r) e refl);
       name = must-passed _ 10 (test-at 10 (rootRules s r) e refl);
-      valid = is _ _ 15 (test-at 0 (mapRules s r) f refl);
       rest = λ i l h. zeros-there s r 80 25 (must-passed _ 15 (test-at 1 (mapRules s r) f refl)) i l (omega arith);
     },
+    is _ _ 15 (test-at 0 (mapRules s r) f refl),
   )
     where
       zeros′ : (i : ℕ) → i ∈ (1 ∷ 2 ∷ 4 ∷ 124 ∷ 125 ∷ 126 ∷ []) → wordOf s r i ≡ 0
@@ -97,15 +97,17 @@ module _ (d : Disk) (s : List ℕ) where
       zeros′ i (inr (inr (inr (inr (inr (inl q)))))) = rw q (is _ _ 3 (test-at 9 (rootRules s r) e refl))
       zeros′ i (inr (inr (inr (inr (inr (inr q)))))) = absurd q
 
-  pub root-passes : sumOf s r ≡ 0 → Root s r → (rootFault d s ≡ 0) × (mapFault d s ≡ 0)
-  unfolding rootFault mapFault
-  root-passes e h = (
-    be _ _ 7 e & be _ _ 8 (h .type) & be _ _ 8 (h .kind) & fixed 1 (inl refl) & fixed 2 (inr (inl refl)) & be _ _ 4 (h .table) & fixed 4 (inr (inr (inl refl))) & fixed 124 (inr (inr (inr (inl refl)))) & fixed 125 (inr (inr (inr (inr (inl refl))))) & fixed 126 (inr (inr (inr (inr (inr (inl refl)))))) & must-passes _ 11 (h .name) & refl,
-    be _ _ 16 (h .valid) & must-passes _ 16 (zeros-found s r 80 25 (λ j l u. h .rest j l (omega arith))) & refl,
-  )
+  pub root-passes : sumOf s r ≡ 0 → Root s r → rootFault d s ≡ 0
+  unfolding rootFault
+  root-passes e h =
+      be _ _ 7 e & be _ _ 8 (h .type) & be _ _ 8 (h .kind) & fixed 1 (inl refl) & fixed 2 (inr (inl refl)) & be _ _ 4 (h .table) & fixed 4 (inr (inr (inl refl))) & fixed 124 (inr (inr (inr (inl refl)))) & fixed 125 (inr (inr (inr (inr (inl refl))))) & fixed 126 (inr (inr (inr (inr (inr (inl refl)))))) & must-passes _ 11 (h .name) & refl
     where
       fixed : (i : ℕ) → i ∈ (1 ∷ 2 ∷ 4 ∷ 124 ∷ 125 ∷ 126 ∷ []) → must (eqb (wordOf s r i) 0) 4 ≡ 0
       fixed i m = be _ _ 4 (h .zeros i m)
+
+  pub map-passes : Root s r → Valid d s → mapFault d s ≡ 0
+  unfolding mapFault
+  map-passes h v = be _ _ 16 v & must-passes _ 16 (zeros-found s r 80 25 (λ j l u. h .rest j l (omega arith))) & refl
 
 -- ---- the bitmap block
 

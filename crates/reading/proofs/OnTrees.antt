@@ -1,5 +1,5 @@
--- On a volume the blocks of every reached file are reached, so that they pass (`volume-file-passes`); a read gives the file's bytes, or 18, 19
--- or 20 (`volume-reads`, `volume-read-whole`, `reached-read`, `volume-read-answers`). Assumes nothing.
+-- In a tree the blocks of every reached file are reached, so that they pass (`tree-file-passes`); a read gives the file's bytes, or 18, 19
+-- or 20 (`tree-reads`, `tree-read-whole`, `reached-read`, `tree-read-answers`). Assumes nothing.
 use Prim.Native.Nat.{ℕ, zero, suc, _+_, _-_, _≤_, min}
 use mathlib.Core.Path.{_≡_, refl, sym, ap, _∙_}
 use mathlib.Core.Logic.{_≢_, _⊎_, inl, inr}
@@ -18,14 +18,14 @@ use Rattle.volume.specs.Disks.{rootOf}
 use Rattle.volume.specs.Blocks.{slots, wordOf, directory}
 use Rattle.volume.specs.Files.{keysHere, listBlocks, keysDown, listsFrom, keysFrom, sizeOf, blocksOf, listsOf, keysOf}
 use Rattle.volume.specs.References.{Kind, Ref, to, link, listed, slotRefs, refersTo, references}
-use Rattle.volume.specs.Law.{Lists, File, Volume}
+use Rattle.volume.specs.Law.{Lists, File, Tree}
 use Rattle.walk.specs.Nodes.{before}
 use Rattle.walk.proofs.Spreads.{Spread, here, file-spreads}
 use Rattle.lookup.specs.declared.find.Found.the-variants as found
 use Rattle.lookup.specs.Paths.{longestPath}
 use Rattle.lookup.specs.Lookup.{findOf}
 use Rattle.lookup.proofs.Refusing.{file-exactly}
-use Rattle.lookup.proofs.OnVolumes.{volume-answers, found-file}
+use Rattle.lookup.proofs.OnTrees.{tree-answers, found-file}
 use Rattle.lookup.specs.Trails.{Lies, pathOf}
 use Rattle.lookup.proofs.Bridge.{reached-found}
 use Rattle.reading.specs.declared.read.Reading.{Reading}
@@ -103,52 +103,52 @@ module _ (d : Disk) (s : List ℕ) where
         let z : blocksOf d s h - 0 ≡ blocksOf d s h = omega arith in
         rw z at (blocks-reached (listBlocks (blocksOf d s h)) h 0 h (ap listBlocks (sym z)) (file-spreads d s h .0 f .2) (contents-reached r e))
 
--- ---- a volume
+-- ---- a tree
 
 -- an output with room for all bytes
 filled-whole : (bytes output : List ℕ) → length bytes ≤ length output → filledBy bytes 0 output ≡ bytes ++ drop (length bytes) output
 unfolding filledBy part
 filled-whole bytes output h = rw (take-all (length output) bytes h) refl
 
-module _ (d : Disk) (s : List ℕ) (v : Volume d s) where
+module _ (d : Disk) (s : List ℕ) (v : Tree d s) where
   intact : (a : Kind) (k : ℕ) → Reached (references d s) (to a k) → Intact d s k
   intact a k r = record { low = v .keys (to a k) r .0; inside = v .keys (to a k) r .1; sum = v .sums (to a k) r }
 
   -- Every reached file is whole, and passes its tests.
-  pub volume-file-whole : (k : ℕ) → Reached (references d s) (to Kind.entry k) → directory s k ≡ false → Whole d s k
-  volume-file-whole k r e =
+  pub tree-file-whole : (k : ℕ) → Reached (references d s) (to Kind.entry k) → directory s k ≡ false → Whole d s k
+  tree-file-whole k r e =
       let w = file-reaches d s k r e (v .files k r e) in
       record { file = v .files k r e; lists = λ b a. intact Kind.list b (w .0 b a); keys = λ b a. intact Kind.datum b (w .1 b a) }
 
-  pub volume-file-passes : (k : ℕ) → Reached (references d s) (to Kind.entry k) → directory s k ≡ false → blocksFault d s k ≡ Passed
-  volume-file-passes k r e = passes-tested d s k (volume-file-whole k r e)
+  pub tree-file-passes : (k : ℕ) → Reached (references d s) (to Kind.entry k) → directory s k ≡ false → blocksFault d s k ≡ Passed
+  tree-file-passes k r e = passes-tested d s k (tree-file-whole k r e)
 
   module _ (path : List ℕ) where
     module _ (k z c : ℕ) (e : findOf d s path ≡ found.File k z c) where
       pub found-passes : blocksFault d s k ≡ Passed
-      found-passes = let h = file-exactly d s path k z c .0 e in volume-file-passes k (found-file d s v path k z c e) (rw (h .key) at (h .kind))
+      found-passes = let h = file-exactly d s path k z c .0 e in tree-file-passes k (found-file d s v path k z c e) (rw (h .key) at (h .kind))
 
       -- A read of a file gives its bytes from the offset on.
-      pub volume-reads : (o n : ℕ) → readOf d s path o n ≡ Bytes (min n (z - o))
-      volume-reads o n = read-exactly d s path o n (min n (z - o)) .1 (record { key = k; size = z; compared = c; found = e; passed = found-passes; count = refl })
+      pub tree-reads : (o n : ℕ) → readOf d s path o n ≡ Bytes (min n (z - o))
+      tree-reads o n = read-exactly d s path o n (min n (z - o)) .1 (record { key = k; size = z; compared = c; found = e; passed = found-passes; count = refl })
 
       -- From offset 0 into room for all of it, it gives the whole file.
-      pub volume-read-whole : (output output′ : List ℕ) (r : Reading) → z ≤ length output → Reads d s path 0 output r output′ → (r ≡ Bytes z) × (length (fileBytes d s k) ≡ z) × (output′ ≡ fileBytes d s k ++ drop z output)
-      volume-read-whole output output′ r l h =
+      pub tree-read-whole : (output output′ : List ℕ) (r : Reading) → z ≤ length output → Reads d s path 0 output r output′ → (r ≡ Bytes z) × (length (fileBytes d s k) ≡ z) × (output′ ≡ fileBytes d s k ++ drop z output)
+      tree-read-whole output output′ r l h =
           let m : min (length output) (z - 0) ≡ z = omega arith in
-          let a : r ≡ Bytes z = h .answer ∙ volume-reads 0 (length output) ∙ ap Bytes m in
+          let a : r ≡ Bytes z = h .answer ∙ tree-reads 0 (length output) ∙ ap Bytes m in
           let b : length (fileBytes d s k) ≡ z = bytes-long d s k (v .long) found-passes ∙ sym (found-size d s path k z c e) in
           (a, b, h .left ∙ rw (a, e) (filled-whole (fileBytes d s k) output (omega arith) ∙ rw b refl))
 
     -- A read of any path gives bytes, 18, 19 or 20.
-    pub volume-read-answers : (o n w i : ℕ) → readOf d s path o n ≡ refuse w i → (w ≡ 18) ⊎ (w ≡ 19) ⊎ (w ≡ 20)
-    volume-read-answers o n w i q = go (refused-exactly d s path o n w i .0 q)
+    pub tree-read-answers : (o n w i : ℕ) → readOf d s path o n ≡ refuse w i → (w ≡ 18) ⊎ (w ≡ 19) ⊎ (w ≡ 20)
+    tree-read-answers o n w i q = go (refused-exactly d s path o n w i .0 q)
       where
         none : (k z c : ℕ) → findOf d s path ≡ found.File k z c → ⊥
-        none k z c e = let y = volume-reads k z c e o n in impossible cc
+        none k z c e = let y = tree-reads k z c e o n in impossible cc
 
         go : Refuses d s path w i → (w ≡ 18) ⊎ (w ≡ 19) ⊎ (w ≡ 20)
-        go (of-lookup e) = volume-answers d s v path w i e
+        go (of-lookup e) = tree-answers d s v path w i e
         go (of-directory t c e a b) = inr (inr a)
         go (of-header z c e f u) = absurd (none i z c e)
         go (of-block h z c e f u) = absurd (none h z c e)
@@ -156,4 +156,4 @@ module _ (d : Disk) (s : List ℕ) (v : Volume d s) where
   -- Every reached file is read whole by its path, if that is not too long.
   pub reached-read : (k : ℕ) (h : Lies s (rootOf d) k) → directory s k ≡ false → length (pathOf s (rootOf d) k h) ≤ longestPath → (output output′ : List ℕ) (r : Reading) → sizeOf s k ≤ length output → Reads d s (pathOf s (rootOf d) k h) 0 output r output′ → (r ≡ Bytes (sizeOf s k)) × (length (fileBytes d s k) ≡ sizeOf s k) × (output′ ≡ fileBytes d s k ++ drop (sizeOf s k) output)
   unfolding pick
-  reached-read k h e l output output′ r m q = let w = reached-found d s v k h l in volume-read-whole (pathOf s (rootOf d) k h) k (sizeOf s k) (w .0) (rw e at (w .1)) output output′ r m q
+  reached-read k h e l output output′ r m q = let w = reached-found d s v k h l in tree-read-whole (pathOf s (rootOf d) k h) k (sizeOf s k) (w .0) (rw e at (w .1)) output output′ r m q

@@ -1,40 +1,31 @@
--- The theorem `fine-volume`: if every reached node passes its tests, every block is owned once, and length, tag and bitmap are right, the
--- volume is as its law says. Assumes nothing.
+-- The theorem `fine-tree`: if every reached node passes its tests, every block is owned once, and length and tag are right, the tree is as
+-- its law says. Assumes nothing.
 use Prim.Native.Nat.{ℕ, zero, suc, _+_, _-_, _≤_, _<_}
 use mathlib.Core.Path.{_≡_, refl, sym, ap, subst}
-use mathlib.Core.Logic.{_≢_, _↔_}
+use mathlib.Core.Logic.{_≢_}
 use mathlib.Core.Bool.{Bool, true, false}
 use mathlib.Core.List.{List}
 use native.Mathlib.Omega.{arith}
 use lib.ListN.{length}
 use Rattle.words.specs.Word.{wordAt}
-use Rattle.answers.proofs.Tests.{first-zero}
 use Rattle.reach.specs.References.{_∈_, Reached, top, Owned}
-use Rattle.reach.specs.Law.{Fine}
 use Rattle.reach.proofs.Lists.{in-left, in-right}
 use Rattle.volume.specs.declared.disk.Disk.{Disk}
 use Rattle.volume.specs.Disks.{firstKey, imageBytes, tagOf, rootOf}
 use Rattle.volume.specs.Blocks.{wordOf, sumOf, directory}
 use Rattle.volume.specs.Files.{keysDown, listBlocks, blocksOf}
-use Rattle.volume.specs.Bitmap.{isFree}
 use Rattle.volume.specs.References.{Kind, to, references}
-use Rattle.volume.specs.Law.{Root, Lists, Directory, File, Volume}
-use Rattle.volume.specs.Rules.{rootFault, mapFault}
-use Rattle.volume.proofs.Passes.{Placed, root-passed, entry-passed, file-passed, list-passed, data-passed}
-use Rattle.walk.specs.Nodes.{Node, root, bitmap, entry, list, datum, keyOf, bare, before, keyNodes, listing, listed, contents, leadsTo, faultOf, graph}
-use Rattle.walk.specs.Reports.{Used}
+use Rattle.volume.specs.Law.{Lists, Directory, File, Tree}
+use Rattle.volume.proofs.Passes.{Placed, entry-passed, file-passed, list-passed, data-passed}
+use Rattle.walk.specs.Nodes.{Node, root, bitmap, entry, list, datum, keyOf, bare, before, keyNodes, listing, listed, contents, leadsTo, faultOf}
 use Rattle.walk.proofs.Nodes.{NodeReached, linked-in}
 use Rattle.walk.proofs.Passes.{Hung, key-passed, hung-passed, sum-passed}
-use Rattle.walk.proofs.Accepts.{node-reached, node-key}
+use Rattle.walk.proofs.Accepts.{TreeFine, node-reached, node-key}
 use Rattle.walk.proofs.Spreads.{Run, Spread, here, file-spreads}
 use Rattle.walk.proofs.Listed.{Sound, run-listed}
 use Rattle.walk.proofs.Directories.{leads, contents-reached, root-opened, directory-law}
 
--- a bit is 0 exactly if its block is reached
-abbrev pub Bits : Disk → List ℕ → Type 0
-Bits d s = (k : ℕ) → firstKey ≤ k → k < d .blocks → (isFree s (wordOf s (rootOf d) 79) k ≡ false) ↔ Used d s k
-
-module _ (d : Disk) (s : List ℕ) (fine : Fine (graph d s)) where
+module _ (d : Disk) (s : List ℕ) (fine : TreeFine d s) where
   -- ---- a file
 
   sound : (n : Node) → NodeReached d s n → Sound d s n
@@ -111,22 +102,17 @@ module _ (d : Disk) (s : List ℕ) (fine : Fine (graph d s)) where
 
   -- ---- the theorem
 
-  root-reached : Root s (rootOf d)
-  unfolding faultOf
-  root-reached = let f = first-zero (rootFault d s) (mapFault d s) (fine root (top refl) .1) in root-passed d s (f .0) (f .1) .1
-
-  pub fine-volume : Owned (references d s) → length s ≡ imageBytes d → wordAt s 0 ≡ tagOf d → Bits d s → Volume d s
-  fine-volume o l t b =
+  pub fine-tree : Owned (references d s) → length s ≡ imageBytes d → wordAt s 0 ≡ tagOf d → Tree d s
+  fine-tree o l t =
       record {
         long = l;
         tag = t;
         keys = λ r h. let n = node-reached d s fine h in subst (λ k. (firstKey ≤ k) × (k < d .blocks)) (node-key d s fine h) (key-passed d (keyOf d (n .0)) (fine (n .0) (n .1) .0));
         sums = λ r h. let n = node-reached d s fine h in subst (λ k. sumOf s k ≡ 0) (node-key d s fine h) (sum-passed d s (n .0) (fine (n .0) (n .1) .1));
-        top = root-reached;
+        top = fine root (top refl) .1 .1;
         entries = λ k h. placed k h .entry;
         holds = directory-law d s (rootOf d) (root-opened d s) fine;
         directories = directory-reached;
         files = file-reached;
         owned = o;
-        bits = b;
       }

@@ -1,4 +1,4 @@
--- On a volume every entry of a chain passes its tests, so that a lookup gives an answer, 18, 19 or 20 (`volume-answers`). Assumes nothing.
+-- In a tree every entry of a chain passes its tests, so that a lookup gives an answer, 18, 19 or 20 (`tree-answers`). Assumes nothing.
 use Prim.Native.Nat.{ℕ, _≤_, _<_}
 use mathlib.Core.Path.{_≡_, refl, sym, _∙_}
 use mathlib.Core.Logic.{_≢_, _⊎_, inl, inr}
@@ -13,7 +13,7 @@ use Rattle.volume.specs.Disks.{firstKey, rootOf, inRange, chainLimit}
 use Rattle.volume.specs.Blocks.{slots, slotWord, directory}
 use Rattle.volume.specs.Names.{slotOf}
 use Rattle.volume.specs.References.{Kind, to, references}
-use Rattle.volume.specs.Law.{chainKey, Hangs, Volume}
+use Rattle.volume.specs.Law.{chainKey, Hangs, Tree}
 use Rattle.volume.specs.Law as law
 use Rattle.volume.specs.Rules.{entryFault}
 use Rattle.volume.proofs.Passes.{root-passes, entry-passes}
@@ -32,7 +32,7 @@ in-range : (d : Disk) (k : ℕ) → (firstKey ≤ k) × (k < d .blocks) → inRa
 unfolding inRange pick
 in-range d k h = rw (le-ltb k firstKey (h .0)) (lt-ltb k (d .blocks) (h .1))
 
-module _ (d : Disk) (s : List ℕ) (v : Volume d s) where
+module _ (d : Disk) (s : List ℕ) (v : Tree d s) where
   pub held-by : (t : ℕ) → Holder d s t → law.Directory d s t
   held-by t (inl e) = rw e (v .holds)
   held-by t (inr o) = v .directories t (o .0) (o .1) .1
@@ -76,9 +76,9 @@ module _ (d : Disk) (s : List ℕ) (v : Volume d s) where
   trail-holder stay h = h
   trail-holder {t} (down {c = c} p f e r) h = trail-holder r (inr (first-reached t c h p f, e))
 
-  -- No lookup on a volume gives anything but an answer, 18, 19 or 20.
-  pub volume-answers : (path : List ℕ) (n k : ℕ) → findOf d s path ≡ refuse n k → (n ≡ 18) ⊎ (n ≡ 19) ⊎ (n ≡ 20)
-  volume-answers path n k e = go (refused-exactly d s path n k .0 e)
+  -- No lookup in a tree gives anything but an answer, 18, 19 or 20.
+  pub tree-answers : (path : List ℕ) (n k : ℕ) → findOf d s path ≡ refuse n k → (n ≡ 18) ⊎ (n ≡ 19) ⊎ (n ≡ 20)
+  tree-answers path n k e = go (refused-exactly d s path n k .0 e)
     where
       held : (h : Stands d s path k) → Holder d s (h .comes .parent)
       held h = trail-holder (h .comes .trail) (inl refl)
@@ -90,7 +90,7 @@ module _ (d : Disk) (s : List ℕ) (v : Volume d s) where
       go (number-1 h a b) = absurd (h (v .long))
       go (number-18 h f a) = inl a
       go (number-3 h p u a b) = absurd (u (v .tag))
-      go (of-root h p u z a b) = absurd (z (sym a ∙ root-passes d s (v .sums (to Kind.root (rootOf d)) (top refl)) (v .top) .0))
+      go (of-root h p u z a b) = absurd (z (sym a ∙ root-passes d s (v .sums (to Kind.root (rootOf d)) (top refl)) (v .top)))
       go (number-5 h y a) =
           let q : inRange d k ≡ true = rw (h .key) at (place-ranged (h .comes .parent) (slotOf d (h .comes .name)) (h .place) (held h) (slot-below d (h .comes .name) _ refl) (some h)) in
           let z : _≡_ {A = ℕ} 0 1 = cc in
@@ -100,11 +100,11 @@ module _ (d : Disk) (s : List ℕ) (v : Volume d s) where
       go (number-19 h a) = inr (inl a)
       go (number-20 h a) = inr (inr a)
 
-  -- A directory found on a volume is the root or a reached one.
+  -- A directory found in a tree is the root or a reached one.
   pub found-directory : (path : List ℕ) (k n : ℕ) → findOf d s path ≡ Directory k n → (k ≡ rootOf d) ⊎ (Reached (references d s) (to Kind.entry k) × (directory s k ≡ true))
   found-directory path k n e = trail-holder (directory-exactly d s path k n .0 e .1) (inl refl)
 
-  -- A file found on a volume is a reached entry.
+  -- A file found in a tree is a reached entry.
   pub found-file : (path : List ℕ) (k z n : ℕ) → findOf d s path ≡ File k z n → Reached (references d s) (to Kind.entry k)
   found-file path k z n e =
       let h = file-exactly d s path k z n .0 e in
