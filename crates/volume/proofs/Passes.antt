@@ -15,11 +15,12 @@ use Rattle.volume.specs.declared.disk.Disk.{Disk}
 use Rattle.answers.specs.Tests.{pick, must, never, tests}
 use Rattle.volume.specs.Disks.{rootOf, fileLimit}
 use Rattle.volume.specs.Blocks.{slots, wordOf, sumOf, directory}
-use Rattle.volume.specs.Names.{nameOf, slotOf}
 use Rattle.volume.specs.Files.{sizeOf, blocksOf}
 use Rattle.answers.proofs.Tests.{pick-true, pick-false}
 use Rattle.answers.proofs.Clashes.{impossible}
-use Rattle.volume.specs.Law.{Root, Valid, Entry, Lists, ListBlock, DataBlock}
+use Rattle.volume.specs.Law.{Root, Valid, Lists, ListBlock, DataBlock}
+-- an entry that passes is placed
+pub use Rattle.volume.specs.Breaks.{Placed}
 use Rattle.volume.specs.Rules.{rootRules, rootFault, allZero, mapRules, mapFault, bitmapFault, entryTypes, entryWords, entryName, entryFault, countRules, emptyRules, fileFault, listWords, listFault, dataWords, dataLinks, dataFault}
 
 -- ---- what a passed test says, and what makes it pass
@@ -121,15 +122,7 @@ module _ (d : Disk) (s : List ℕ) (k t i : ℕ) where
   abbrev entryRules : List ℕ
   entryRules = entryTypes s k ++ (entryWords s k t ++ entryName d s k i)
 
-  -- on the chain of slot i of the directory t
-  pub record Placed : Type 0 where
-    pub sum : sumOf s k ≡ 0
-    pub entry : Entry s k
-    pub parent : wordOf s k 125 ≡ t
-    pub link : directory s k ≡ true → wordOf s k 126 ≡ 0
-    pub slot : slotOf d (nameOf s k) ≡ i
-
-  pub entry-passed : entryFault d s k t i ≡ 0 → Placed
+  pub entry-passed : entryFault d s k t i ≡ 0 → Placed d s k t i
   unfolding entryFault
   entry-passed e =
       record {
@@ -144,7 +137,7 @@ module _ (d : Disk) (s : List ℕ) (k t i : ℕ) where
       kind′ true h = inl (eqb-true _ _ h)
       kind′ false h = inr (is _ _ 7 (sym (pick-false (directory s k) _ _ _ h refl) ∙ test-at 5 entryRules e refl))
 
-  pub entry-passes : Placed → entryFault d s k t i ≡ 0
+  pub entry-passes : Placed d s k t i → entryFault d s k t i ≡ 0
   unfolding entryFault
   entry-passes h = be _ _ 7 (h .sum) & be _ _ 8 (h .entry .type) & not′ 3 (λ e. omega arith) (λ e. omega arith) & not′ 4 (λ e. omega arith) (λ e. omega arith) & not′ 0xFFFFFFFC (λ e. omega arith) (λ e. omega arith) & kind′ (h .entry .kind) & be _ _ 10 (h .entry .own) & be _ _ 10 (h .parent) & link′ (directory s k) refl & must-passes _ 11 (h .entry .name) & be _ _ 12 (h .slot) & refl
     where
@@ -185,6 +178,9 @@ module _ (s : List ℕ) (k n : ℕ) where
 
   pub count-passed : tests (countRules s k n) ≡ 0 → Lists s k n
   count-passed e = record { count = is _ _ 13 (test-at 0 (countRules s k n) e refl); more = more-passed (test-at 1 (countRules s k n) e refl) }
+
+  pub count-passes : Lists s k n → tests (countRules s k n) ≡ 0
+  count-passes p = be _ _ 14 (p .count) & more-passes (p .more) & refl
 
 -- ---- a list block
 

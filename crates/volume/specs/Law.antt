@@ -19,6 +19,10 @@ use Rattle.volume.specs.References.{Ref, to, entry, references}
 
 -- ---- the root, block r
 
+-- w80 to w104: there are no further bitmap blocks
+abbrev pub OneBitmap : List ℕ → ℕ → Type 0
+OneBitmap s r = (i : ℕ) → 80 ≤ i → i ≤ 104 → wordOf s r i ≡ 0
+
 pub record Root (s : List ℕ) (r : ℕ) : Type 0 where
   pub type : wordOf s r 0 ≡ 2
   pub kind : wordOf s r 127 ≡ 1
@@ -26,7 +30,7 @@ pub record Root (s : List ℕ) (r : ℕ) : Type 0 where
   pub table : wordOf s r 3 ≡ slots
   pub name : nameGood s r ≡ true
   -- w78 is not asked here: see `Valid`
-  pub rest : (i : ℕ) → 80 ≤ i → i ≤ 104 → wordOf s r i ≡ 0
+  pub rest : OneBitmap s r
 
 -- ---- an entry, block k: a directory or a file header
 
