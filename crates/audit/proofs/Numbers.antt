@@ -8,11 +8,12 @@ use lib.Dec.{eqb}
 use borrow.Author.Tests.{eqb-true, ne-eqb}
 use Rattle.answers.specs.Tests.{pick}
 use Rattle.answers.proofs.Between.{Between, between, some, must-between, first-between}
-use Rattle.reach.specs.Visits.{Judged, early, twice, late}
+use Rattle.reach.specs.Visits.{Judged, early, twice, late, Stops}
 use Rattle.volume.specs.declared.disk.Disk.{Disk}
 use Rattle.volume.specs.Rules.{rootFault, mapFault, bitmapFault, entryFault, fileFault, listFault, dataFault}
 use Rattle.walk.specs.Nodes.{Node, root, bitmap, entry, list, datum, hangsFault, faultOf, graph}
 use Rattle.walk.specs.Refusals.{FirstRefusal}
+use Rattle.walk.proofs.Refuses.{first-stops}
 use Rattle.audit.specs.Verdicts.{Test, size, area, tag, walk, bits, testOf}
 
 -- what a list of the walk's tests gives
@@ -61,12 +62,15 @@ module _ (d : Disk) (s : List ℕ) where
   fault-given (datum k h n c) = data-given k h _ n _
 
   pub walk-number : (v k : ℕ) → FirstRefusal d s v k → (4 ≤ v) × (v ≤ 16)
-  walk-number v k w = let g = go (w .fails) in (g .low (w .refuses), g .high)
+  walk-number v k w = stops (first-stops d s v k w)
     where
-      go : Judged (graph d s) (w .seen) (w .node) v → Given v
-      go (early b h) = subst Given b (must-between 5 tt tt _)
-      go (twice b m t) = subst Given t (some 6 tt tt)
-      go (late b m a) = subst Given a (fault-given (w .node))
+      stops : Stops (graph d s) v k → (4 ≤ v) × (v ≤ 16)
+      stops u = let g = go (u .fails) in (g .low (u .refuses), g .high)
+        where
+          go : Judged (graph d s) (u .seen) (u .node) v → Given v
+          go (early b h) = subst Given b (must-between 5 tt tt _)
+          go (twice b m t) = subst Given t (some 6 tt tt)
+          go (late b m a) = subst Given a (fault-given (u .node))
 
 -- ---- a test's number
 

@@ -11,8 +11,8 @@ use Rattle.words.specs.Word.{wordAt}
 use Rattle.volume.specs.declared.disk.Disk.{Disk}
 use Rattle.volume.specs.Disks.{imageBytes, claimBytes, tagOf}
 use Rattle.volume.specs.Law.{Tree, Valid}
-use Rattle.walk.specs.Refusals.{FirstRefusal, Refused}
-use Rattle.walk.proofs.Refuses.{refused-first, refused-why}
+use Rattle.walk.specs.Refusals.{FirstRefusal, Cause}
+use Rattle.walk.proofs.Refuses as walks
 use Rattle.audit.specs.Audits.{refuse, auditOf}
 use Rattle.audit.specs.Verdicts.{FirstWrong, Opened, Test, size, area, tag, walk, bits, testOf, Says}
 use Rattle.audit.proofs.Answers.{answers-exactly}
@@ -32,13 +32,13 @@ module _ (d : Disk) (s : List ℕ) (n v k : ℕ) where
       go walk e c = let l = walk-number d s v k (c .1) in (omega arith, omega arith)
       go bits e c = (omega arith, omega arith)
 
-  -- 4 to 16 are the walk's, and have a cause
+  -- 4 to 16 are the walk's: each exactly at the first node that fails, and each names a field of the law that its block breaks
   module _ (l : 4 ≤ v) (h : v ≤ 16) where
     pub refused-walk : (auditOf d s n ≡ refuse v k) ↔ (Opened d s n × FirstRefusal d s v k)
     refused-walk = subst (λ (t : Test). (auditOf d s n ≡ refuse v k) ↔ Says d s n v k t) (by-walk v l h) refused-exactly
 
-    pub refused-cause : auditOf d s n ≡ refuse v k → Refused d s v k
-    refused-cause r = refused-why d s v k (refused-first d s v k .1 (refused-walk .0 r .1))
+    pub refused-cause : auditOf d s n ≡ refuse v k → Cause d s v k
+    refused-cause r = walks.refused-cause d s v k (walks.refused-first d s v k .1 (refused-walk .0 r .1))
 
 -- ---- each number by itself
 

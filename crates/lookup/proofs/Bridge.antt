@@ -25,7 +25,7 @@ use Rattle.walk.proofs.Accepts.{block-reached, node-reached}
 use Rattle.walk.proofs.Chains.{chain-some}
 use Rattle.walk.proofs.Places.{Holder, chain-apart}
 use Rattle.walk.proofs.Coherent.{Coherent, leads-coherent}
-use Rattle.walk.proofs.Lawful.{tree-fine}
+use Rattle.walk.proofs.Lawful.{held-by, tree-fine}
 use Rattle.lookup.specs.declared.find.Found.the-variants.{Directory, File}
 use Rattle.lookup.specs.Paths.{longestPath, components, isComponent}
 use Rattle.lookup.specs.Search.{placeKey}
@@ -33,7 +33,7 @@ use Rattle.lookup.specs.Lookup.{refuse, findOf}
 use Rattle.lookup.specs.Trails.{Tests, Equal, First, Trail, stay, down, Names, none, into, Lies, pathOf}
 use Rattle.lookup.specs.Verdicts.{long, Opened, number-18}
 use Rattle.lookup.proofs.Refusing.{refused-exactly, directory-exactly, file-exactly}
-use Rattle.lookup.proofs.OnTrees.{held-by, place-tests, first-reached}
+use Rattle.lookup.proofs.OnTrees.{place-tests, first-reached}
 use Rattle.lookup.proofs.Joins.{Components, name-component, components-joined, joined-form}
 
 -- ---- the path of an entry

@@ -14,10 +14,10 @@ use Rattle.volume.specs.Blocks.{slots, slotWord, directory}
 use Rattle.volume.specs.Names.{slotOf}
 use Rattle.volume.specs.References.{Kind, to, references}
 use Rattle.volume.specs.Law.{chainKey, Hangs, Tree}
-use Rattle.volume.specs.Law as law
 use Rattle.volume.specs.Rules.{entryFault}
 use Rattle.volume.proofs.Passes.{root-passes, entry-passes}
 use Rattle.walk.proofs.Places.{Holder, from-chain, referred}
+use Rattle.walk.proofs.Lawful.{held-by}
 use Rattle.lookup.specs.declared.find.Found.the-variants.{Directory, File}
 use Rattle.lookup.specs.Search.{placeKey}
 use Rattle.lookup.specs.Lookup.{refuse, findOf}
@@ -33,10 +33,6 @@ unfolding inRange pick
 in-range d k h = rw (le-ltb k firstKey (h .0)) (lt-ltb k (d .blocks) (h .1))
 
 module _ (d : Disk) (s : List ℕ) (v : Tree d s) where
-  pub held-by : (t : ℕ) → Holder d s t → law.Directory d s t
-  held-by t (inl e) = rw e (v .holds)
-  held-by t (inr o) = v .directories t (o .0) (o .1) .1
-
   -- ---- place p of the chain of slot i of directory t
 
   module _ (t i p : ℕ) (holder : Holder d s t) (l : i < slots) (some : chainKey s (slotWord s t i) p ≢ 0) where
@@ -52,7 +48,7 @@ module _ (d : Disk) (s : List ℕ) (v : Tree d s) where
     pub place-fine : entryFault d s (chainKey s (slotWord s t i) p) t i ≡ 0
     place-fine =
         let h : Hangs s t i k = record { slot = l; place = p; there = refl; some = some } in
-        let b = held-by t holder in
+        let b = held-by d s v t holder in
         entry-passes d s k t i (record { sum = v .sums (to Kind.entry k) place-reached; entry = v .entries k place-reached; parent = b .parent i k h; link = λ e. v .directories k place-reached e .0; slot = b .slot i k h })
 
     pub place-near : p < chainLimit d

@@ -34,7 +34,7 @@ module _ (d : Disk) (s : List ℕ) (v : Tree d s) where
   key-lawful : (n : Node) → BlockReached n → keyFault d (keyOf d n) ≡ 0
   key-lawful n r = key-passes d (keyOf d n) (rw (key-bare d s n) at (v .keys (bare d n) r))
 
-  held-by : (t : ℕ) → Holder d s t → Directory d s t
+  pub held-by : (t : ℕ) → Holder d s t → Directory d s t
   held-by t (inl e) = rw e (v .holds)
   held-by t (inr o) = v .directories t (o .0) (o .1) .1
 

@@ -30,9 +30,13 @@ pub mod Coherent
 pub mod Lawful
 -- `tree-decided`, `volume-decided`: what the walk decides
 pub mod Decides
+-- what is met by way of nodes that pass, and where it stands
+pub mod Standing
 -- counting references of a kind
 pub mod Tallies
 -- `walked-report`: what an accepted walk hands back
 pub mod Reports
--- `refused-first`, `refused-why`: what a refusal means
+-- `refused-first`, `refused-cause`: when a refusal is given, and what it says of the volume
 pub mod Refuses
+-- `cause-breaks`: what it says is no volume
+pub mod Broken
