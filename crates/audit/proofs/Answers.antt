@@ -65,8 +65,7 @@ module _ (d : Disk) (s : List ℕ) (n : ℕ) where
       go (done c m) e = says c m e (bitsOf d s (bitmapKeyOf d s) c) refl
       go (refused v k) e =
           let w = refused-first d s v k .0 e in
-          let l = walk-number d s v k w in
-          rw (by-walk v (l .0) (l .1)) (o, w)
+          rw (by-walk v (walk-number d s v k w)) (o, w)
 
   answers : Answers (auditOf d s n)
   unfolding auditOf pick

@@ -1,72 +1,74 @@
--- The numbers of refusals: the walk's are 4 to 16 (`walk-number`), and each test knows its own (`numbered`, `by-walk`). Assumes nothing.
-use Prim.Native.Nat.{ℕ, _≤_}
+-- The numbers of refusals: the walk's are `walkRefusals` (`walk-number`), and each test knows its own (`numbered`, `by-walk`). Assumes nothing.
+use Prim.Native.Nat.{ℕ}
 use mathlib.Core.Path.{_≡_, refl, subst}
 use mathlib.Core.Bool.{Bool, true, false}
 use mathlib.Core.List.{List}
-use native.Mathlib.Omega.{arith}
 use lib.Dec.{eqb}
 use borrow.Author.Tests.{eqb-true, ne-eqb}
 use Rattle.answers.specs.Tests.{pick}
-use Rattle.answers.proofs.Between.{Between, between, some, must-between, first-between}
+use Rattle.answers.specs.Members.{_∈_}
+use Rattle.answers.proofs.Members.{unlisted}
+use Rattle.answers.proofs.Given.{Given, given, some, must-given, first-given}
 use Rattle.reach.specs.Visits.{Judged, early, twice, late}
 use Rattle.volume.specs.declared.disk.Disk.{Disk}
 use Rattle.volume.specs.Rules.{rootFault, mapFault, bitmapFault, entryFault, fileFault, listFault, dataFault}
 use Rattle.walk.specs.Nodes.{Node, root, bitmap, entry, list, datum, hangsFault, faultOf, graph}
 use Rattle.walk.specs.Refusals.{FirstRefusal}
+use Rattle.audit.specs.Audits.{walkRefusals}
 use Rattle.audit.specs.Verdicts.{Test, size, area, tag, walk, bits, testOf}
 
 -- what a list of the walk's tests gives
-abbrev Given : ℕ → Type 0
-Given v = Between 4 16 v
+abbrev ByWalk : ℕ → Type 0
+ByWalk v = Given walkRefusals v
 
 module _ (d : Disk) (s : List ℕ) where
-  root-given : Given (rootFault d s)
+  root-given : ByWalk (rootFault d s)
   unfolding rootFault
-  root-given = search between depth 16
+  root-given = search given depth 16
 
-  map-given : Given (mapFault d s)
+  map-given : ByWalk (mapFault d s)
   unfolding mapFault
-  map-given = search between depth 16
+  map-given = search given depth 16
 
-  bitmap-given : (k : ℕ) → Given (bitmapFault s k)
+  bitmap-given : (k : ℕ) → ByWalk (bitmapFault s k)
   unfolding bitmapFault
-  bitmap-given k = search between depth 16
+  bitmap-given k = search given depth 16
 
-  entry-given : (k t i : ℕ) → Given (entryFault d s k t i)
+  entry-given : (k t i : ℕ) → ByWalk (entryFault d s k t i)
   unfolding entryFault
-  entry-given k t i = search between depth 16
+  entry-given k t i = search given depth 16
 
-  file-given : (k : ℕ) → Given (fileFault d s k)
+  file-given : (k : ℕ) → ByWalk (fileFault d s k)
   unfolding fileFault
-  file-given k = search between depth 16
+  file-given k = search given depth 16
 
-  list-given : (k h n : ℕ) → Given (listFault s k h n)
+  list-given : (k h n : ℕ) → ByWalk (listFault s k h n)
   unfolding listFault
-  list-given k h n = search between depth 16
+  list-given k h n = search given depth 16
 
-  data-given : (k h z n named : ℕ) → Given (dataFault d s k h z n named)
+  data-given : (k h z n named : ℕ) → ByWalk (dataFault d s k h z n named)
   unfolding dataFault
-  data-given k h z n named = search between depth 16
+  data-given k h z n named = search given depth 16
 
-  hangs-given : (k t i p : ℕ) → Given (hangsFault d s k t i p)
+  hangs-given : (k t i p : ℕ) → ByWalk (hangsFault d s k t i p)
   unfolding hangsFault
-  hangs-given k t i p = search (between, entry-given, file-given) depth 8
+  hangs-given k t i p = search (given, entry-given, file-given) depth 8
 
-  fault-given : (n : Node) → Given (faultOf d s n)
+  fault-given : (n : Node) → ByWalk (faultOf d s n)
   unfolding faultOf
-  fault-given root = first-between _ _ root-given map-given
+  fault-given root = first-given _ _ root-given map-given
   fault-given (bitmap k) = bitmap-given k
   fault-given (entry k t i p) = hangs-given k t i p
   fault-given (list k h m c) = list-given k h _
   fault-given (datum k h n c) = data-given k h _ n _
 
-  pub walk-number : (v k : ℕ) → FirstRefusal d s v k → (4 ≤ v) × (v ≤ 16)
-  walk-number v k w = let g = go (w .fails) in (g .low (w .refuses), g .high)
+  pub walk-number : (v k : ℕ) → FirstRefusal d s v k → v ∈ walkRefusals
+  walk-number v k w = go (w .fails) .member (w .refuses)
     where
-      go : Judged (graph d s) (w .seen) (w .node) v → Given v
-      go (early b h) = subst Given b (must-between 5 tt tt _)
-      go (twice b m t) = subst Given t (some 6 tt tt)
-      go (late b m a) = subst Given a (fault-given (w .node))
+      go : Judged (graph d s) (w .seen) (w .node) v → ByWalk v
+      go (early b h) = subst ByWalk b (must-given 5 tt _)
+      go (twice b m t) = subst ByWalk t (some 6 tt)
+      go (late b m a) = subst ByWalk a (fault-given (w .node))
 
 -- ---- a test's number
 
@@ -90,6 +92,7 @@ module _ (v : ℕ) where
       go false p false q false r true w = eqb-true v 17 w
       go false p false q false r false w = tt
 
-  pub by-walk : 4 ≤ v → v ≤ 16 → testOf v ≡ walk
+  pub by-walk : v ∈ walkRefusals → testOf v ≡ walk
   unfolding pick
-  by-walk l h = rw (ne-eqb v 1 (λ e. omega arith), ne-eqb v 2 (λ e. omega arith), ne-eqb v 3 (λ e. omega arith), ne-eqb v 17 (λ e. omega arith))
+  by-walk m =
+      rw (ne-eqb v 1 (unlisted walkRefusals v 1 tt m), ne-eqb v 2 (unlisted walkRefusals v 2 tt m), ne-eqb v 3 (unlisted walkRefusals v 3 tt m), ne-eqb v 17 (unlisted walkRefusals v 17 tt m))
