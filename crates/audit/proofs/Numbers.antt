@@ -8,10 +8,10 @@ use borrow.Author.Tests.{eqb-true, ne-eqb}
 use Rattle.answers.specs.Tests.{pick}
 use Rattle.answers.specs.Members.{_∈_}
 use Rattle.answers.proofs.Members.{unlisted}
-use Rattle.answers.proofs.Given.{Given, given, some, must-given, first-given}
+use Rattle.answers.proofs.Given.{Given, none, some, must-given, never-given, pick-given, first-given, more-given}
 use Rattle.reach.specs.Visits.{Judged, early, twice, late}
 use Rattle.volume.specs.declared.disk.Disk.{Disk}
-use Rattle.volume.specs.Rules.{rootFault, mapFault, bitmapFault, entryFault, fileFault, listFault, dataFault}
+use Rattle.volume.proofs.Given.{rootRefusals, mapRefusals, bitmapRefusals, entryRefusals, fileRefusals, listRefusals, dataRefusals, root-given, map-given, bitmap-given, entry-given, file-given, list-given, data-given}
 use Rattle.walk.specs.Nodes.{Node, root, bitmap, entry, list, datum, hangsFault, faultOf, graph}
 use Rattle.walk.specs.Refusals.{FirstRefusal}
 use Rattle.audit.specs.Audits.{walkRefusals}
@@ -22,45 +22,19 @@ abbrev ByWalk : ℕ → Type 0
 ByWalk v = Given walkRefusals v
 
 module _ (d : Disk) (s : List ℕ) where
-  root-given : ByWalk (rootFault d s)
-  unfolding rootFault
-  root-given = search given depth 16
-
-  map-given : ByWalk (mapFault d s)
-  unfolding mapFault
-  map-given = search given depth 16
-
-  bitmap-given : (k : ℕ) → ByWalk (bitmapFault s k)
-  unfolding bitmapFault
-  bitmap-given k = search given depth 16
-
-  entry-given : (k t i : ℕ) → ByWalk (entryFault d s k t i)
-  unfolding entryFault
-  entry-given k t i = search given depth 16
-
-  file-given : (k : ℕ) → ByWalk (fileFault d s k)
-  unfolding fileFault
-  file-given k = search given depth 16
-
-  list-given : (k h n : ℕ) → ByWalk (listFault s k h n)
-  unfolding listFault
-  list-given k h n = search given depth 16
-
-  data-given : (k h z n named : ℕ) → ByWalk (dataFault d s k h z n named)
-  unfolding dataFault
-  data-given k h z n named = search given depth 16
-
   hangs-given : (k t i p : ℕ) → ByWalk (hangsFault d s k t i p)
   unfolding hangsFault
-  hangs-given k t i p = search (given, entry-given, file-given) depth 8
+  hangs-given k t i p =
+      first-given _ _ (more-given entryRefusals _ tt (entry-given d s k t i))
+      (first-given _ _ (never-given 13 tt _) (pick-given _ _ _ none (more-given fileRefusals _ tt (file-given d s k))))
 
   fault-given : (n : Node) → ByWalk (faultOf d s n)
   unfolding faultOf
-  fault-given root = first-given _ _ root-given map-given
-  fault-given (bitmap k) = bitmap-given k
+  fault-given root = first-given _ _ (more-given rootRefusals _ tt (root-given d s)) (more-given mapRefusals _ tt (map-given d s))
+  fault-given (bitmap k) = more-given bitmapRefusals _ tt (bitmap-given s k)
   fault-given (entry k t i p) = hangs-given k t i p
-  fault-given (list k h m c) = list-given k h _
-  fault-given (datum k h n c) = data-given k h _ n _
+  fault-given (list k h m c) = more-given listRefusals _ tt (list-given s k h _)
+  fault-given (datum k h n c) = more-given dataRefusals _ tt (data-given d s k h _ n _)
 
   pub walk-number : (v k : ℕ) → FirstRefusal d s v k → v ∈ walkRefusals
   walk-number v k w = go (w .fails) .member (w .refuses)

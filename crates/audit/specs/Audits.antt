@@ -92,7 +92,8 @@ pub record Tagged (d : Disk) (s : List ℕ) (n : ℕ) (r : Audited) (claim′ : 
   pub answer : r ≡ walked d s (walkOf d s)
   pub claim : claim′ ≡ leaves d s r n
 
--- of an audit
+-- of an audit, whose answer is said also by its numbers
 pub record Audits (d : Disk) (s : List ℕ) (n : ℕ) (r : Audited) (claim′ : List ℕ) : Type 0 where
   pub answer : r ≡ auditOf d s n
+  pub numbers : numbersOf r ≡ numbersOf (auditOf d s n)
   pub claim : claim′ ≡ leaves d s r n

@@ -91,8 +91,8 @@ module _ (d : Disk) (s path : List ℕ) where
   pub find-refused-exactly : (v k : ℕ) → (lookup.findOf d s path ≡ lookup.refuse v k) ↔ lookups.Refuses d s path v k
   find-refused-exactly v k = missing.refused-exactly d s path v k
 
-  pub find-determined : (r r′ : Found) → r ≡ lookup.findOf d s path → r′ ≡ lookup.findOf d s path → (lookup.numbersOf r ≡ lookup.numbersOf r′) × (r ≡ r′)
-  find-determined r r′ e e′ = finding.find-determined d s path r r′ e e′
+  pub find-determined : (r r′ : Found) → lookup.Finds d s path r → lookup.Finds d s path r′ → (lookup.numbersOf r ≡ lookup.numbersOf r′) × (r ≡ r′)
+  find-determined r r′ a a′ = finding.find-determined d s path r r′ a a′
 
   -- bytes exactly if the path leads to a file whose blocks all pass; every refusal exactly then
   pub read-exactly : (o n m : ℕ) → (read.readOf d s path o n ≡ reading.Bytes m) ↔ outcomes.Gives d s path o n m

@@ -8,11 +8,12 @@ use Rattle.answers.specs.Members.{_∈_}
 use Rattle.answers.proofs.Members.{listed, unlisted, in-part}
 use Rattle.answers.proofs.Clashes.{impossible}
 use Rattle.volume.specs.declared.disk.Disk.{Disk}
+use Rattle.volume.proofs.Given.{rootRefusals, entryRefusals}
 use Rattle.lookup.specs.declared.find.Found.{Found}
 use Rattle.lookup.specs.declared.find.Found.the-variants.{Directory, File, Refused}
 use Rattle.lookup.specs.Lookup.{numbersOf, findRefusals, refuse, findOf, Finds}
 use Rattle.lookup.specs.Verdicts.{Refuses, number-1, number-18, number-3, of-root, number-5, number-6, of-entry, number-19, number-20}
-use Rattle.lookup.proofs.Refusing.{rootRefusals, entryRefusals, root-number, entry-number, refused-exactly}
+use Rattle.lookup.proofs.Refusing.{root-number, entry-number, refused-exactly}
 
 module _ (d : Disk) (s path : List ℕ) (v k : ℕ) where
   -- a refusal's number is one of these

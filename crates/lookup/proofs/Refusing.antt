@@ -3,7 +3,7 @@ use Prim.Native.Nat.{ℕ, zero, suc, _+_, _≤_, _<_}
 use mathlib.Core.Path.{_≡_, refl, sym, ap, _∙_}
 use mathlib.Core.Logic.{_≢_, _↔_}
 use mathlib.Core.Bool.{Bool, true, false}
-use mathlib.Core.List.{List, [], _∷_}
+use mathlib.Core.List.{List}
 use native.Mathlib.Omega.{arith}
 use lib.Dec.{ltb}
 use lib.ListN.{length}
@@ -14,11 +14,11 @@ use Rattle.answers.specs.declared.Tested.the-variants.{Failed}
 use Rattle.answers.proofs.Clashes.{impossible}
 use Rattle.answers.specs.Members.{_∈_}
 use Rattle.answers.proofs.Members.{unlisted}
-use Rattle.answers.proofs.Given.{Given, given}
 use Rattle.volume.specs.declared.disk.Disk.{Disk}
 use Rattle.volume.specs.Disks.{rootOf, inRange, chainLimit}
 use Rattle.volume.specs.Names.{slotOf}
 use Rattle.volume.specs.Rules.{rootFault, entryFault}
+use Rattle.volume.proofs.Given.{rootRefusals, entryRefusals, root-given, entry-given}
 use Rattle.lookup.specs.declared.find.Found.the-variants.{Directory, File}
 use Rattle.lookup.specs.Paths.{components}
 use Rattle.lookup.specs.Search.{placeFault}
@@ -30,20 +30,6 @@ use Rattle.lookup.proofs.Trails.{holds, file, used, missing, fault}
 use Rattle.lookup.proofs.Deciding.{form-exactly, number-is, place-is, Why, image, form, tag, root, leads-to, find-why, why-find}
 
 -- ---- which numbers tests give
-
-abbrev pub rootRefusals : List ℕ
-rootRefusals = 4 ∷ 7 ∷ 8 ∷ 11 ∷ []
-
-abbrev pub entryRefusals : List ℕ
-entryRefusals = 7 ∷ 8 ∷ 9 ∷ 10 ∷ 11 ∷ 12 ∷ []
-
-root-given : (d : Disk) (s : List ℕ) → Given rootRefusals (rootFault d s)
-unfolding rootFault
-root-given d s = search given depth 16
-
-entry-given : (d : Disk) (s : List ℕ) (k t i : ℕ) → Given entryRefusals (entryFault d s k t i)
-unfolding entryFault
-entry-given d s k t i = search given depth 16
 
 pub root-number : (d : Disk) (s : List ℕ) (v : ℕ) → v ≢ 0 → rootFault d s ≡ v → v ∈ rootRefusals
 root-number d s v z e = rw e at (root-given d s) .member z

@@ -19,3 +19,5 @@ pub mod Passing
 pub mod Refusing
 -- `volume-file-passes`, `volume-read-whole`, `volume-read-answers`: reads on a volume
 pub mod OnVolumes
+-- the answer as numbers: `number-listed`, `zero-exactly`
+pub mod AsNumbers

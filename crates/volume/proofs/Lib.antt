@@ -11,3 +11,5 @@ pub mod Faults
 pub mod Passes
 -- the starred cases hold
 pub mod Stars
+-- which numbers the tests of each kind of block give
+pub mod Given
