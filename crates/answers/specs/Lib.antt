@@ -3,3 +3,5 @@
 pub mod Tests
 -- refusals, as definitions write them
 pub mod Refusals
+-- what a list holds
+pub mod Members

@@ -17,7 +17,7 @@ use Rattle.walk.specs.declared.Counts.{Counts}
 use Rattle.walk.specs.Nodes.{walkOf}
 use Rattle.walk.proofs.Decides.{tree-decided}
 use Rattle.walk.proofs.Reports.{walked-report}
-use Rattle.walk.proofs.Refuses.{refused-first}
+use Rattle.walk.proofs.Refuses.{refused-first, refused-cause}
 use Rattle.audit.specs.declared.bitmap.Mapped.{Mapped}
 use Rattle.audit.specs.declared.bitmap.Mapped.the-variants.{Right, Wrong}
 use Rattle.audit.specs.declared.audit.Report.{Report}
@@ -66,8 +66,7 @@ module _ (d : Disk) (s : List ℕ) (n : ℕ) where
       go (done c m) e = says c m e (bitsOf d s (bitmapKeyOf d s) c) refl
       go (refused v k) e =
           let w = refused-first d s v k .0 e in
-          let l = walk-number d s v k w in
-          rw (by-walk v (l .0) (l .1)) (o, w)
+          rw (by-walk v (walk-number d s v k (refused-cause d s v k e))) (o, w)
 
   answers : Answers (auditOf d s n)
   unfolding auditOf pick

@@ -33,7 +33,7 @@ use Rattle.audit.specs.declared.audit.Audited.{Audited}
 use Rattle.audit.specs.declared.audit.Audited.the-variants.{Accepted, Refused}
 use Rattle.audit.specs.Walks.{Met, Walks, Ready, total, goesOn}
 use Rattle.audit.specs.Bits.{bitsOf}
-use Rattle.audit.specs.Audits.{refuse, reportOf, auditOf, Within, Tagged, Audits}
+use Rattle.audit.specs.Audits.{numbersOf, refuse, reportOf, leaves, auditOf, Within, Tagged, Audits}
 use Rattle.audit.proofs.Walking.{walks-none, walks-stopped, walks-then, walks-part, met-inside, met-stops, met-goes, ready-met}
 
 -- ---- the root and the bitmap block
@@ -151,24 +151,28 @@ module _ (d : Disk) (X : List ℕ) (n : ℕ) (e : n ≡ claimBytes d) (z : X ≡
 
 -- ---- the tests before the walk
 
+-- the answer's numbers are those of the answer
+audited : (d : Disk) (s : List ℕ) (n : ℕ) (r : Audited) (claim′ : List ℕ) → r ≡ auditOf d s n → claim′ ≡ leaves d s r n → Audits d s n r claim′
+audited d s n r claim′ e c = record { answer = e; numbers = ap numbersOf e; claim = c }
+
 module _ (d : Disk) (s X : List ℕ) (n b : ℕ) (r : Audited) (z : X ≡ replicate n 0) (e : b ≡ imageBytes d) where
   pub audit-length : (length s ≡ b → ⊥) → r ≡ refuse 1 0 → Audits d s n r X
   unfolding auditOf pick
-  audit-length h q = record { answer = q ∙ rw (ne-eqb (length s) (imageBytes d) (λ f. h (f ∙ sym e))) refl; claim = rw q z }
+  audit-length h q = audited d s n r X (q ∙ rw (ne-eqb (length s) (imageBytes d) (λ f. h (f ∙ sym e))) refl) (rw q z)
 
   module _ (l : length s ≡ b) (a m : ℕ) (f : a ≡ claimBytes d) (g : m ≡ n) where
     pub audit-short : m < a → r ≡ refuse 2 0 → Audits d s n r X
     unfolding auditOf pick
-    audit-short h q = record { answer = q ∙ rw (eq-eqb (length s) (imageBytes d) (l ∙ e), lt-ltb n (claimBytes d) (omega arith)) refl; claim = rw q z }
+    audit-short h q = audited d s n r X (q ∙ rw (eq-eqb (length s) (imageBytes d) (l ∙ e), lt-ltb n (claimBytes d) (omega arith)) refl) (rw q z)
 
     module _ (h : a ≤ m) (t : Bool) (u : t ≡ eqb (wordAt s 0) (tagOf d)) where
       pub audit-untagged : t ≡ false → r ≡ refuse 3 0 → Audits d s n r X
       unfolding auditOf pick
-      audit-untagged v q = record { answer = q ∙ rw (eq-eqb (length s) (imageBytes d) (l ∙ e), le-ltb n (claimBytes d) (omega arith), sym u ∙ v) refl; claim = rw q z }
+      audit-untagged v q = audited d s n r X (q ∙ rw (eq-eqb (length s) (imageBytes d) (l ∙ e), le-ltb n (claimBytes d) (omega arith), sym u ∙ v) refl) (rw q z)
 
       pub audit-goes : (Y : List ℕ) → t ≡ true → Tagged d s m r Y → Audits d s n r Y
       unfolding auditOf pick
-      audit-goes Y v w = record { answer = w .answer ∙ rw (eq-eqb (length s) (imageBytes d) (l ∙ e), le-ltb n (claimBytes d) (omega arith), sym u ∙ v) refl; claim = rw g at (w .claim) }
+      audit-goes Y v w = audited d s n r Y (w .answer ∙ rw (eq-eqb (length s) (imageBytes d) (l ∙ e), le-ltb n (claimBytes d) (omega arith), sym u ∙ v) refl) (rw g at (w .claim))
 
 pub all-zero : (X : List ℕ) (n : ℕ) → X ≡ replicate n 0 → length X ≡ n → X ≡ replicate (length X) 0
 all-zero X n z l = rw l z

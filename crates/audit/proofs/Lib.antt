@@ -21,3 +21,5 @@ pub mod Answers
 pub mod Accepting
 -- what a refused audit says: `refused-exactly`, each number by itself, and `refused-number`
 pub mod Refusing
+-- the answer as numbers: `number-listed`, `zero-exactly`
+pub mod AsNumbers

@@ -4,41 +4,45 @@ use Prim.Native.Nat.{ℕ, _≤_, _<_}
 use mathlib.Core.Path.{_≡_, subst}
 use mathlib.Core.Logic.{_≢_, _↔_}
 use mathlib.Core.List.{List}
-use native.Mathlib.Omega.{arith}
 use lib.ListN.{length}
 use Rattle.answers.specs.Tests.{pick}
+use Rattle.answers.specs.Members.{_∈_}
+use Rattle.answers.proofs.Members.{listed, in-part}
 use Rattle.words.specs.Word.{wordAt}
 use Rattle.volume.specs.declared.disk.Disk.{Disk}
 use Rattle.volume.specs.Disks.{imageBytes, claimBytes, tagOf}
 use Rattle.volume.specs.Law.{Tree, Valid}
 use Rattle.walk.specs.Refusals.{FirstRefusal, Cause}
 use Rattle.walk.proofs.Refuses as walks
-use Rattle.audit.specs.Audits.{refuse, auditOf}
+use Rattle.audit.specs.Audits.{walkRefusals, auditRefusals, refuse, auditOf}
 use Rattle.audit.specs.Verdicts.{FirstWrong, Opened, Test, size, area, tag, walk, bits, testOf, Says}
 use Rattle.audit.proofs.Answers.{answers-exactly}
 use Rattle.audit.proofs.Numbers.{Numbered, walk-number, numbered, by-walk}
+
+caused : (d : Disk) (s : List ℕ) (v k : ℕ) → FirstRefusal d s v k → Cause d s v k
+caused d s v k w = walks.refused-cause d s v k (walks.refused-first d s v k .1 w)
 
 module _ (d : Disk) (s : List ℕ) (n v k : ℕ) where
   pub refused-exactly : (auditOf d s n ≡ refuse v k) ↔ Says d s n v k (testOf v)
   refused-exactly = answers-exactly d s n (refuse v k)
 
-  pub refused-number : auditOf d s n ≡ refuse v k → (1 ≤ v) × (v ≤ 17)
+  pub refused-number : auditOf d s n ≡ refuse v k → v ∈ auditRefusals
   refused-number r = go (testOf v) (numbered v) (refused-exactly .0 r)
     where
-      go : (t : Test) → Numbered v t → Says d s n v k t → (1 ≤ v) × (v ≤ 17)
-      go size e c = (omega arith, omega arith)
-      go area e c = (omega arith, omega arith)
-      go tag e c = (omega arith, omega arith)
-      go walk e c = let l = walk-number d s v k (c .1) in (omega arith, omega arith)
-      go bits e c = (omega arith, omega arith)
+      go : (t : Test) → Numbered v t → Says d s n v k t → v ∈ auditRefusals
+      go size e c = rw e (listed auditRefusals 1 tt)
+      go area e c = rw e (listed auditRefusals 2 tt)
+      go tag e c = rw e (listed auditRefusals 3 tt)
+      go walk e c = in-part walkRefusals auditRefusals v tt (walk-number d s v k (caused d s v k (c .1)))
+      go bits e c = rw e (listed auditRefusals 17 tt)
 
-  -- 4 to 16 are the walk's: each exactly at the first node that fails, and each names a field of the law that its block breaks
-  module _ (l : 4 ≤ v) (h : v ≤ 16) where
+  -- the walk's are given exactly at the first node that fails, and each names a field of the law that its block breaks
+  module _ (h : v ∈ walkRefusals) where
     pub refused-walk : (auditOf d s n ≡ refuse v k) ↔ (Opened d s n × FirstRefusal d s v k)
-    refused-walk = subst (λ (t : Test). (auditOf d s n ≡ refuse v k) ↔ Says d s n v k t) (by-walk v l h) refused-exactly
+    refused-walk = subst (λ (t : Test). (auditOf d s n ≡ refuse v k) ↔ Says d s n v k t) (by-walk v h) refused-exactly
 
     pub refused-cause : auditOf d s n ≡ refuse v k → Cause d s v k
-    refused-cause r = walks.refused-cause d s v k (walks.refused-first d s v k .1 (refused-walk .0 r .1))
+    refused-cause r = caused d s v k (refused-walk .0 r .1)
 
 -- ---- each number by itself
 

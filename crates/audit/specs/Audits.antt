@@ -2,7 +2,7 @@
 -- claim area, the boot tag, then the walk from the root, and the bitmap last.
 use Prim.Native.Nat.{ℕ, _+_, _-_}
 use mathlib.Core.Path.{_≡_}
-use mathlib.Core.List.{List, [], _++_}
+use mathlib.Core.List.{List, [], _∷_, _++_}
 use lib.Dec.{eqb, ltb}
 use lib.ListN.{length, replicate}
 use Rattle.answers.specs.Tests.{pick}
@@ -33,6 +33,14 @@ nothingToReport = record { directories = 0; files = 0; lists = 0; blocks = 0; us
 abbrev pub numbersOf : Audited → Numbers
 numbersOf (Accepted r) = record { number = 0; place = 0; report = r }
 numbersOf (Refused r) = record { number = r .number; place = r .place; report = nothingToReport }
+
+-- the numbers of the walk's refusals
+abbrev pub walkRefusals : List ℕ
+walkRefusals = 4 ∷ 5 ∷ 6 ∷ 7 ∷ 8 ∷ 9 ∷ 10 ∷ 11 ∷ 12 ∷ 13 ∷ 14 ∷ 15 ∷ 16 ∷ []
+
+-- and of all that an audit gives
+abbrev pub auditRefusals : List ℕ
+auditRefusals = 1 ∷ 2 ∷ 3 ∷ (walkRefusals ++ (17 ∷ []))
 
 abbrev pub refuse : ℕ → ℕ → Audited
 refuse v k = Refused (refusal v k)
@@ -84,7 +92,8 @@ pub record Tagged (d : Disk) (s : List ℕ) (n : ℕ) (r : Audited) (claim′ : 
   pub answer : r ≡ walked d s (walkOf d s)
   pub claim : claim′ ≡ leaves d s r n
 
--- of an audit
+-- of an audit, whose answer is said also by its numbers
 pub record Audits (d : Disk) (s : List ℕ) (n : ℕ) (r : Audited) (claim′ : List ℕ) : Type 0 where
   pub answer : r ≡ auditOf d s n
+  pub numbers : numbersOf r ≡ numbersOf (auditOf d s n)
   pub claim : claim′ ≡ leaves d s r n

@@ -8,6 +8,7 @@ use Rattle.answers.specs.declared.Refusal.{Refusal}
 use Rattle.program.specs.declared.check.Answer.{Answer}
 use Rattle.program.specs.declared.check.Answer.the-variants.{Accepted, Refused}
 use Rattle.program.specs.Header.{totalOf}
+use Rattle.program.specs.Check.{numbersOf}
 use Rattle.loader.specs.declared.calls.Outcome.{Outcome}
 use Rattle.loader.specs.Table.{recordsOf}
 use Rattle.loader.specs.Calls.{handed, LoadsCore, MovesCore}
@@ -64,6 +65,7 @@ module _ (file bases m : List ℕ) (t : List Hunk) (w : List ℕ) (c : Counted) 
   load-returns t1 e =
       record {
         answer = h .core .answer;
+        numbers = ap numbersOf (h .core .answer);
         loaded = h .core .loaded;
         recorded = e ∙ filled-by (c .answer) file bases (c .numbers) (c .count) t (h .room .counts) (h .core .numbers) (λ x n q. load-facts file bases (length m) (length t) (length w) x n (c .answer) (h .core .answer) q .file-good .hunks);
         clean = h .core .clean;
@@ -77,6 +79,7 @@ module _ (file old new m : List ℕ) (t : List Hunk) (w : List ℕ) (c : Counted
   move-returns t1 e =
       record {
         answer = h .core .answer;
+        numbers = ap numbersOf (h .core .answer);
         shifted = h .core .shifted;
         recorded = e ∙ filled-by (c .answer) file new (c .numbers) (c .count) t (h .room .counts) (h .core .numbers) (λ x n q. move-facts file old new (length m) (length t) (length w) x n (c .answer) (h .core .answer) q .load .file-good .hunks);
         clean = h .core .clean;

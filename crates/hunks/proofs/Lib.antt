@@ -15,3 +15,5 @@ pub mod Deciding
 pub mod PageTables
 -- an accepted call in the page's terms
 pub mod PageCalls
+-- the answer as numbers
+pub mod AsNumbers

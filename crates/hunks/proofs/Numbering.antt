@@ -8,6 +8,7 @@ use lib.Seq.{drop-cons, drop-nil, take-all}
 use Rattle.program.specs.declared.check.Answer.{Answer}
 use Rattle.program.specs.declared.check.Answer.the-variants.{Accepted, Refused}
 use Rattle.program.specs.Header.{totalOf}
+use Rattle.program.specs.Check.{numbersOf}
 use Rattle.program.specs.Sane.{Sound}
 use Rattle.loader.specs.Table.{recordsOf, tableOf}
 use Rattle.loader.specs.Calls.{loadAnswer, moveAnswer, effect}
@@ -92,8 +93,10 @@ as-numbers (Refused r) file bases t t1 e f = ap numbersIn e
 
 pub load-numbers : (file bases m : List ℕ) (t : List Hunk) (w : List ℕ) (r : Answer) (m1 : List ℕ) (t1 : List Hunk) (w1 : List ℕ) → Loads file bases m t w r m1 t1 w1 → numbers.Loads file bases m (numbersIn t) w r m1 (numbersIn t1) w1
 load-numbers file bases m t w r m1 t1 w1 l =
+    let e : r ≡ loadAnswer file bases (length m) (length (numbersIn t) / 4) (length w) = l .answer ∙ ap (λ k. loadAnswer file bases (length m) k (length w)) (sym (quarter t)) in
     record {
-      answer = l .answer ∙ ap (λ k. loadAnswer file bases (length m) k (length w)) (sym (quarter t));
+      answer = e;
+      numbers = ap numbersOf e;
       loaded = l .loaded;
       recorded = as-numbers r file bases t t1 (l .recorded) (λ x n e. load-facts file bases (length m) (length t) (length w) x n r (l .answer) e .file-good .sound);
       clean = l .clean;
@@ -101,8 +104,10 @@ load-numbers file bases m t w r m1 t1 w1 l =
 
 pub move-numbers : (file old new m : List ℕ) (t : List Hunk) (w : List ℕ) (r : Answer) (m1 : List ℕ) (t1 : List Hunk) (w1 : List ℕ) → Moves file old new m t w r m1 t1 w1 → numbers.Moves file old new m (numbersIn t) w r m1 (numbersIn t1) w1
 move-numbers file old new m t w r m1 t1 w1 l =
+    let e : r ≡ moveAnswer file old new (length m) (length (numbersIn t) / 4) (length w) = l .answer ∙ ap (λ k. moveAnswer file old new (length m) k (length w)) (sym (quarter t)) in
     record {
-      answer = l .answer ∙ ap (λ k. moveAnswer file old new (length m) k (length w)) (sym (quarter t));
+      answer = e;
+      numbers = ap numbersOf e;
       shifted = l .shifted;
       recorded = as-numbers r file new t t1 (l .recorded) (λ x n e. move-facts file old new (length m) (length t) (length w) x n r (l .answer) e .load .file-good .sound);
       clean = l .clean;

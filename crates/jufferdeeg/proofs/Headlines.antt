@@ -45,7 +45,6 @@ use Rattle.loader.specs.Memory.{targetsOf, amountOf, moved}
 use Rattle.loader.specs.Near.{clashOf}
 use Rattle.loader.specs.Pages.{imageOf, pageTargets, targetsIn, aimOf, Adds, Outside, placedHunks}
 use Rattle.loader.specs.Verdicts.{LoadWhy, MoveWhy, Member, ClashWhy}
-use Rattle.loader.specs.Moving.{Addresses}
 use Rattle.loader.proofs.Refusing as unloaded
 use Rattle.loader.proofs.NearTargets as nearness
 use Rattle.loader.proofs.OneHunk as onehunk
@@ -91,8 +90,8 @@ module _ (d : Disk) (s path : List ℕ) where
   pub find-refused-exactly : (v k : ℕ) → (lookup.findOf d s path ≡ lookup.refuse v k) ↔ lookups.Refuses d s path v k
   find-refused-exactly v k = missing.refused-exactly d s path v k
 
-  pub find-determined : (r r′ : Found) → r ≡ lookup.findOf d s path → r′ ≡ lookup.findOf d s path → (lookup.numbersOf r ≡ lookup.numbersOf r′) × (r ≡ r′)
-  find-determined r r′ e e′ = finding.find-determined d s path r r′ e e′
+  pub find-determined : (r r′ : Found) → lookup.Finds d s path r → lookup.Finds d s path r′ → (lookup.numbersOf r ≡ lookup.numbersOf r′) × (r ≡ r′)
+  find-determined r r′ a a′ = finding.find-determined d s path r r′ a a′
 
   -- bytes exactly if the path leads to a file whose blocks all pass; every refusal exactly then
   pub read-exactly : (o n m : ℕ) → (read.readOf d s path o n ≡ reading.Bytes m) ↔ outcomes.Gives d s path o n m
@@ -160,22 +159,22 @@ module _ (file m : List ℕ) (t : List Hunk) (w : List ℕ) (x n : ℕ) (m1 : Li
 
 module _ (file m : List ℕ) (t : List Hunk) (w : List ℕ) where
   -- a load at A moved to B is a load at B
-  pub load-move : (A B : List ℕ) (x n y k : ℕ) → Addresses A → (m1 : List ℕ) (t1 : List Hunk) (w1 mB : List ℕ) (tB : List Hunk) (wB : List ℕ) → Loads file A m t w (Accepted x n) m1 t1 w1 → Loads file B m t w (Accepted y k) mB tB wB
+  pub load-move : (A B : List ℕ) (x n y k : ℕ) → (m1 : List ℕ) (t1 : List Hunk) (w1 mB : List ℕ) (tB : List Hunk) (wB : List ℕ) → Loads file A m t w (Accepted x n) m1 t1 w1 → Loads file B m t w (Accepted y k) mB tB wB
       → (w′ m2 : List ℕ) (t2 : List Hunk) (w2 : List ℕ) (r : Answer) → length w′ ≡ length w → Moves file A B m1 t1 w′ r m2 t2 w2 → (r ≡ Accepted y k) × (m2 ≡ mB) × (t2 ≡ tB) × (w2 ≡ wB)
   load-move A B x n y k = moving.load-move file m t w x n A B y k
 
   -- A to B to C is A to C, on memory with any contents
-  pub move-move : (A B C : List ℕ) (x n y k z j : ℕ) → LoadsAt file A m t w x n → LoadsAt file B m t w y k → LoadsAt file C m t w z j → Addresses A → Addresses B
+  pub move-move : (A B C : List ℕ) (x n y k z j : ℕ) → LoadsAt file A m t w x n → LoadsAt file B m t w y k → LoadsAt file C m t w z j
       → (m′ : List ℕ) (t′ : List Hunk) (w′ w″ w‴ m1 : List ℕ) (t1 : List Hunk) (w1 m2 : List ℕ) (t2 : List Hunk) (w2 m3 : List ℕ) (t3 : List Hunk) (w3 : List ℕ) (r1 r2 r3 : Answer) → SameRoom m t w m′ t′ w′ → length w″ ≡ length w → length w‴ ≡ length w
-      → Moves file A B m′ t′ w′ r1 m1 t1 w1 → Moves file B C m1 t1 w″ r2 m2 t2 w2 → Moves file A C m′ t′ w‴ r3 m3 t3 w3 → (r1 ≡ Accepted x n) × (r2 ≡ r3) × (m2 ≡ m3) × (t2 ≡ t3) × (w2 ≡ w3)
+      → Moves file A B m′ t′ w′ r1 m1 t1 w1 → Moves file B C m1 t1 w″ r2 m2 t2 w2 → Moves file A C m′ t′ w‴ r3 m3 t3 w3 → (r1 ≡ Accepted x n) × (r2 ≡ Accepted x n) × (r3 ≡ Accepted x n) × (m2 ≡ m3) × (t2 ≡ t3) × (w2 ≡ w3)
   move-move A B C x n y k z j a b c = moving.move-move file m t w x n A a B C y k z j b c
 
   -- A to A changes no byte of memory
-  pub move-stays : (A : List ℕ) (x n : ℕ) → LoadsAt file A m t w x n → Addresses A → (m′ : List ℕ) (t′ : List Hunk) (w′ m1 : List ℕ) (t1 : List Hunk) (w1 : List ℕ) (r : Answer) → Bytes m′ → SameRoom m t w m′ t′ w′ → Moves file A A m′ t′ w′ r m1 t1 w1 → (r ≡ Accepted x n) × (m1 ≡ m′)
+  pub move-stays : (A : List ℕ) (x n : ℕ) → LoadsAt file A m t w x n → (m′ : List ℕ) (t′ : List Hunk) (w′ m1 : List ℕ) (t1 : List Hunk) (w1 : List ℕ) (r : Answer) → Bytes m′ → SameRoom m t w m′ t′ w′ → Moves file A A m′ t′ w′ r m1 t1 w1 → (r ≡ Accepted x n) × (m1 ≡ m′)
   move-stays A x n a = moving.move-stays file m t w x n A a
 
   -- A to B and back brings every byte back
-  pub move-back : (A B : List ℕ) (x n y k : ℕ) → LoadsAt file A m t w x n → LoadsAt file B m t w y k → Addresses A → Addresses B
+  pub move-back : (A B : List ℕ) (x n y k : ℕ) → LoadsAt file A m t w x n → LoadsAt file B m t w y k
       → (m′ : List ℕ) (t′ : List Hunk) (w′ w″ m1 : List ℕ) (t1 : List Hunk) (w1 m2 : List ℕ) (t2 : List Hunk) (w2 : List ℕ) (r1 r2 : Answer) → Bytes m′ → SameRoom m t w m′ t′ w′ → length w″ ≡ length w
       → Moves file A B m′ t′ w′ r1 m1 t1 w1 → Moves file B A m1 t1 w″ r2 m2 t2 w2 → (r1 ≡ Accepted x n) × (r2 ≡ Accepted x n) × (m2 ≡ m′)
   move-back A B x n y k a b = moving.move-back file m t w x n A a B y k b

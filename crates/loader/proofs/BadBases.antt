@@ -7,12 +7,14 @@ use mathlib.Core.Logic.{_↔_, _⊎_, inl, inr}
 use native.Mathlib.Omega.{arith}
 use native.Mathlib.Decide.{decLt}
 use lib.Dec.{ltb, eqb}
-use lib.ListN.{length}
+use lib.ListN.{length, List·getD-eq-default}
 use borrow.Author.Tests.{ltb-true, ltb-false, eqb-true, eqb-false, lt-ltb, eq-eqb, ne-eqb}
 use Rattle.answers.specs.Tests.{pick}
 use Rattle.answers.specs.Refusals.{refusal}
 use Rattle.answers.specs.declared.Refusal.{Refusal}
-use Rattle.answers.specs.declared.Tested.the-variants.{Failed}
+use Rattle.answers.specs.declared.Tested.the-variants.{Passed, Failed}
+use Rattle.answers.proofs.Tests.{pick-passed}
+use Rattle.answers.proofs.Clashes.{impossible}
 use Rattle.program.specs.Header.{totalOf}
 use Rattle.program.proofs.Answers.{not-failed}
 use Rattle.loader.specs.Memory.{amountOf}
@@ -166,3 +168,54 @@ module _ (file bases : List ℕ) where
 
   pub entry-why : (i : ℕ) → (entryBad file bases i ≡ true) ↔ EntryWhy file bases i
   entry-why i = (entry-there i, entry-back i)
+
+  -- an entry that is not bad
+  pub entry-fine : (i : ℕ) → entryBad file bases i ≡ false → EntryWhy file bases i → ⊥
+  entry-fine i h w = no-bool (sym h ∙ entry-back i w)
+
+-- ---- a list passes exactly if its count is right and no entry is bad, wherever it counts from
+
+module _ (file bases : List ℕ) (from : ℕ) where
+  from-passed : (i n : ℕ) → basesFrom file bases from i n ≡ Passed → (k : ℕ) → i ≤ k → k < i + n → entryBad file bases k ≡ false
+  unfolding basesFrom
+  from-passed i zero h k a b = absurd (omega arith)
+  from-passed i (suc n) h k a b =
+      let p = pick-passed (entryBad file bases i) (refusal 40 (from + i)) (basesFrom file bases from (i + 1) n) h in
+      go (decLt i k) (p .0) (λ l. from-passed (i + 1) n (p .1) k (omega arith) (omega arith))
+    where
+      go : Dec (i < k) → entryBad file bases i ≡ false → (i < k → entryBad file bases k ≡ false) → entryBad file bases k ≡ false
+      go (yes l) e g = g l
+      go (no l) e g = let q : i ≡ k = omega arith in subst (λ (z : ℕ). entryBad file bases z ≡ false) q e
+
+  from-good : (i n : ℕ) → ((k : ℕ) → i ≤ k → k < i + n → entryBad file bases k ≡ false) → basesFrom file bases from i n ≡ Passed
+  unfolding basesFrom
+  from-good i zero g = refl
+  from-good i (suc n) g = pick-goes _ _ _ _ (g i (omega arith) (omega arith)) (from-good (i + 1) n (λ k a b. g k (omega arith) (omega arith)))
+
+  pub bases-exactly : (basesFault file bases from ≡ Passed) ↔ ((length bases ≡ totalOf file) × ((k : ℕ) → k < totalOf file → entryBad file bases k ≡ false))
+  unfolding basesFault pick
+  bases-exactly = (
+    λ h. go (eqb (length bases) (totalOf file)) refl h,
+    λ h. rw (eq-eqb _ _ (h .0)) (from-good 0 (totalOf file) (λ k a b. h .1 k (omega arith))),
+  )
+    where
+      go : (b : Bool) → eqb (length bases) (totalOf file) ≡ b → pick b (basesFrom file bases from 0 (totalOf file)) (Failed (refusal 40 from)) ≡ Passed → (length bases ≡ totalOf file) × ((k : ℕ) → k < totalOf file → entryBad file bases k ≡ false)
+      go true e q = (eqb-true _ _ e, λ k l. from-passed 0 (totalOf file) q k (omega arith) (omega arith))
+      go false e q = impossible cc
+
+  -- every entry of such a list is at most 2^32; one past its end is 0
+  pub low-bases : basesFault file bases from ≡ Passed → (k : ℕ) → amountOf bases k ≤ 2 ^ 32
+  low-bases h k = let g = bases-exactly .0 h in go (decLt k (totalOf file)) (g .0) (g .1)
+    where
+      go : Dec (k < totalOf file) → length bases ≡ totalOf file → ((j : ℕ) → j < totalOf file → entryBad file bases j ≡ false) → amountOf bases k ≤ 2 ^ 32
+      go (yes l) n g = low (decLt (2 ^ 32) (topOf file bases k))
+        where
+          low : Dec (2 ^ 32 < topOf file bases k) → amountOf bases k ≤ 2 ^ 32
+          low (yes a) = absurd (entry-fine file bases k (g k l) (inr (inl a)))
+          low (no a) = omega arith
+      go (no l) n g = rw (List·getD-eq-default bases 0 {n = k} (omega (arith, l, n))) (omega arith)
+
+-- ---- a list of bases is good wherever it counts from
+
+pub fault-passed : (file bases : List ℕ) (from other : ℕ) → basesFault file bases from ≡ Passed → basesFault file bases other ≡ Passed
+fault-passed file bases from other h = bases-exactly file bases other .1 (bases-exactly file bases from .0 h)

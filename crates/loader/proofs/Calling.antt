@@ -11,6 +11,7 @@ use Rattle.program.specs.declared.check.Answer.{Answer}
 use Rattle.program.specs.declared.check.Answer.the-variants.{Accepted, Refused}
 use Rattle.program.specs.Header.{totalOf}
 use Rattle.program.specs.Acts.{actsOf}
+use Rattle.program.specs.Check.{numbersOf}
 use Rattle.loader.specs.declared.calls.Outcome.{Outcome}
 use Rattle.loader.specs.Memory.{placed, targetsOf, amountOf, moved, loadOf, moveOf}
 use Rattle.loader.specs.Table.{tableRoom, listed, recordsOf, tableOf}
@@ -73,6 +74,7 @@ module _ (file bases m table w m1 w1 : List ℕ) (o : Outcome) (l : LoadsCore fi
   load-returns r t1 e h =
       record {
         answer = e ∙ l .answer;
+        numbers = ap numbersOf (e ∙ l .answer);
         loaded = l .loaded ∙ ap (λ a. effect a (loadOf file bases m) m) (sym e);
         recorded = h ∙ filled-by (o .answer) file bases table o refl (l .numbers) (λ t n x. load-facts file bases (length m) (length table / 4) (length w) t n (o .answer) (l .answer) x .file-good .hunks) ∙ ap (λ a. effect a (tableOf file bases table) table) (sym e);
         clean = l .clean;
@@ -88,6 +90,7 @@ module _ (file old new m table w m1 w1 : List ℕ) (o : Outcome) (l : MovesCore 
   move-returns r t1 e h =
       record {
         answer = e ∙ l .answer;
+        numbers = ap numbersOf (e ∙ l .answer);
         shifted = l .shifted ∙ ap (λ a. effect a (moveOf file old new m) m) (sym e);
         recorded = h ∙ filled-by (o .answer) file new table o refl (l .numbers) (λ t n x. move-facts file old new (length m) (length table / 4) (length w) t n (o .answer) (l .answer) x .load .file-good .hunks) ∙ ap (λ a. effect a (tableOf file new table) table) (sym e);
         clean = l .clean;

@@ -29,9 +29,10 @@ use Rattle.loader.specs.Table.{tableRoom, recordsOf, tableOf}
 use Rattle.loader.specs.Bases.{entryBad, basesFrom, basesFault}
 use Rattle.loader.specs.Near.{near, nearAny, clash, clashOf}
 use Rattle.loader.specs.Calls.{roomFault, loadAnswer, moveAnswer, Loads, Moves}
-use Rattle.loader.specs.Moving.{Addresses, SameRoom, LoadsAt}
+use Rattle.loader.specs.Moving.{SameRoom, LoadsAt}
 use Rattle.loader.proofs.Marking.{near-false, no-bool}
 use Rattle.loader.proofs.Inside.{within-targets, within-more, length-listed, length-bodies}
+use Rattle.loader.proofs.BadBases.{low-bases, fault-passed}
 use Rattle.loader.proofs.Answering.{also-so, also-both, LoadFacts, load-facts}
 
 -- ---- accepted targets are apart
@@ -64,23 +65,6 @@ apart seen (t ∷ ts) h =
     let p = pick-passed (nearAny (t .place) seen) (refusal 42 (t .byte)) _ h in
     (far-all (t .place) (t .place ∷ seen) ts (p .1) (inl refl), apart (t .place ∷ seen) ts (p .1))
 
--- ---- a list of bases is good wherever it counts from
-
-from-passed : (file bases : List ℕ) (from other i n : ℕ) → basesFrom file bases from i n ≡ Passed → basesFrom file bases other i n ≡ Passed
-unfolding basesFrom pick
-from-passed file bases from other i zero h = refl
-from-passed file bases from other i (suc n) h =
-    let p = pick-passed (entryBad file bases i) (refusal 40 (from + i)) _ h in
-    rw (p .0) (from-passed file bases from other (i + 1) n (p .1))
-
-fault-passed : (file bases : List ℕ) (from other : ℕ) → basesFault file bases from ≡ Passed → basesFault file bases other ≡ Passed
-unfolding basesFault pick
-fault-passed file bases from other h = go (eqb (length bases) (totalOf file)) h
-  where
-    go : (b : Bool) → pick b (basesFrom file bases from 0 (totalOf file)) (Failed (refusal 40 from)) ≡ Passed → pick b (basesFrom file bases other 0 (totalOf file)) (Failed (refusal 40 other)) ≡ Passed
-    go true e = from-passed file bases from other 0 (totalOf file) e
-    go false e = impossible cc
-
 -- ---- a move between bases at which loads are accepted is accepted
 
 module _ (file A B : List ℕ) (m r w t n u k : ℕ) (a : loadAnswer file A m r w ≡ Accepted t n) (b : loadAnswer file B m r w ≡ Accepted u k) where
@@ -109,26 +93,30 @@ around : (z : ℕ) → (2 ^ 32 + z) % 2 ^ 32 ≡ z % 2 ^ 32
 around z = omega arith
 
 -- from a to b and from b to c is from a to c
-two-steps : (a b c : ℕ) → a < 2 ^ 32 → b < 2 ^ 32 → ((b + (2 ^ 32 - a)) % 2 ^ 32 + (c + (2 ^ 32 - b)) % 2 ^ 32) % 2 ^ 32 ≡ (c + (2 ^ 32 - a)) % 2 ^ 32
+two-steps : (a b c : ℕ) → a ≤ 2 ^ 32 → b ≤ 2 ^ 32 → ((b + (2 ^ 32 - a)) % 2 ^ 32 + (c + (2 ^ 32 - b)) % 2 ^ 32) % 2 ^ 32 ≡ (c + (2 ^ 32 - a)) % 2 ^ 32
 two-steps a b c h k =
     let e : b + (2 ^ 32 - a) + (c + (2 ^ 32 - b)) ≡ 2 ^ 32 + (c + (2 ^ 32 - a)) = omega arith in
     sum-mod (b + (2 ^ 32 - a)) (c + (2 ^ 32 - b)) ∙ ap (λ n. n % 2 ^ 32) e ∙ around (c + (2 ^ 32 - a))
+
+-- no entry is above 2^32
+abbrev Low : List ℕ → Type 0
+Low l = (k : ℕ) → amountOf l k ≤ 2 ^ 32
 
 module _ (file : List ℕ) (s : Sound file) (c : clashOf file ≡ Passed) (m : List ℕ) (h : loadedOf file ≤ length m) where
   fits : Within (length m) (targetsOf file)
   fits = within-more (loadedOf file) (length m) (targetsOf file) h (within-targets file s)
 
-  pub memory-load-move : (A B : List ℕ) → Addresses A → moveOf file A B (loadOf file A m) ≡ loadOf file B m
+  memory-load-move : (A B : List ℕ) → Low A → moveOf file A B (loadOf file A m) ≡ loadOf file B m
   memory-load-move A B a =
       shiftAll-moved (bodiesOf file m) (targetsOf file) (amountOf A) (moved A B) (amountOf B) (λ k. let l = a k in omega arith) (apart [] (targetsOf file) c)
       (within-more (loadedOf file) _ (targetsOf file) (omega (arith, length-bodies file m h)) (within-targets file s))
 
-  pub memory-move-move : (A B C : List ℕ) → Addresses A → Addresses B → moveOf file B C (moveOf file A B m) ≡ moveOf file A C m
+  memory-move-move : (A B C : List ℕ) → Low A → Low B → moveOf file B C (moveOf file A B m) ≡ moveOf file A C m
   memory-move-move A B C a b =
       shiftAll-twice m (targetsOf file) (moved A B) (moved B C) (apart [] (targetsOf file) c) fits
       ∙ shiftAll-mod m (targetsOf file) (λ k. (moved A B k + moved B C k) % 2 ^ 32) (moved A C) (λ k. ap (λ n. n % 2 ^ 32) (two-steps (amountOf A k) (amountOf B k) (amountOf C k) (a k) (b k)))
 
-pub memory-stays : (file A m : List ℕ) → Addresses A → Bytes m → moveOf file A A m ≡ m
+memory-stays : (file A m : List ℕ) → Low A → Bytes m → moveOf file A A m ≡ m
 memory-stays file A m a b =
     shiftAll-mod m (targetsOf file) (moved A A) (λ k. 0) (λ k. let l = a k in omega arith) ∙ shiftAll-zero m (targetsOf file) b
 
@@ -156,12 +144,18 @@ module _ (file m t w : List ℕ) (x n : ℕ) where
       let e : r ≡ Accepted x n = v .answer ∙ rw (s .memory, s .table, s .work) (move-accepted file A B (length m) (length t / 4) (length w) x n y k a b) in
       (e, v .shifted ∙ rw e, v .recorded ∙ rw e, v .clean ∙ ap (λ j. replicate j 0) (s .work))
 
+  low-of : (A : List ℕ) (y k : ℕ) → LoadsAt file A m t w y k → Low A
+  low-of A y k a = low-bases file A 0 (load-facts file A (length m) (length t / 4) (length w) y k _ refl a .bases-good)
+
   module _ (A : List ℕ) (a : LoadsAt file A m t w x n) where
     facts : LoadFacts file A (length m) (length t / 4) (length w) x n
     facts = load-facts file A (length m) (length t / 4) (length w) x n _ refl a
 
     sound : Sound file
     sound = facts .file-good .sound
+
+    low : Low A
+    low = low-of A x n a
 
     -- lengths stay, so that the next move is lent equal room
     pub move-room : (B m′ t′ w′ w1 : List ℕ) → SameRoom m t w m′ t′ w′ → w1 ≡ replicate (length w) 0 → (C : List ℕ) → SameRoom m t w (moveOf file A B m′) (tableOf file C t′) w1
@@ -181,20 +175,20 @@ module _ (file m t w : List ℕ) (x n : ℕ) where
         }
 
     -- A load at A, moved to B, is a load at B: answer, memory, table and work area.
-    pub load-move : (B : List ℕ) (y k : ℕ) → Addresses A → (m1 t1 w1 mB tB wB : List ℕ) → Loads file A m t w (Accepted x n) m1 t1 w1 → Loads file B m t w (Accepted y k) mB tB wB → (w′ m2 t2 w2 : List ℕ) (r : Answer) → length w′ ≡ length w → Moves file A B m1 t1 w′ r m2 t2 w2 → (r ≡ Accepted y k) × (m2 ≡ mB) × (t2 ≡ tB) × (w2 ≡ wB)
-    load-move B y k ad m1 t1 w1 mB tB wB l lb w′ m2 t2 w2 r lw v =
+    pub load-move : (B : List ℕ) (y k : ℕ) → (m1 t1 w1 mB tB wB : List ℕ) → Loads file A m t w (Accepted x n) m1 t1 w1 → Loads file B m t w (Accepted y k) mB tB wB → (w′ m2 t2 w2 : List ℕ) (r : Answer) → length w′ ≡ length w → Moves file A B m1 t1 w′ r m2 t2 w2 → (r ≡ Accepted y k) × (m2 ≡ mB) × (t2 ≡ tB) × (w2 ≡ wB)
+    load-move B y k m1 t1 w1 mB tB wB l lb w′ m2 t2 w2 r lw v =
         let room = load-room m1 t1 w1 l in
         let b : LoadsAt file B m t w y k = sym (lb .answer) in
         let q = moved-to A B y k a b m1 t1 w′ m2 t2 w2 r (record { memory = room .memory; table = room .table; work = lw }) v in (
           q .0 ∙ one-answer file A B (length m) (length t / 4) (length w) x n y k a b,
-          q .1 ∙ ap (moveOf file A B) (l .loaded) ∙ memory-load-move file sound (facts .apart) m (facts .fits) A B ad ∙ sym (lb .loaded),
+          q .1 ∙ ap (moveOf file A B) (l .loaded) ∙ memory-load-move file sound (facts .apart) m (facts .fits) A B low ∙ sym (lb .loaded),
           q .2 ∙ ap (tableOf file B) (l .recorded) ∙ table-table file A B t sound ∙ sym (lb .recorded),
           q .3 ∙ sym (lb .clean),
         )
 
     -- On memory with any contents, A to B and then B to C is A to C.
-    pub move-move : (B C : List ℕ) (y k z j : ℕ) → LoadsAt file B m t w y k → LoadsAt file C m t w z j → Addresses A → Addresses B → (m′ t′ w′ w″ w‴ m1 t1 w1 m2 t2 w2 m3 t3 w3 : List ℕ) (r1 r2 r3 : Answer) → SameRoom m t w m′ t′ w′ → length w″ ≡ length w → length w‴ ≡ length w → Moves file A B m′ t′ w′ r1 m1 t1 w1 → Moves file B C m1 t1 w″ r2 m2 t2 w2 → Moves file A C m′ t′ w‴ r3 m3 t3 w3 → (r1 ≡ Accepted x n) × (r2 ≡ r3) × (m2 ≡ m3) × (t2 ≡ t3) × (w2 ≡ w3)
-    move-move B C y k z j b c ada adb m′ t′ w′ w″ w‴ m1 t1 w1 m2 t2 w2 m3 t3 w3 r1 r2 r3 s lw lw′ v1 v2 v3 =
+    pub move-move : (B C : List ℕ) (y k z j : ℕ) → LoadsAt file B m t w y k → LoadsAt file C m t w z j → (m′ t′ w′ w″ w‴ m1 t1 w1 m2 t2 w2 m3 t3 w3 : List ℕ) (r1 r2 r3 : Answer) → SameRoom m t w m′ t′ w′ → length w″ ≡ length w → length w‴ ≡ length w → Moves file A B m′ t′ w′ r1 m1 t1 w1 → Moves file B C m1 t1 w″ r2 m2 t2 w2 → Moves file A C m′ t′ w‴ r3 m3 t3 w3 → (r1 ≡ Accepted x n) × (r2 ≡ Accepted x n) × (r3 ≡ Accepted x n) × (m2 ≡ m3) × (t2 ≡ t3) × (w2 ≡ w3)
+    move-move B C y k z j b c m′ t′ w′ w″ w‴ m1 t1 w1 m2 t2 w2 m3 t3 w3 r1 r2 r3 s lw lw′ v1 v2 v3 =
         let p = moved-to A B y k a b m′ t′ w′ m1 t1 w1 r1 s v1 in
         let same : Accepted x n ≡ Accepted y k = one-answer file A B (length m) (length t / 4) (length w) x n y k a b in
         let b′ : LoadsAt file B m t w x n = b ∙ sym same in
@@ -202,21 +196,22 @@ module _ (file m t w : List ℕ) (x n : ℕ) where
         let q = moved-to B C z j b′ c m1 t1 w″ m2 t2 w2 r2 (record { memory = ap length (p .1) ∙ room .memory; table = ap length (p .2) ∙ room .table; work = lw }) v2 in
         let o = moved-to A C z j a c m′ t′ w‴ m3 t3 w3 r3 (record { memory = s .memory; table = s .table; work = lw′ }) v3 in (
           p .0,
-          q .0 ∙ sym (o .0),
-          q .1 ∙ ap (moveOf file B C) (p .1) ∙ memory-move-move file sound (facts .apart) m′ (omega (arith, facts .fits, s .memory)) A B C ada adb ∙ sym (o .1),
+          q .0,
+          o .0,
+          q .1 ∙ ap (moveOf file B C) (p .1) ∙ memory-move-move file sound (facts .apart) m′ (omega (arith, facts .fits, s .memory)) A B C low (low-of B y k b) ∙ sym (o .1),
           q .2 ∙ ap (tableOf file C) (p .2) ∙ table-table file B C t′ sound ∙ sym (o .2),
           q .3 ∙ sym (o .3),
         )
 
     -- A to A changes no byte of memory.
-    pub move-stays : Addresses A → (m′ t′ w′ m1 t1 w1 : List ℕ) (r : Answer) → Bytes m′ → SameRoom m t w m′ t′ w′ → Moves file A A m′ t′ w′ r m1 t1 w1 → (r ≡ Accepted x n) × (m1 ≡ m′)
-    move-stays ad m′ t′ w′ m1 t1 w1 r bytes s v =
+    pub move-stays : (m′ t′ w′ m1 t1 w1 : List ℕ) (r : Answer) → Bytes m′ → SameRoom m t w m′ t′ w′ → Moves file A A m′ t′ w′ r m1 t1 w1 → (r ≡ Accepted x n) × (m1 ≡ m′)
+    move-stays m′ t′ w′ m1 t1 w1 r bytes s v =
         let p = moved-to A A x n a a m′ t′ w′ m1 t1 w1 r s v in
-        (p .0, p .1 ∙ memory-stays file A m′ ad bytes)
+        (p .0, p .1 ∙ memory-stays file A m′ low bytes)
 
     -- A to B and back to A brings every byte of memory back.
-    pub move-back : (B : List ℕ) (y k : ℕ) → LoadsAt file B m t w y k → Addresses A → Addresses B → (m′ t′ w′ w″ m1 t1 w1 m2 t2 w2 : List ℕ) (r1 r2 : Answer) → Bytes m′ → SameRoom m t w m′ t′ w′ → length w″ ≡ length w → Moves file A B m′ t′ w′ r1 m1 t1 w1 → Moves file B A m1 t1 w″ r2 m2 t2 w2 → (r1 ≡ Accepted x n) × (r2 ≡ Accepted x n) × (m2 ≡ m′)
-    move-back B y k b ada adb m′ t′ w′ w″ m1 t1 w1 m2 t2 w2 r1 r2 bytes s lw v1 v2 =
+    pub move-back : (B : List ℕ) (y k : ℕ) → LoadsAt file B m t w y k → (m′ t′ w′ w″ m1 t1 w1 m2 t2 w2 : List ℕ) (r1 r2 : Answer) → Bytes m′ → SameRoom m t w m′ t′ w′ → length w″ ≡ length w → Moves file A B m′ t′ w′ r1 m1 t1 w1 → Moves file B A m1 t1 w″ r2 m2 t2 w2 → (r1 ≡ Accepted x n) × (r2 ≡ Accepted x n) × (m2 ≡ m′)
+    move-back B y k b m′ t′ w′ w″ m1 t1 w1 m2 t2 w2 r1 r2 bytes s lw v1 v2 =
         let p = moved-to A B y k a b m′ t′ w′ m1 t1 w1 r1 s v1 in
         let same : Accepted x n ≡ Accepted y k = one-answer file A B (length m) (length t / 4) (length w) x n y k a b in
         let b′ : LoadsAt file B m t w x n = b ∙ sym same in
@@ -224,5 +219,5 @@ module _ (file m t w : List ℕ) (x n : ℕ) where
         let q = moved-to B A x n b′ a m1 t1 w″ m2 t2 w2 r2 (record { memory = ap length (p .1) ∙ room .memory; table = ap length (p .2) ∙ room .table; work = lw }) v2 in (
           p .0,
           q .0,
-          q .1 ∙ ap (moveOf file B A) (p .1) ∙ memory-move-move file sound (facts .apart) m′ (omega (arith, facts .fits, s .memory)) A B A ada adb ∙ memory-stays file A m′ ada bytes,
+          q .1 ∙ ap (moveOf file B A) (p .1) ∙ memory-move-move file sound (facts .apart) m′ (omega (arith, facts .fits, s .memory)) A B A low (low-of B y k b) ∙ memory-stays file A m′ low bytes,
         )

@@ -2,7 +2,7 @@
 -- file" and "Numbers"). A refused call leaves memory and table; the work area comes back all 0.
 use Prim.Native.Nat.{ℕ, _*_, _/_, _%_, _≤_}
 use mathlib.Core.Path.{_≡_}
-use mathlib.Core.List.{List, _++_}
+use mathlib.Core.List.{List, [], _∷_, _++_}
 use lib.Dec.{ltb}
 use lib.ListN.{length, take, drop, replicate}
 use Rattle.answers.specs.Tests.{pick}
@@ -13,13 +13,17 @@ use Rattle.program.specs.declared.check.Answer.{Answer}
 use Rattle.program.specs.declared.check.Answer.the-variants.{Accepted, Refused}
 use Rattle.program.specs.Header.{totalOf}
 use Rattle.program.specs.Acts.{actsOf}
-use Rattle.program.specs.Check.{checkOf}
+use Rattle.program.specs.Check.{numbersOf, checkRefusals, checkOf}
 use Rattle.program.specs.Sane.{Sound}
 use Rattle.loader.specs.declared.calls.Outcome.{Outcome}
 use Rattle.loader.specs.Memory.{loadedOf, loadOf, moveOf}
 use Rattle.loader.specs.Table.{tableRoom, listed, tableOf}
 use Rattle.loader.specs.Bases.{basesFault}
 use Rattle.loader.specs.Near.{clashOf}
+
+-- the numbers of all refusals of a load, and of a move: the check's, and those of bases, room and near targets
+abbrev pub callRefusals : List ℕ
+callRefusals = checkRefusals ++ (40 ∷ 41 ∷ 42 ∷ [])
 
 -- n bytes of memory and of work area, and t records
 abbrev pub roomFault : ℕ → ℕ → ℕ → ℕ → ℕ → Tested
@@ -88,16 +92,18 @@ filledBy (Refused r) numbers table = table
 abbrev pub filled : Outcome → List ℕ → List ℕ
 filled o table = filledBy (o .answer) (o .records) table
 
--- ---- the calls, which are lent a table of four numbers a record
+-- ---- the calls, which are lent a table of four numbers a record; the answer is said also by its numbers
 
 pub record Loads (file bases memory table work : List ℕ) (r : Answer) (memory′ table′ work′ : List ℕ) : Type 0 where
   pub answer : r ≡ loadAnswer file bases (length memory) (length table / 4) (length work)
+  pub numbers : numbersOf r ≡ numbersOf (loadAnswer file bases (length memory) (length table / 4) (length work))
   pub loaded : memory′ ≡ effect r (loadOf file bases memory) memory
   pub recorded : table′ ≡ effect r (tableOf file bases table) table
   pub clean : work′ ≡ replicate (length work) 0
 
 pub record Moves (file old new memory table work : List ℕ) (r : Answer) (memory′ table′ work′ : List ℕ) : Type 0 where
   pub answer : r ≡ moveAnswer file old new (length memory) (length table / 4) (length work)
+  pub numbers : numbersOf r ≡ numbersOf (moveAnswer file old new (length memory) (length table / 4) (length work))
   pub shifted : memory′ ≡ effect r (moveOf file old new memory) memory
   pub recorded : table′ ≡ effect r (tableOf file new table) table
   pub clean : work′ ≡ replicate (length work) 0

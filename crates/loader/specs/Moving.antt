@@ -1,15 +1,10 @@
--- What the laws of moving speak of: bases that are addresses, equal room, and loads that are accepted (the build paper, "The program file").
-use Prim.Native.Nat.{ℕ, _/_, _^_, _<_}
+-- What the laws of moving speak of: equal room, and loads that are accepted (the build paper, "The program file").
+use Prim.Native.Nat.{ℕ, _/_}
 use mathlib.Core.Path.{_≡_}
 use mathlib.Core.List.{List}
 use lib.ListN.{length}
 use Rattle.program.specs.declared.check.Answer.the-variants.{Accepted}
-use Rattle.loader.specs.Memory.{amountOf}
 use Rattle.loader.specs.Calls.{loadAnswer}
-
--- every entry is an address
-abbrev pub Addresses : List ℕ → Type 0
-Addresses l = (k : ℕ) → amountOf l k < 2 ^ 32
 
 -- room of one size: memory, table and work area as long as those
 pub record SameRoom (m t w m′ t′ w′ : List ℕ) : Type 0 where

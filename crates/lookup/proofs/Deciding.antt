@@ -22,7 +22,7 @@ use Rattle.volume.specs.Rules.{rootFault}
 use Rattle.lookup.specs.declared.find.Found.{Found}
 use Rattle.lookup.specs.declared.find.Found.the-variants.{Refused}
 use Rattle.lookup.specs.Paths.{longestPath, components, isComponent, componentsFault, pathFault}
-use Rattle.lookup.specs.Lookup.{numbersOf, refuse, lookupFrom, fromRoot, and, findOf}
+use Rattle.lookup.specs.Lookup.{numbersOf, refuse, lookupFrom, fromRoot, and, findOf, Finds}
 use Rattle.lookup.specs.Verdicts.{BadComponent, BadForm, long, component, Opened}
 use Rattle.lookup.proofs.Trails.{Leads, leads, leads-only}
 
@@ -115,7 +115,5 @@ module _ (d : Disk) (s path : List ℕ) where
 
 -- ---- outcomes are determined
 
-pub find-determined : (d : Disk) (s path : List ℕ) (r r′ : Found) → r ≡ findOf d s path → r′ ≡ findOf d s path → (numbersOf r ≡ numbersOf r′) × (r ≡ r′)
-find-determined d s path r r′ e f =
-    let q : r ≡ r′ = e ∙ sym f in
-    (ap numbersOf q, q)
+pub find-determined : (d : Disk) (s path : List ℕ) (r r′ : Found) → Finds d s path r → Finds d s path r′ → (numbersOf r ≡ numbersOf r′) × (r ≡ r′)
+find-determined d s path r r′ a b = (a .numbers ∙ sym (b .numbers), a .answer ∙ sym (b .answer))

@@ -21,3 +21,5 @@ pub mod OnTrees
 pub mod Joins
 -- `reached-lies`, `reached-found`: every reached entry of a tree is found by its path
 pub mod Bridge
+-- the answer as numbers: `number-listed`, `zero-exactly`
+pub mod AsNumbers

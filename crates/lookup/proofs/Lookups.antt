@@ -1,6 +1,6 @@
 -- Laws of a lookup, at its first component. Assumes nothing.
 use Prim.Native.Nat.{ℕ, _+_, _-_, _≤_, _<_}
-use mathlib.Core.Path.{_≡_, refl, sym, _∙_}
+use mathlib.Core.Path.{_≡_, refl, sym, ap, _∙_}
 use mathlib.Core.Bool.{Bool, true, false}
 use mathlib.Core.List.{List, [], _∷_}
 use native.Mathlib.Omega.{arith}
@@ -27,7 +27,7 @@ use Rattle.lookup.specs.declared.find.Found.the-variants.{Directory, Fil
 use Rattle.lookup.specs.Paths.{split, onto, components, pathFault}
 use Rattle.lookup.specs.Parts.{FirstSlash, Searches, Looks}
 use Rattle.lookup.specs.Search.{searchOf}
-use Rattle.lookup.specs.Lookup.{refuse, fileAt, stepped, lookupFrom, fromRoot, and, findOf}
+use Rattle.lookup.specs.Lookup.{numbersOf, refuse, fileAt, stepped, lookupFrom, fromRoot, and, findOf, Finds}
 use Rattle.lookup.proofs.Splits.{split-more, split-end, path-components}
 use Rattle.lookup.proofs.Chains.{key-passed, range-holds}
 use Rattle.lookup.proofs.Places.{first-equal-name, compared-most}
@@ -190,5 +190,5 @@ module _ (d : Disk) (s path : List ℕ) (n : ℕ) (e : n ≡ imageBytes d) where
 pub floppy-sized : (d : Disk) → d ≡ floppy → Sized d
 floppy-sized d e = rw e sized
 
-pub on-floppy : (d : Disk) (s path : List ℕ) (r : Found) → d ≡ floppy → r ≡ findOf d s path → r ≡ findOf floppy s path
-on-floppy d s path r e f = rw e at f
+pub on-floppy : (d : Disk) (s path : List ℕ) (r : Found) → d ≡ floppy → r ≡ findOf d s path → Finds floppy s path r
+on-floppy d s path r e f = let g = rw e at f in record { answer = g; numbers = ap numbersOf g }

@@ -12,11 +12,13 @@ use Rattle.answers.specs.Tests.{must, first}
 use Rattle.answers.specs.Refusals.{refusal}
 use Rattle.answers.specs.declared.Tested.the-variants.{Failed}
 use Rattle.answers.proofs.Clashes.{impossible}
-use Rattle.answers.proofs.Between.{Between, between}
+use Rattle.answers.specs.Members.{_∈_}
+use Rattle.answers.proofs.Members.{unlisted}
 use Rattle.volume.specs.declared.disk.Disk.{Disk}
 use Rattle.volume.specs.Disks.{rootOf, inRange, chainLimit}
 use Rattle.volume.specs.Names.{slotOf}
 use Rattle.volume.specs.Rules.{rootFault, entryFault}
+use Rattle.volume.proofs.Given.{rootRefusals, entryRefusals, root-given, entry-given}
 use Rattle.lookup.specs.declared.find.Found.the-variants.{Directory, File}
 use Rattle.lookup.specs.Paths.{components}
 use Rattle.lookup.specs.Search.{placeFault}
@@ -29,13 +31,11 @@ use Rattle.lookup.proofs.Deciding.{form-exactly, number-is, place-is, W
 
 -- ---- which numbers tests give
 
-pub root-gives : (d : Disk) (s : List ℕ) → Between 4 11 (rootFault d s)
-unfolding rootFault
-root-gives d s = search between depth 16
+pub root-number : (d : Disk) (s : List ℕ) (v : ℕ) → v ≢ 0 → rootFault d s ≡ v → v ∈ rootRefusals
+root-number d s v z e = rw e at (root-given d s) .member z
 
-pub entry-gives : (d : Disk) (s : List ℕ) (k t i : ℕ) → Between 7 12 (entryFault d s k t i)
-unfolding entryFault
-entry-gives d s k t i = search between depth 16
+pub entry-number : (d : Disk) (s : List ℕ) (k t i v : ℕ) → v ≢ 0 → entryFault d s k t i ≡ v → v ∈ entryRefusals
+entry-number d s k t i v z e = rw e at (entry-given d s k t i) .member z
 
 -- ---- what a key's tests say: v is not 0
 
@@ -137,10 +137,10 @@ module _ (d : Disk) (s path : List ℕ) where
       go (number-1 h a b) = absurd (omega arith)
       go (number-18 h f a) = absurd (omega arith)
       go (number-3 h p u a b) = absurd (omega arith)
-      go (of-root h p u z a b) = absurd (omega (arith, root-gives d s .high))
+      go (of-root h p u z a b) = unlisted rootRefusals 19 19 tt (root-number d s 19 z a) refl
       go (number-5 h y a) = absurd (omega arith)
       go (number-6 h y l a) = absurd (omega arith)
-      go (of-entry h y l z a) = absurd (omega (arith, entry-gives d s i (h .comes .parent) (slotOf d (h .comes .name)) .high))
+      go (of-entry h y l z a) = unlisted entryRefusals 19 19 tt (entry-number d s i _ _ 19 z a) refl
       go (number-19 h a) = h
       go (number-20 h a) = absurd (omega arith)
 
@@ -152,10 +152,10 @@ module _ (d : Disk) (s path : List ℕ) where
       go (number-1 h a b) = absurd (omega arith)
       go (number-18 h f a) = absurd (omega arith)
       go (number-3 h p u a b) = absurd (omega arith)
-      go (of-root h p u z a b) = absurd (omega (arith, root-gives d s .high))
+      go (of-root h p u z a b) = unlisted rootRefusals 20 20 tt (root-number d s 20 z a) refl
       go (number-5 h y a) = absurd (omega arith)
       go (number-6 h y l a) = absurd (omega arith)
-      go (of-entry h y l z a) = absurd (omega (arith, entry-gives d s i (h .comes .parent) (slotOf d (h .comes .name)) .high))
+      go (of-entry h y l z a) = unlisted entryRefusals 20 20 tt (entry-number d s i _ _ 20 z a) refl
       go (number-19 h a) = absurd (omega arith)
       go (number-20 h a) = h
 

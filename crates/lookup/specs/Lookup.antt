@@ -1,6 +1,7 @@
 -- A lookup: image length, the path's form, boot tag, the root up to its name; then component by component, each in the directory that
 -- the one before it led to (the build paper, "Paths and reads" and "Numbers").
 use Prim.Native.Nat.{ℕ, _+_}
+use mathlib.Core.Path.{_≡_}
 use mathlib.Core.List.{List, [], _∷_}
 use lib.Dec.{eqb}
 use lib.ListN.{length}
@@ -34,6 +35,10 @@ abbrev pub numbersOf : Found → Numbers
 numbersOf (Directory k n) = record { number = 0; place = 0; kind = 2; key = k; size = 0; compared = n }
 numbersOf (File k z n) = record { number = 0; place = 0; kind = 0xFFFFFFFD; key = k; size = z; compared = n }
 numbersOf (Refused r) = record { number = r .number; place = r .place; kind = 0; key = 0; size = 0; compared = 0 }
+
+-- the numbers of all refusals of a lookup
+abbrev pub findRefusals : List ℕ
+findRefusals = 1 ∷ 3 ∷ 4 ∷ 5 ∷ 6 ∷ 7 ∷ 8 ∷ 9 ∷ 10 ∷ 11 ∷ 12 ∷ 18 ∷ 19 ∷ 20 ∷ []
 
 abbrev pub refuse : ℕ → ℕ → Found
 refuse v at = Refused (refusal v at)
@@ -69,3 +74,9 @@ findOf d s path =
     pick (eqb (length s) (imageBytes d))
     (and (pathFault path) (pick (eqb (wordAt s 0) (tagOf d)) (fromRoot d s path) (refuse 3 0)))
     (refuse 1 0)
+
+-- ---- the promise
+
+pub record Finds (d : Disk) (s path : List ℕ) (r : Found) : Type 0 where
+  pub answer : r ≡ findOf d s path
+  pub numbers : numbersOf r ≡ numbersOf (findOf d s path)

@@ -15,7 +15,7 @@ ghost use Prim.Native.Nat.{_≤_};
 ghost use lib.ListN.{length};
 ghost use Rattle.volume.specs.Disks.{Sized, floppy, imageBytes};
 ghost use Rattle.lookup.specs.Paths.{longestPath, split};
-ghost use Rattle.lookup.specs.Lookup.{refuse, lookupFrom, fromRoot, findOf};
+ghost use Rattle.lookup.specs.Lookup.{refuse, lookupFrom, fromRoot, findOf, Finds};
 ghost use Rattle.lookup.specs.Parts.{Looks};
 
 // What a path leads to.
@@ -107,7 +107,7 @@ pub fn find_on(disk: Disk, image: &[u8], path: &[u8]) -> Found
 
 // What a path leads to on a floppy.
 pub fn find(image: &[u8], path: &[u8]) -> Found
-    ensures { λ r. ⌜ r ≡ findOf floppy (now (image .entry)) (now (path .entry)) ⌝ }
+    ensures { λ r. ⌜ Finds floppy (now (image .entry)) (now (path .entry)) r ⌝ }
 {
     find_on(Disk::floppy(), image, path)
 }

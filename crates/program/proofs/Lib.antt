@@ -23,3 +23,5 @@ pub mod Pages
 pub mod Refusing
 -- words that a pass may go on behind
 pub mod Runs
+-- the answer as numbers: `number-listed`, `zero-exactly`
+pub mod AsNumbers

@@ -1,5 +1,6 @@
 -- The check of a program file: its faults in file order, or the number of its hunks and the bytes that they take (the build paper, "Numbers").
 use Prim.Native.Nat.{ℕ, _+_, _-_, _/_, _%_}
+use mathlib.Core.Path.{_≡_}
 use mathlib.Core.List.{List, [], _∷_}
 use lib.Dec.{eqb}
 use lib.ListN.{length}
@@ -28,6 +29,10 @@ pub record Numbers : Type 0 where
 abbrev pub numbersOf : Answer → Numbers
 numbersOf (Accepted t n) = record { number = 0; place = 0; hunks = t; bytes = n }
 numbersOf (Refused r) = record { number = r .number; place = r .place; hunks = 0; bytes = 0 }
+
+-- the numbers of all refusals of a check
+abbrev pub checkRefusals : List ℕ
+checkRefusals = 30 ∷ 31 ∷ 32 ∷ 33 ∷ 34 ∷ 35 ∷ 36 ∷ 37 ∷ 38 ∷ 39 ∷ []
 
 abbrev pub refuse : ℕ → ℕ → Answer
 refuse v at = Refused (refusal v at)
@@ -78,3 +83,9 @@ unfoldable pub checkOf : List ℕ → Answer
 checkOf file =
     pick (eqb (length file) 0) (refuse 30 0)
     (pick (eqb (length file % 4) 0) (and (heads file 0 5) (and (heads file 5 (totalOf file)) (walkOf file))) (refuse 30 0))
+
+-- ---- the promise
+
+pub record Checks (file : List ℕ) (r : Answer) : Type 0 where
+  pub answer : r ≡ checkOf file
+  pub numbers : numbersOf r ≡ numbersOf (checkOf file)

@@ -13,7 +13,7 @@ use answers::Tested;
 ghost use mathlib.Core.Path.{_≡_};
 ghost use Prim.Native.Nat.{_%_};
 ghost use lib.ListN.{length};
-ghost use Rattle.program.specs.Check.{refuse, endedOf, checkOf, walkOf};
+ghost use Rattle.program.specs.Check.{refuse, endedOf, walkOf, Checks};
 ghost use Rattle.program.specs.Sane.{Sound};
 
 // What a check, a load and a move answer.
@@ -69,7 +69,7 @@ fn hunks(file: &[u8]) -> Answer
 
 // A file's own faults, or the number of its hunks and the bytes that they take.
 pub fn check(file: &[u8]) -> Answer
-    ensures { λ r. ⌜ r ≡ checkOf (now (file .entry)) ⌝ }
+    ensures { λ r. ⌜ Checks (now (file .entry)) r ⌝ }
 {
     if file.len() == 0 {
         return refused(30, 0);

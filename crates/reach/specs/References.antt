@@ -1,9 +1,10 @@
 -- Who refers to what: a root, and for each node a key and a list of references. `Reached` is what the root leads to; `Owned` says
 -- that no reached key is referred to twice.
 use mathlib.Core.Path.{_≡_}
-use mathlib.Core.Logic.{_≢_, _⊎_}
+use mathlib.Core.Logic.{_≢_}
 use mathlib.Core.List.{List, [], _∷_}
 use Prim.Native.Nat.{ℕ, zero, suc}
+pub use Rattle.answers.specs.Members.{_∈_}
 
 -- A node asks for what lies at its key, in some role: two nodes may have one key.
 pub record References (Node : Type 0) : Type 0 where
@@ -18,11 +19,6 @@ abbrev pub At : {A : Type 0} → ℕ → A → List A → Type 0
 At i a [] = ⊥
 At zero a (x ∷ l) = a ≡ x
 At (suc i) a (x ∷ l) = At i a l
-
-infix 20 _∈_
-abbrev pub _∈_ : {A : Type 0} → A → List A → Type 0
-a ∈ [] = ⊥
-a ∈ (x ∷ l) = (a ≡ x) ⊎ (a ∈ l)
 
 -- nothing stands twice
 abbrev pub Uniq : {A : Type 0} → List A → Type 0

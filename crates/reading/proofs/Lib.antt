@@ -19,3 +19,5 @@ pub mod Passing
 pub mod Refusing
 -- `tree-file-passes`, `tree-read-whole`, `tree-read-answers`: reads in a tree
 pub mod OnTrees
+-- the answer as numbers: `number-listed`, `zero-exactly`
+pub mod AsNumbers

@@ -110,6 +110,10 @@ followed d s k t e q =
     record { size = w .file .size; keys = λ b a. w .keys b a .inside; following = w .file .following }
 
 module _ (d : Disk) (s path : List ℕ) (o : ℕ) (output : List ℕ) (f : Found) (e : f ≡ findOf d s path) where
+  -- the answer's numbers are those of the answer
+  promised : (r : Reading) (output′ : List ℕ) → r ≡ readOf d s path o (length output) → output′ ≡ leaves d s path o output r → Reads d s path o output r output′
+  promised r output′ a l = record { answer = a; numbers = ap numbersOf a; left = l }
+
   -- what is found is a file with a key in the volume
   module _ (k z c : ℕ) (g : f ≡ found.File k z c) where
     abbrev is : IsFile d s path k z c
@@ -127,11 +131,11 @@ module _ (d : Disk) (s path : List ℕ) (o : ℕ) (output : List ℕ) (f : Found
 
     pub read-failed : (t : Tested) (x : Refusal) → t ≡ blocksFault d s k → t ≡ Failed x → Reads d s path o output (Refused x) output
     unfolding readOf
-    read-failed t x h q = record { answer = rw (← e, g, ← h, q) refl; left = refl }
+    read-failed t x h q = promised (Refused x) output (rw (← e, g, ← h, q) refl) refl
 
     pub read-copied : (t : Tested) (n : ℕ) (output′ : List ℕ) → t ≡ blocksFault d s k → t ≡ Passed → Copied (fileBytes d s k) o output n output′ → Reads d s path o output (Bytes n) output′
     unfolding readOf
-    read-copied t n output′ h q w = record { answer = rw (← e, g, ← h, q, w .count) refl; left = rw (← e, g) (w .output) }
+    read-copied t n output′ h q w = promised (Bytes n) output′ (rw (← e, g, ← h, q, w .count) refl) (rw (← e, g) (w .output))
 
   -- where it is no file, what is handed back is what a read answers
   pub read-handed : (r : Reading) → OneOf (0 ∷ 2 ∷ []) (tagOf the-type f) → r ≡ handed path f → Reads d s path o output r output
@@ -140,8 +144,8 @@ module _ (d : Disk) (s path : List ℕ) (o : ℕ) (output : List ℕ) (f : Found
     where
       go : (f : Found) → f ≡ findOf d s path → OneOf (0 ∷ 2 ∷ []) (tagOf the-type f) → r ≡ handed path f → Reads d s path o output r output
       go (found.File k z c) e h q = absurd (⊎-elim (λ e. omega arith) (λ e. omega arith) h)
-      go (found.Directory k c) e h q = record { answer = q ∙ rw (← e) refl; left = rw q refl }
-      go (found.Refused x) e h q = record { answer = q ∙ rw (← e) refl; left = rw q refl }
+      go (found.Directory k c) e h q = promised r output (q ∙ rw (← e) refl) (rw q refl)
+      go (found.Refused x) e h q = promised r output (q ∙ rw (← e) refl) (rw q refl)
 
 -- one input has one outcome
 pub read-determined : (d : Disk) (s path : List ℕ) (o : ℕ) (output : List ℕ) (r r′ : Reading) (a a′ : List ℕ) → Reads d s path o output r a → Reads d s path o output r′ a′ → (numbersOf r ≡ numbersOf r′) × (r ≡ r′) × (a ≡ a′)

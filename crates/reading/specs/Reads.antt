@@ -2,7 +2,7 @@
 -- copied before all is tested; a directory is no file.
 use Prim.Native.Nat.{ℕ, _-_}
 use mathlib.Core.Path.{_≡_}
-use mathlib.Core.List.{List, []}
+use mathlib.Core.List.{List, [], _∷_, _++_}
 use lib.ListN.{length}
 use Rattle.answers.specs.Refusals.{refusal}
 use Rattle.answers.specs.declared.Tested.{Tested}
@@ -11,7 +11,7 @@ use Rattle.volume.specs.declared.disk.Disk.{Disk}
 use Rattle.lookup.specs.declared.find.Found.{Found}
 use Rattle.lookup.specs.declared.find.Found.the-variants as found
 use Rattle.lookup.specs.Paths.{components}
-use Rattle.lookup.specs.Lookup.{findOf}
+use Rattle.lookup.specs.Lookup.{findRefusals, findOf}
 use Rattle.reading.specs.declared.read.Reading.{Reading}
 use Rattle.reading.specs.declared.read.Reading.the-variants.{Bytes, Refused}
 use Rattle.reading.specs.FileTests.{blocksFault}
@@ -26,6 +26,10 @@ pub record Numbers : Type 0 where
 abbrev pub numbersOf : Reading → Numbers
 numbersOf (Bytes n) = record { number = 0; place = 0; count = n }
 numbersOf (Refused r) = record { number = r .number; place = r .place; count = 0 }
+
+-- the numbers of all refusals of a read: the lookup's, and those of the file's own blocks
+abbrev pub readRefusals : List ℕ
+readRefusals = findRefusals ++ (14 ∷ 15 ∷ [])
 
 abbrev pub refuse : ℕ → ℕ → Reading
 refuse v k = Refused (refusal v k)
@@ -62,8 +66,9 @@ abbrev pub leaves : Disk → List ℕ → List ℕ → ℕ → List ℕ → Read
 leaves d s path o output (Bytes n) = filledBy (bytesOf d s (findOf d s path)) o output
 leaves d s path o output (Refused r) = output
 
--- ---- the promise
+-- ---- the promise: the answer is said also by its numbers
 
 pub record Reads (d : Disk) (s path : List ℕ) (o : ℕ) (output : List ℕ) (r : Reading) (output′ : List ℕ) : Type 0 where
   pub answer : r ≡ readOf d s path o (length output)
+  pub numbers : numbersOf r ≡ numbersOf (readOf d s path o (length output))
   pub left : output′ ≡ leaves d s path o output r

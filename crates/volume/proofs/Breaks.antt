@@ -9,7 +9,7 @@ use lib.Dec.{eqb}
 use borrow.Author.Tests.{eq-eqb, ne-eqb, eqb-true, eqb-false, lt-ltb, le-ltb}
 use Rattle.answers.specs.Tests.{pick, must, never, first, tests}
 use Rattle.answers.proofs.Tests.{first-zero, tests-append, must-passed, must-passes, pick-true, pick-false}
-use Rattle.answers.proofs.Between.{Between, between}
+use Rattle.answers.proofs.Given.{Given, given}
 use Rattle.answers.proofs.Clashes.{impossible}
 use Rattle.reach.specs.References.{_∈_}
 use Rattle.volume.specs.declared.disk.Disk.{Disk}
@@ -26,16 +26,23 @@ use Rattle.volume.proofs.Passes.{is, be, is-not, be-not, test-at, _&_, 
 -- ---- tests in order: x is 0 exactly if P holds, else its number n
 
 record Test (n x : ℕ) (P : Type 0) : Type 0 where
-  gives : Between n n x
+  gives : Given (n ∷ []) x
   passed : x ≡ 0 → P
   passes : P → x ≡ 0
 
 module _ {n x : ℕ} {P : Type 0} (r : Test n x P) where
+  one : x ≢ 0 → x ≡ n
+  one z = go (r .gives .member z)
+    where
+      go : x ∈ (n ∷ []) → x ≡ n
+      go (inl e) = e
+      go (inr e) = absurd e
+
   broken : {v : ℕ} → v ≢ 0 → x ≡ v → (P → ⊥) × (v ≡ n)
-  broken {v} z e = ((λ p. z (sym e ∙ r .passes p)), omega (arith, r .gives .low (λ q. z (sym e ∙ q)), r .gives .high, e))
+  broken {v} z e = ((λ p. z (sym e ∙ r .passes p)), sym e ∙ one (λ q. z (sym e ∙ q)))
 
   breaks : {v : ℕ} → (P → ⊥) → v ≡ n → x ≡ v
-  breaks {v} q e = omega (arith, r .gives .low (λ z. q (r .passed z)), r .gives .high, e)
+  breaks {v} q e = one (λ z. q (r .passed z)) ∙ sym e
 
   module _ {v : ℕ} (y : ℕ) where
     -- v is its number, or it passes and v is the number of what follows
@@ -67,14 +74,14 @@ last (suc x) = refl
 
 -- ---- tests of one word, or of a Bool
 
-word-test : (a b v : ℕ) → Between (suc v) (suc v) (must (eqb a b) (suc v)) → Test (suc v) (must (eqb a b) (suc v)) (a ≡ b)
+word-test : (a b v : ℕ) → Given (suc v ∷ []) (must (eqb a b) (suc v)) → Test (suc v) (must (eqb a b) (suc v)) (a ≡ b)
 word-test a b v g = record { gives = g; passed = is a b v; passes = be a b (suc v) }
 
 sum-test : (s : List ℕ) (k : ℕ) → Test 7 (must (eqb (sumOf s k) 0) 7) (sumOf s k ≡ 0)
-sum-test s k = word-test (sumOf s k) 0 6 (search between depth 8)
+sum-test s k = word-test (sumOf s k) 0 6 (search given depth 8)
 
 name-test : (s : List ℕ) (k : ℕ) → Test 11 (must (nameGood s k) 11) (nameGood s k ≡ true)
-name-test s k = record { gives = search between depth 8; passed = must-passed (nameGood s k) 10; passes = must-passes (nameGood s k) 11 }
+name-test s k = record { gives = search given depth 8; passed = must-passed (nameGood s k) 10; passes = must-passes (nameGood s k) 11 }
 
 -- a name that is not good
 bad-name : (s : List ℕ) (k : ℕ) → (nameGood s k ≡ true → ⊥) → nameGood s k ≡ false
@@ -100,13 +107,13 @@ module _ (s : List ℕ) (r : ℕ) where
   kind-test : Test 8 (tests kinds) (RootKind s r)
   kind-test =
       record {
-        gives = search between depth 8;
+        gives = search given depth 8;
         passed = λ e. record { type = is _ _ 7 (test-at 0 kinds e refl); kind = is _ _ 7 (test-at 1 kinds e refl) };
         passes = λ h. be _ _ 8 (h .type) & be _ _ 8 (h .kind) & refl;
       }
 
   fixed-test : Test 4 (tests (rootWords s r)) (RootFixed s r)
-  fixed-test = record { gives = search between depth 16; passed = λ e. record { zeros = zeros′ e; table = is _ _ 3 (test-at 2 (rootWords s r) e refl) }; passes = passes′ }
+  fixed-test = record { gives = search given depth 16; passed = λ e. record { zeros = zeros′ e; table = is _ _ 3 (test-at 2 (rootWords s r) e refl) }; passes = passes′ }
     where
       zeros′ : tests (rootWords s r) ≡ 0 → (i : ℕ) → i ∈ (1 ∷ 2 ∷ 4 ∷ 124 ∷ 125 ∷ 126 ∷ []) → wordOf s r i ≡ 0
       zeros′ e i (inl q) = rw q (is _ _ 3 (test-at 0 (rootWords s r) e refl))
@@ -168,13 +175,13 @@ module _ (d : Disk) (s : List ℕ) where
   zeros-test : Test 16 zeros (OneBitmap s r)
   zeros-test =
       record {
-        gives = search between depth 8;
+        gives = search given depth 8;
         passed = λ e i l h. zeros-there s r 80 25 (must-passed _ 15 e) i l (omega arith);
         passes = λ f. must-passes _ 16 (zeros-found s r 80 25 (λ j l u. f j l (omega arith)));
       }
 
   valid-test : Test 16 (must (eqb (wordOf s r 78) 0xFFFFFFFF) 16) (Valid d s)
-  valid-test = word-test _ _ 15 (search between depth 8)
+  valid-test = word-test _ _ 15 (search given depth 8)
 
   map-order : mapFault d s ≡ first (must (eqb (wordOf s r 78) 0xFFFFFFFF) 16) zeros
   unfolding mapFault
@@ -239,10 +246,10 @@ module _ (d : Disk) (s : List ℕ) (k t i : ℕ) where
   Linked = w127 ∈ (3 ∷ 4 ∷ 0xFFFFFFFC ∷ [])
 
   type-test : Test 8 (must (eqb (wordOf s k 0) 2) 8) (wordOf s k 0 ≡ 2)
-  type-test = word-test _ _ 7 (search between depth 8)
+  type-test = word-test _ _ 7 (search given depth 8)
 
   link-test : Test 9 (tests links) (Linked → ⊥)
-  link-test = record { gives = search between depth 8; passed = passed′; passes = λ h. be-not _ _ 9 (λ e. h (inl e)) & be-not _ _ 9 (λ e. h (inr (inl e))) & be-not _ _ 9 (λ e. h (inr (inr (inl e)))) & refl }
+  link-test = record { gives = search given depth 8; passed = passed′; passes = λ h. be-not _ _ 9 (λ e. h (inl e)) & be-not _ _ 9 (λ e. h (inr (inl e))) & be-not _ _ 9 (λ e. h (inr (inr (inl e)))) & refl }
     where
       passed′ : tests links ≡ 0 → Linked → ⊥
       passed′ e (inl q) = is-not _ _ 8 (test-at 0 links e refl) q
@@ -264,7 +271,7 @@ module _ (d : Disk) (s : List ℕ) (k t i : ℕ) where
   known = pick (directory s k) 0 (must (eqb w127 0xFFFFFFFD) 8)
 
   known-test : Test 8 known Known
-  known-test = record { gives = search between depth 8; passed = passed′ (directory s k) refl; passes = passes′ }
+  known-test = record { gives = search given depth 8; passed = passed′ (directory s k) refl; passes = passes′ }
     where
       passed′ : (b : Bool) → directory s k ≡ b → known ≡ 0 → Known
       passed′ true h e = inl (eqb-true _ _ h)
@@ -277,7 +284,7 @@ module _ (d : Disk) (s : List ℕ) (k t i : ℕ) where
   ties-test : Test 10 (tests (entryWords s k t)) (EntryTies s k t)
   ties-test =
       record {
-        gives = search between depth 8;
+        gives = search given depth 8;
         passed = λ e. record { own = is _ _ 9 (test-at 0 (entryWords s k t) e refl); parent = is _ _ 9 (test-at 1 (entryWords s k t) e refl); link = λ h. is _ _ 9 (sym (pick-true (directory s k) _ _ _ h refl) ∙ test-at 2 (entryWords s k t) e refl) };
         passes = λ h. be _ _ 10 (h .own) & be _ _ 10 (h .parent) & link′ h (directory s k) refl & refl;
       }
@@ -287,7 +294,7 @@ module _ (d : Disk) (s : List ℕ) (k t i : ℕ) where
       link′ h false e = pick-false (directory s k) _ _ _ e refl
 
   slot-test : Test 12 (must (eqb (slotOf d (nameOf s k)) i) 12) (slotOf d (nameOf s k) ≡ i)
-  slot-test = word-test _ _ 11 (search between depth 8)
+  slot-test = word-test _ _ 11 (search given depth 8)
 
   entry-order : entryFault d s k t i ≡ first (must (eqb (sumOf s k) 0) 7) (first (must (eqb (wordOf s k 0) 2) 8) (first (tests links) (first known (first (tests (entryWords s k t)) (first (must (nameGood s k) 11) (must (eqb (slotOf d (nameOf s k)) i) 12))))))
   unfolding entryFault
@@ -348,7 +355,7 @@ module _ (d : Disk) (s : List ℕ) (h : ℕ) where
 
   header-test : Test 14 (fileFault d s h) (HeaderSound d s h)
   unfolding fileFault
-  header-test = record { gives = search between depth 16; passed = header-sound .0; passes = header-sound .1 }
+  header-test = record { gives = search given depth 16; passed = header-sound .0; passes = header-sound .1 }
 
   -- 14
   pub header-breaks : (v : ℕ) → ((fileFault d s h ≡ v) × (v ≢ 0)) ↔ HeaderBreaks d s h v
@@ -369,16 +376,16 @@ module _ (s : List ℕ) (k h n : ℕ) where
   types-test : Test 8 (tests types) (ListKind s k)
   types-test =
       record {
-        gives = search between depth 8;
+        gives = search given depth 8;
         passed = λ e. record { type = is _ _ 7 (test-at 0 types e refl); kind = is _ _ 7 (test-at 1 types e refl) };
         passes = λ p. be _ _ 8 (p .type) & be _ _ 8 (p .kind) & refl;
       }
 
   owns-test : Test 10 (tests owns) ((wordOf s k 1 ≡ k) × (wordOf s k 125 ≡ h))
-  owns-test = record { gives = search between depth 8; passed = λ e. (is _ _ 9 (test-at 0 owns e refl), is _ _ 9 (test-at 1 owns e refl)); passes = λ p. be _ _ 10 (p .0) & be _ _ 10 (p .1) & refl }
+  owns-test = record { gives = search given depth 8; passed = λ e. (is _ _ 9 (test-at 0 owns e refl), is _ _ 9 (test-at 1 owns e refl)); passes = λ p. be _ _ 10 (p .0) & be _ _ 10 (p .1) & refl }
 
   lists-test : Test 14 (tests (countRules s k n)) (Lists s k n)
-  lists-test = record { gives = search between depth 8; passed = count-passed s k n; passes = count-passes s k n }
+  lists-test = record { gives = search given depth 8; passed = count-passed s k n; passes = count-passes s k n }
 
   list-order : listFault s k h n ≡ first (must (eqb (sumOf s k) 0) 7) (first (tests types) (first (tests owns) (tests (countRules s k n))))
   unfolding listFault
@@ -415,7 +422,7 @@ module _ (d : Disk) (s : List ℕ) (k h n named : ℕ) where
   rest = must (eqb (wordOf s k 1) h) 15 ∷ must (eqb (wordOf s k 2) n) 15 ∷ must (eqb (wordOf s k 3) (heldOf d z n)) 15 ∷ dataLinks d s k z n named
 
   data-type-test : Test 8 (must (eqb (wordOf s k 0) 8) 8) (wordOf s k 0 ≡ 8)
-  data-type-test = word-test _ _ 7 (search between depth 8)
+  data-type-test = word-test _ _ 7 (search given depth 8)
 
   data-order : dataFault d s k h z n named ≡ first (must (eqb (sumOf s k) 0) 7) (first (must (eqb (wordOf s k 0) 8) 8) (tests rest))
   unfolding dataFault
@@ -423,7 +430,7 @@ module _ (d : Disk) (s : List ℕ) (k h n named : ℕ) where
 
   -- past the sum and the type
   datum-test : sumOf s k ≡ 0 → wordOf s k 0 ≡ 8 → Test 15 (tests rest) (DataTies d s k h n named)
-  datum-test a b = record { gives = search between depth 12; passed = passed′; passes = passes′ }
+  datum-test a b = record { gives = search given depth 12; passed = passed′; passes = passes′ }
     where
       passed′ : tests rest ≡ 0 → DataTies d s k h n named
       passed′ e = let p = data-passed d s k h n named (data-order ∙ on (sum-test s k) _ a (on data-type-test _ b e)) in record { block = p .1; here = p .2 .0; last = p .2 .1 }

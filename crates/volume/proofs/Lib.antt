@@ -13,3 +13,5 @@ pub mod Passes
 pub mod Breaks
 -- the starred cases hold
 pub mod Stars
+-- which numbers the tests of each kind of block give
+pub mod Given

@@ -12,7 +12,7 @@ find-numbers-requires : tie.Need-find-numbers-requires
 find-numbers-requires c κs = search needs
 
 returns : tie.Need-returns
-returns c = c .find-numbers .ensures ∙ ap findNumbers (c .before .find .ensures)
+returns c = c .find-numbers .ensures ∙ ap findNumbers (c .before .find .ensures .answer)
 
 pub jufferdeeg-find-spec : {M : Type 1} → statement M
 jufferdeeg-find-spec = tie.close (tie.spec find-requires find-numbers-requires returns)
