@@ -8,12 +8,12 @@ use Rattle.answers.specs.Members.{_∈_}
 use Rattle.answers.proofs.Members.{listed, unlisted, in-part}
 use Rattle.answers.proofs.Clashes.{impossible}
 use Rattle.volume.specs.declared.disk.Disk.{Disk}
-use Rattle.volume.proofs.Given.{rootRefusals, entryRefusals}
+use Rattle.volume.proofs.Given.{rootRefusals, entryRefusals, root-number, entry-number}
 use Rattle.lookup.specs.declared.find.Found.{Found}
 use Rattle.lookup.specs.declared.find.Found.the-variants.{Directory, File, Refused}
 use Rattle.lookup.specs.Lookup.{numbersOf, findRefusals, refuse, findOf, Finds}
 use Rattle.lookup.specs.Verdicts.{Refuses, number-1, number-18, number-3, of-root, number-5, number-6, of-entry, number-19, number-20}
-use Rattle.lookup.proofs.Refusing.{root-number, entry-number, refused-exactly}
+use Rattle.lookup.proofs.Refusing.{refused-exactly}
 
 module _ (d : Disk) (s path : List ℕ) (v k : ℕ) where
   -- a refusal's number is one of these
@@ -24,10 +24,10 @@ module _ (d : Disk) (s path : List ℕ) (v k : ℕ) where
       go (number-1 h a b) = rw a (listed findRefusals 1 tt)
       go (number-18 h f a) = rw a (listed findRefusals 18 tt)
       go (number-3 h p u a b) = rw a (listed findRefusals 3 tt)
-      go (of-root h p u z a b) = in-part rootRefusals findRefusals v tt (root-number d s v z a)
+      go (of-root h p u z b) = in-part rootRefusals findRefusals v tt (root-number z)
       go (number-5 h y a) = rw a (listed findRefusals 5 tt)
       go (number-6 h y l a) = rw a (listed findRefusals 6 tt)
-      go (of-entry h y l z a) = in-part entryRefusals findRefusals v tt (entry-number d s k _ _ v z a)
+      go (of-entry h y l z) = in-part entryRefusals findRefusals v tt (entry-number z)
       go (number-19 h a) = rw a (listed findRefusals 19 tt)
       go (number-20 h a) = rw a (listed findRefusals 20 tt)
 

@@ -19,6 +19,7 @@ use Rattle.volume.specs.Files.{keysHere, sizeOf, blocksOf}
 use Rattle.volume.specs.References.{Kind, Ref, to, references}
 use Rattle.volume.specs.Law.{chainKey, Hangs, Tree}
 use Rattle.volume.proofs.Passes.{root-passes}
+use Rattle.volume.proofs.Breaks.{root-sound}
 use Rattle.walk.specs.Nodes.{Node, root, bitmap, entry, list, datum, bare, chained, slotNodes, before, keyNodes, listing, listed, contents, leadsTo, graph}
 use Rattle.walk.proofs.Nodes.{in-linked, in-slots, in-keys}
 use Rattle.walk.proofs.Accepts.{block-reached, node-reached}
@@ -180,7 +181,7 @@ module _ (d : Disk) (s : List ℕ) (v : Tree d s) where
         go (inr (inr a)) = absurd a
 
     opens : length (pathOf s (rootOf d) k h) ≤ longestPath → Opened d s (pathOf s (rootOf d) k h)
-    opens l = record { long = v .long; form = joined-form names good l; tag = v .tag; root = root-passes d s (v .sums (to Kind.root (rootOf d)) (top refl)) (v .top) }
+    opens l = record { long = v .long; form = joined-form names good l; tag = v .tag; root = root-sound d s .0 (root-passes d s (v .sums (to Kind.root (rootOf d)) (top refl)) (v .top)) }
 
     parts : components (pathOf s (rootOf d) k h) ≡ names
     parts = components-joined names good

@@ -1,21 +1,20 @@
 -- In a tree every entry of a chain passes its tests, so that a lookup gives an answer, 18, 19 or 20 (`tree-answers`). Assumes nothing.
-use Prim.Native.Nat.{ℕ, _≤_, _<_}
+use Prim.Native.Nat.{ℕ, _<_}
 use mathlib.Core.Path.{_≡_, refl, sym, _∙_}
 use mathlib.Core.Logic.{_≢_, _⊎_, inl, inr}
 use mathlib.Core.Bool.{true}
 use mathlib.Core.List.{List}
 use native.Mathlib.Omega.{arith}
-use borrow.Author.Tests.{lt-ltb, le-ltb}
-use Rattle.answers.specs.Tests.{pick}
 use Rattle.reach.specs.References.{Reached, top}
 use Rattle.volume.specs.declared.disk.Disk.{Disk}
-use Rattle.volume.specs.Disks.{firstKey, rootOf, inRange, chainLimit}
+use Rattle.volume.specs.Disks.{rootOf, chainLimit}
 use Rattle.volume.specs.Blocks.{slots, slotWord, directory}
 use Rattle.volume.specs.Names.{slotOf}
 use Rattle.volume.specs.References.{Kind, to, references}
 use Rattle.volume.specs.Law.{chainKey, Hangs, Tree}
-use Rattle.volume.specs.Rules.{entryFault}
-use Rattle.volume.proofs.Passes.{root-passes, entry-passes}
+use Rattle.volume.specs.Breaks.{Inside, Placed}
+use Rattle.volume.proofs.Passes.{root-passes}
+use Rattle.volume.proofs.Breaks.{root-breaks, entry-breaks, entry-sound}
 use Rattle.walk.proofs.Places.{Holder, from-chain, referred}
 use Rattle.walk.proofs.Lawful.{held-by}
 use Rattle.lookup.specs.declared.find.Found.the-variants.{Directory, File}
@@ -23,14 +22,9 @@ use Rattle.lookup.specs.Search.{placeKey}
 use Rattle.lookup.specs.Lookup.{refuse, findOf}
 use Rattle.lookup.specs.Trails.{Tests, First, Trail, stay, down}
 use Rattle.lookup.specs.Verdicts.{Stands, Refuses, number-1, number-18, number-3, of-root, number-5, number-6, of-entry, number-19, number-20}
-use Rattle.lookup.proofs.Chains.{slot-below, key-own}
+use Rattle.lookup.proofs.Chains.{slot-below}
 use Rattle.lookup.proofs.Refusing.{refused-exactly, directory-exactly, file-exactly}
 use Rattle.lookup.proofs.Rooms.{chain-few}
-
--- a key between the boot blocks and the end is in range
-in-range : (d : Disk) (k : ℕ) → (firstKey ≤ k) × (k < d .blocks) → inRange d k ≡ true
-unfolding inRange pick
-in-range d k h = rw (le-ltb k firstKey (h .0)) (lt-ltb k (d .blocks) (h .1))
 
 module _ (d : Disk) (s : List ℕ) (v : Tree d s) where
   -- ---- place p of the chain of slot i of directory t
@@ -42,14 +36,14 @@ module _ (d : Disk) (s : List ℕ) (v : Tree d s) where
     pub place-reached : Reached (references d s) (to Kind.entry (chainKey s (slotWord s t i) p))
     place-reached = referred d s k (from-chain d s t i holder l p some)
 
-    pub place-ranged : inRange d (chainKey s (slotWord s t i) p) ≡ true
-    place-ranged = in-range d k (v .keys (to Kind.entry k) place-reached)
+    pub place-inside : Inside d (chainKey s (slotWord s t i) p)
+    place-inside = let h = v .keys (to Kind.entry k) place-reached in record { low = h .0; high = h .1 }
 
-    pub place-fine : entryFault d s (chainKey s (slotWord s t i) p) t i ≡ 0
-    place-fine =
+    pub place-placed : Placed d s (chainKey s (slotWord s t i) p) t i
+    place-placed =
         let h : Hangs s t i k = record { slot = l; place = p; there = refl; some = some } in
         let b = held-by d s v t holder in
-        entry-passes d s k t i (record { sum = v .sums (to Kind.entry k) place-reached; entry = v .entries k place-reached; parent = b .parent i k h; link = λ e. v .directories k place-reached e .0; slot = b .slot i k h })
+        record { sum = v .sums (to Kind.entry k) place-reached; entry = v .entries k place-reached; parent = b .parent i k h; link = λ e. v .directories k place-reached e .0; slot = b .slot i k h }
 
     pub place-near : p < chainLimit d
     place-near = chain-few d s v t i holder l p some
@@ -62,7 +56,7 @@ module _ (d : Disk) (s : List ℕ) (v : Tree d s) where
     low = slot-below d name i refl
 
     pub place-tests : (p : ℕ) → placeKey d s t name p ≢ 0 → Tests d s t name p
-    place-tests p some = record { some = some; fine = sym (key-own d s t i p (placeKey d s t name p) true (sym (place-ranged t i p holder low some)) refl (chainLimit d) refl (place-near t i p holder low some) 0 (sym (place-fine t i p holder low some))) }
+    place-tests p some = record { some = some; inside = place-inside t i p holder low some; near = place-near t i p holder low some; placed = place-placed t i p holder low some }
 
     -- an entry that is found is reached
     pub first-reached : (p : ℕ) → First d s t name p → Reached (references d s) (to Kind.entry (placeKey d s t name p))
@@ -86,13 +80,14 @@ module _ (d : Disk) (s : List ℕ) (v : Tree d s) where
       go (number-1 h a b) = absurd (h (v .long))
       go (number-18 h f a) = inl a
       go (number-3 h p u a b) = absurd (u (v .tag))
-      go (of-root h p u z a b) = absurd (z (sym a ∙ root-passes d s (v .sums (to Kind.root (rootOf d)) (top refl)) (v .top)))
-      go (number-5 h y a) =
-          let q : inRange d k ≡ true = rw (h .key) at (place-ranged (h .comes .parent) (slotOf d (h .comes .name)) (h .place) (held h) (slot-below d (h .comes .name) _ refl) (some h)) in
-          let z : _≡_ {A = ℕ} 0 1 = cc in
-          absurd (omega arith)
+      go (of-root h p u z b) =
+          let a = root-breaks d s n .1 z in
+          absurd (a .1 (sym (a .0) ∙ root-passes d s (v .sums (to Kind.root (rootOf d)) (top refl)) (v .top)))
+      go (number-5 h y a) = absurd (y (rw (h .key) at (place-inside (h .comes .parent) (slotOf d (h .comes .name)) (h .place) (held h) (slot-below d (h .comes .name) _ refl) (some h))))
       go (number-6 h y l a) = let q = place-near (h .comes .parent) (slotOf d (h .comes .name)) (h .place) (held h) (slot-below d (h .comes .name) _ refl) (some h) in absurd (omega arith)
-      go (of-entry h y l z a) = absurd (z (sym a ∙ (rw (h .key) at (place-fine (h .comes .parent) (slotOf d (h .comes .name)) (h .place) (held h) (slot-below d (h .comes .name) _ refl) (some h)))))
+      go (of-entry h y l z) =
+          let a = entry-breaks d s k (h .comes .parent) (slotOf d (h .comes .name)) n .1 z in
+          absurd (a .1 (sym (a .0) ∙ entry-sound d s k (h .comes .parent) (slotOf d (h .comes .name)) .1 (rw (h .key) at (place-placed (h .comes .parent) (slotOf d (h .comes .name)) (h .place) (held h) (slot-below d (h .comes .name) _ refl) (some h)))))
       go (number-19 h a) = inr (inl a)
       go (number-20 h a) = inr (inr a)
 

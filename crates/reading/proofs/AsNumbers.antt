@@ -1,60 +1,22 @@
 -- The answer of a read as numbers: which numbers a refusal has, and that 0 is no refusal. Assumes nothing.
-use Prim.Native.Nat.{ℕ, zero, suc, _+_, _-_}
-use mathlib.Core.Path.{_≡_, refl, sym, subst, _∙_}
-use mathlib.Core.Logic.{_↔_, _⊎_, inl, inr}
-use mathlib.Core.List.{List, [], _∷_, _++_}
+use Prim.Native.Nat.{ℕ}
+use mathlib.Core.Path.{_≡_, refl, sym, _∙_}
+use mathlib.Core.Logic.{_↔_}
+use mathlib.Core.List.{List}
 use lib.ListN.{length}
 use Rattle.answers.specs.declared.Refusal.{Refusal}
 use Rattle.answers.specs.Members.{_∈_}
 use Rattle.answers.proofs.Members.{listed, unlisted, in-part}
-use Rattle.answers.proofs.Given.{Given, must-given, first-given, more-given}
 use Rattle.answers.proofs.Clashes.{impossible}
-use Rattle.reach.proofs.Lists.{in-either, in-right}
 use Rattle.volume.specs.declared.disk.Disk.{Disk}
-use Rattle.volume.specs.Blocks.{slots, wordOf, keyWord}
-use Rattle.volume.specs.Files.{blocksOf, listBlocks, keysHere}
-use Rattle.volume.proofs.Given.{fileRefusals, listRefusals, dataRefusals, file-given, list-given, data-given}
-use Rattle.walk.specs.Nodes.{Node, list, datum, keyNodes, faultOf}
+use Rattle.volume.proofs.Given.{headerRefusals, listRefusals, dataRefusals, header-number, list-number, data-number}
 use Rattle.lookup.specs.Lookup.{findRefusals}
 use Rattle.lookup.proofs.AsNumbers as lookup
 use Rattle.reading.specs.declared.read.Reading.{Reading}
 use Rattle.reading.specs.declared.read.Reading.the-variants.{Bytes, Refused}
-use Rattle.reading.specs.FileTests.{nodeFault, blocksFrom, fileNodes}
 use Rattle.reading.specs.Reads.{numbersOf, readRefusals, refuse, readOf, Reads}
-use Rattle.reading.specs.Outcomes.{Refuses, of-lookup, of-directory, of-header, of-block}
+use Rattle.reading.specs.Outcomes.{data-key, data-itself, list-key, list-itself, at-data, at-list, Refuses, of-lookup, of-directory, of-header, of-block}
 use Rattle.reading.proofs.Refusing.{refused-exactly}
-
--- ---- the blocks of a file are list blocks and data blocks
-
-module _ (d : Disk) (s : List ℕ) where
-  abbrev Fits : Node → Type 0
-  Fits n = Given readRefusals (nodeFault d s n)
-
-  list-fits : (k h m c : ℕ) → Fits (list k h m c)
-  unfolding faultOf
-  list-fits k h m c = first-given _ _ (must-given 5 tt _) (more-given listRefusals _ tt (list-given s k h _))
-
-  datum-fits : (k h n c : ℕ) → Fits (datum k h n c)
-  unfolding faultOf
-  datum-fits k h n c = first-given _ _ (must-given 5 tt _) (more-given dataRefusals _ tt (data-given d s k h _ n _))
-
-  keys-fit : (h b m c i n : ℕ) (x : Node) → x ∈ keyNodes s h b m c i n → Fits x
-  unfolding keyNodes
-  keys-fit h b m c i zero x a = absurd a
-  keys-fit h b m c i (suc n) x (inl e) = rw e (datum-fits _ h _ _)
-  keys-fit h b m c i (suc n) x (inr a) = keys-fit h b m c (suc i) n x a
-
-  from-fit : (h b m c q : ℕ) (x : Node) → x ∈ blocksFrom d s h b m c q → Fits x
-  unfolding blocksFrom
-  from-fit h b m c zero x a = keys-fit h b m c 0 _ x a
-  from-fit h b m c (suc q) x a = go (in-either x (keyNodes s h b m c 0 (keysHere (blocksOf d s h - m))) _ a) (from-fit h (wordOf s b 126) (m + slots) (keyWord s b 71) q x)
-    where
-      go : (x ∈ keyNodes s h b m c 0 (keysHere (blocksOf d s h - m))) ⊎ (x ∈ (list (wordOf s b 126) h (m + slots) (keyWord s b 71) ∷ blocksFrom d s h (wordOf s b 126) (m + slots) (keyWord s b 71) q)) → (x ∈ blocksFrom d s h (wordOf s b 126) (m + slots) (keyWord s b 71) q → Fits x) → Fits x
-      go (inl y) more = keys-fit h b m c 0 _ x y
-      go (inr (inl y)) more = rw y (list-fits _ h _ _)
-      go (inr (inr y)) more = more y
-
--- ---- the number
 
 module _ (d : Disk) (s path : List ℕ) (o n v k : ℕ) where
   -- a refusal's number is one of these
@@ -64,10 +26,11 @@ module _ (d : Disk) (s path : List ℕ) (o n v k : ℕ) where
       go : Refuses d s path v k → v ∈ readRefusals
       go (of-lookup f) = in-part findRefusals readRefusals v tt (lookup.refused-number d s path v k f)
       go (of-directory t c f a b) = rw a (listed readRefusals 20 tt)
-      go (of-header z c f a u) = in-part fileRefusals readRefusals v tt (subst (Given fileRefusals) a (file-given d s k) .member u)
-      go (of-block h z c f a w) =
-          let m : w .node ∈ fileNodes d s h = rw (w .parts) (in-right (w .node) (w .front) (w .node ∷ w .back) (inl refl)) in
-          subst (Given readRefusals) (w .fault) (from-fit d s h h 0 h (listBlocks (blocksOf d s h)) (w .node) m) .member (w .some)
+      go (of-header z c f b) = in-part headerRefusals readRefusals v tt (header-number b)
+      go (of-block h z c f g (at-data i x a y (data-key q w))) = rw w (listed readRefusals 5 tt)
+      go (of-block h z c f g (at-data i x a y (data-itself q b))) = in-part dataRefusals readRefusals v tt (data-number b)
+      go (of-block h z c f g (at-list j a y (list-key q w))) = rw w (listed readRefusals 5 tt)
+      go (of-block h z c f g (at-list j a y (list-itself q b))) = in-part listRefusals readRefusals v tt (list-number b)
 
 module _ (d : Disk) (s path : List ℕ) (o : ℕ) (output : List ℕ) (r : Reading) (output′ : List ℕ) (a : Reads d s path o output r output′) where
   pub number-listed : (x : Refusal) → r ≡ Refused x → numbersOf r .number ∈ readRefusals

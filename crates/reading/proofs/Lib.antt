@@ -15,6 +15,8 @@ pub mod Readings
 pub mod Answers
 -- `passes-tested`, `tested-exactly`: a file passes exactly if it is as the law says, its blocks in range with sum 0
 pub mod Passing
+-- where each block of a file stands in the order of its tests
+pub mod Order
 -- `refused-exactly`: each refusal exactly then
 pub mod Refusing
 -- `tree-file-passes`, `tree-read-whole`, `tree-read-answers`: reads in a tree

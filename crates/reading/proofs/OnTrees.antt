@@ -35,7 +35,7 @@ use Rattle.reading.specs.Bytes.{fileBytes, part, filledBy}
 use Rattle.reading.specs.Reads.{refuse, readOf, Reads}
 use Rattle.reading.specs.Outcomes.{Intact, Whole, Refuses, of-lookup, of-directory, of-header, of-block}
 use Rattle.reading.proofs.Answers.{bytes-long, found-size, read-exactly}
-use Rattle.reading.proofs.Passing.{passes-tested}
+use Rattle.reading.proofs.Passing.{passes-tested, tested-exactly}
 use Rattle.reading.proofs.Refusing.{refused-exactly}
 
 module _ (d : Disk) (s : List ℕ) where
@@ -130,7 +130,7 @@ module _ (d : Disk) (s : List ℕ) (v : Tree d s) where
 
       -- A read of a file gives its bytes from the offset on.
       pub tree-reads : (o n : ℕ) → readOf d s path o n ≡ Bytes (min n (z - o))
-      tree-reads o n = read-exactly d s path o n (min n (z - o)) .1 (record { key = k; size = z; compared = c; found = e; passed = found-passes; count = refl })
+      tree-reads o n = read-exactly d s path o n (min n (z - o)) .1 (record { key = k; size = z; compared = c; found = e; whole = tested-exactly d s k .0 found-passes; count = refl })
 
       -- From offset 0 into room for all of it, it gives the whole file.
       pub tree-read-whole : (output output′ : List ℕ) (r : Reading) → z ≤ length output → Reads d s path 0 output r output′ → (r ≡ Bytes z) × (length (fileBytes d s k) ≡ z) × (output′ ≡ fileBytes d s k ++ drop z output)
@@ -150,7 +150,7 @@ module _ (d : Disk) (s : List ℕ) (v : Tree d s) where
         go : Refuses d s path w i → (w ≡ 18) ⊎ (w ≡ 19) ⊎ (w ≡ 20)
         go (of-lookup e) = tree-answers d s v path w i e
         go (of-directory t c e a b) = inr (inr a)
-        go (of-header z c e f u) = absurd (none i z c e)
+        go (of-header z c e f) = absurd (none i z c e)
         go (of-block h z c e f u) = absurd (none h z c e)
 
   -- Every reached file is read whole by its path, if that is not too long.
