@@ -1,14 +1,14 @@
 -- What each refusal of the check says of the file, and that it is given exactly then. Assumes nothing.
 use Prim.Native.Nat.{ℕ, zero, suc, _+_, _*_, _-_, _/_, _%_, _<_, _≤_}
 use mathlib.Core.Path.{_≡_, refl, sym, ap, subst, _∙_}
-use mathlib.Core.Logic.{_≢_, _⊎_, inl, inr}
+use mathlib.Core.Logic.{_≢_, _⊎_, inl, inr, _↔_}
 use mathlib.Core.List.{List}
 use mathlib.Core.Bool.{Bool, true, false}
 use native.Mathlib.Omega.{arith}
 use native.Mathlib.Decide.{decLt}
 use lib.Dec.{ltb, leb, eqb}
 use lib.ListN.{length}
-use borrow.Author.Tests.{eqb-true, eqb-false, ltb-true, ltb-false, leb-true, lt-ltb, le-ltb, eq-eqb, ne-eqb}
+use borrow.Author.Tests.{eqb-true, eqb-false, ltb-true, ltb-false, leb-true, lt-ltb, le-ltb, le-leb, eq-eqb, ne-eqb}
 use Rattle.words.specs.Word.{wordAt}
 use Rattle.answers.specs.Tests.{pick}
 use Rattle.answers.specs.Refusals.{refusal}
@@ -220,7 +220,7 @@ module _ (file : List ℕ) (f : Refusal) where
       let q = pass-sizes (c .1) in
       whole-check (c .0) ∙ rw (p, q) (walk-refuses (c .0) (sound-header file p q) (c .2))
 
--- ---- which word is not taken, by what the reader expects
+-- ---- which word is not taken, by what the reader expects: both ways
 
 bad-same : (a v : ℕ) → Bad a ≡ Bad v → v ≡ a
 bad-same a v e = cc
@@ -267,6 +267,33 @@ module _ (t : ℕ) (size : ℕ → ℕ) (c : Cursor) (w v : ℕ) where
   turn-why (Skip n a) = λ e. both-on _ _ _ e
   turn-why End = λ e. bad-same 39 v e
 
-  pub step-why : stepOf t size c w ≡ Bad v → Refuses t size c w v (c .mode)
+  body-refused : v ≡ 35 → w ≢ 0x3E9 → w ≢ 0x3EA → w ≢ 0x3EB → bodyOf c w ≡ Bad v
+  unfolding pick
+  body-refused e p q r = rw (ne-eqb w 0x3E9 p, ne-eqb w 0x3EA q, ne-eqb w 0x3EB r, e)
+
+  -- the same from right to left
+  why-turn : (m : Mode) → Refuses t size c w v m → turn t size c w m ≡ Bad v
+  unfolding pick
+  why-turn Begin h = rw (ne-eqb w 0x3E8 (h .1)) (body-refused (h .0) (h .2) (h .3) (h .4))
+  why-turn Body h = body-refused (h .0) (h .1) (h .2) (h .3)
+  why-turn (Length k) h = rw (lt-ltb _ _ (h .1), h .0)
+  why-turn Part h = rw (ne-eqb w 0x3EC (h .1), ne-eqb w 0x3F0 (h .2), ne-eqb w 0x3F1 (h .3), ne-eqb w 0x3F2 (h .4), h .0)
+  why-turn (Number n) h = rw (le-ltb _ _ (h .1), h .0)
+  why-turn (Offset n k) h = go (eqb (w % 2) 0) refl (h .1)
+    where
+      go : (b : Bool) → eqb (w % 2) 0 ≡ b → (w % 2 ≢ 0) ⊎ (4 * c .stored < w + 4) → pick b (pick (ltb (4 * c .stored) (w + 4)) (Bad 38) (pick (eqb n 0) (on c Count) (on c (Offset (n - 1) k)))) (Bad 38) ≡ Bad v
+      go false q x = ap Bad (sym (h .0))
+      go true q (inl x) = absurd (x (eqb-true _ _ q))
+      go true q (inr x) = rw (lt-ltb _ _ x, h .0)
+  why-turn Symbol h = rw (ne-eqb w 0 (omega (arith, h .1)), le-leb _ _ (h .1), h .0)
+  why-turn End h = ap Bad (sym h)
+  why-turn NameLength h = absurd h
+  why-turn (Stored i) h = absurd h
+  why-turn Count h = absurd h
+  why-turn DebugLength h = absurd h
+  why-turn (Skip n a) h = absurd h
+
+  -- a word is not taken, with the number v, if and only if it may not stand there
+  pub step-why : (stepOf t size c w ≡ Bad v) ↔ Refuses t size c w v (c .mode)
   unfolding stepOf
-  step-why = turn-why (c .mode)
+  step-why = (turn-why (c .mode), why-turn (c .mode))
