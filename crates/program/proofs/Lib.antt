@@ -17,6 +17,8 @@ pub mod Passes
 pub mod Taken
 -- what is accepted is hunks written out
 pub mod Traced
+-- words determine the hunks
+pub mod Unique
 -- a program file is what the page says
 pub mod Pages
 -- what each refusal of the check says

@@ -39,8 +39,9 @@ last (u ∷ v ∷ us) n e = more (last (v ∷ us) (n - 1) (omega arith))
     more : Ended (v ∷ us) (n - 1) → Ended (u ∷ v ∷ us) n
     more r = (u ∷ r .0, r .1, omega (arith, r .2), cons refl (r .3))
 
-grouped : (x : Name) (b : Body) (ps : List Part) (hs : List Hunk) (n : ℕ) → hunkWords (record { size = n; name = x; body = b; parts = ps }) ++ joined hunkWords hs ≡ nameWords x ++ (bodyWords b ++ (joined partWords ps ++ (0x3F2 ∷ joined hunkWords hs)))
-grouped x b ps hs n = simp append-assoc
+-- a hunk's words and others, piece by piece
+pub grouped : (x : Name) (b : Body) (ps : List Part) (rest : List ℕ) (n : ℕ) → hunkWords (record { size = n; name = x; body = b; parts = ps }) ++ rest ≡ nameWords x ++ (bodyWords b ++ (joined partWords ps ++ (0x3F2 ∷ rest)))
+grouped x b ps rest n = simp append-assoc
 
 module _ (t : ℕ) (size : ℕ → ℕ) where
   -- what is left in hunk h, of s stored words
@@ -221,7 +222,7 @@ module _ (t : ℕ) (size : ℕ → ℕ) where
         let y : Hunk = record { size = size (c .hunk); name = x; body = b .0; parts = g .0 } in (
           y ∷ g .1,
           (refl, record { size = small (c .hunk) (omega arith); body = b .2; parts = g .2 }, g .3),
-          e ∙ ap (λ (l : List ℕ). nameWords x ++ l) (b .4 ∙ ap (λ (l : List ℕ). bodyWords (b .0) ++ l) (g .4)) ∙ sym (grouped x (b .0) (g .0) (g .1) (size (c .hunk))),
+          e ∙ ap (λ (l : List ℕ). nameWords x ++ l) (b .4 ∙ ap (λ (l : List ℕ). bodyWords (b .0) ++ l) (g .4)) ∙ sym (grouped x (b .0) (g .0) (joined hunkWords (g .1)) (size (c .hunk))),
         )
 
     begin-back : ((i : ℕ) → i < t → size i ≤ 65536) → Then (beginOf c w) ws → Hunks (c .hunk) (w ∷ ws)
