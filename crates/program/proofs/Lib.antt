@@ -21,6 +21,8 @@ pub mod Traced
 pub mod Unique
 -- a program file is what the page says
 pub mod Pages
+-- the reader comes to where a hunk is begun
+pub mod Beginnings
 -- what each refusal of the check says
 pub mod Refusing
 -- words that a pass may go on behind

@@ -1,6 +1,8 @@
 -- What the contracts of `program` cite. To read what a program file is: Page.
 -- a program file as the page shows it: hunks, written out to words
 pub mod Page
+-- a hunk that is begun, and which word may not come next
+pub mod Begun
 -- the header's words
 pub mod Header
 -- the reader, a word at a time
