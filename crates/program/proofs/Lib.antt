@@ -23,6 +23,8 @@ pub mod Unique
 pub mod Pages
 -- the reader comes to where a hunk is begun
 pub mod Beginnings
+-- what stands before a byte that the reader comes to
+pub mod Standing
 -- what each refusal of the check says
 pub mod Refusing
 -- words that a pass may go on behind
