@@ -1,15 +1,13 @@
 -- Where whole hunks and a begun one stand before a byte, there the reader comes, and expects what comes next. Assumes nothing.
-use Prim.Native.Nat.{ℕ, suc, _+_, _*_, _-_, _<_, _≤_}
+use Prim.Native.Nat.{ℕ, suc, _+_, _*_, _-_, _≤_}
 use mathlib.Core.Path.{_≡_, refl, sym, ap, subst, _∙_}
-use mathlib.Core.Logic.{_≢_, _⊎_, inl, inr, _↔_}
+use mathlib.Core.Logic.{_⊎_, inl, inr}
 use mathlib.Core.List.{List, [], _∷_, _++_, append-assoc, append-nil}
 use native.Mathlib.Omega.{arith}
 use lib.ListN.{length}
-use lib.Dec.{eqb}
 use borrow.Author.Tests.{lt-ltb, le-ltb, lt-leb, eq-eqb, ne-eqb}
 use Rattle.words.specs.Word.{wordAt, wordsAt}
 use Rattle.answers.specs.Tests.{pick}
-use Rattle.answers.proofs.Clashes.{impossible}
 use Rattle.program.specs.declared.reader.After.the-variants as after
 use Rattle.program.specs.declared.reader.Cursor.{Cursor}
 use Rattle.program.specs.declared.reader.Mode.{Mode}
@@ -17,10 +15,10 @@ use Rattle.program.specs.declared.reader.Mode.the-variants as mode
 use Rattle.program.specs.declared.reader.Next.{Next}
 use Rattle.program.specs.declared.reader.Next.the-variants.{On, Bad}
 use Rattle.program.specs.Page.{Hunk, joined, groupWords, symbolWords, partWords, hunkWords, storedWords, total}
-use Rattle.program.specs.Begun.{PartBegun, Begun, aPart, aCount, aNumber, anOffset, aSymbol, symbolWord, debugLength, debugWord, first, nameLength, nameWord, aBody, bodyLength, bodyWord, behind, partSoFar, soFar, PartBegunFits, BegunFits}
+use Rattle.program.specs.Begun.{PartBegun, Begun, aPart, aCount, aNumber, anOffset, aSymbol, symbolWord, debugLength, debugWord, first, nameLength, nameWord, aBody, bodyLength, bodyWord, afterBody, partSoFar, soFar, PartBegunFits, BegunFits}
 use Rattle.program.specs.Header.{totalOf, sizeOf, startAt}
-use Rattle.program.specs.Reader.{start, turn, stepOf}
-use Rattle.program.specs.Verdicts.{Stand, OfSizes, Before, Comes, begins, takes}
+use Rattle.program.specs.Reader.{turn, stepOf}
+use Rattle.program.specs.Verdicts.{Stand, OfSizes, Before, AllHunks, Comes, begins, takes}
 use Rattle.program.proofs.Taken.{cursor, Goes, Front, skipped, passing, skipping, offsetting, groups-on, symbols-on, parts-on, storing, type-on, begin-on, fronts-on}
 
 -- ---- what the reader expects, and how many words the hunk stores as far as that is known
@@ -42,7 +40,7 @@ modeOf (nameWord n ws) = mode.Skip (n - suc (length ws)) after.Body
 modeOf (aBody ws) = mode.Body
 modeOf (bodyLength x k) = mode.Length k
 modeOf (bodyWord x k n ws) = mode.Stored (length ws)
-modeOf (behind x b ps p) = partMode p
+modeOf (afterBody x b ps p) = partMode p
 
 abbrev pub storedOf : Begun → ℕ
 storedOf first = 0
@@ -51,11 +49,18 @@ storedOf (nameWord n ws) = 0
 storedOf (aBody ws) = 0
 storedOf (bodyLength x k) = 0
 storedOf (bodyWord x k n ws) = n
-storedOf (behind x b ps p) = length (storedWords b)
+storedOf (afterBody x b ps p) = length (storedWords b)
 
 -- in hunk h, whose first byte in memory is p
-abbrev pub cursorOf : Begun → ℕ → ℕ → Cursor
-cursorOf b h p = cursor (modeOf b) h p (storedOf b)
+abbrev pub cursorIn : Begun → ℕ → ℕ → Cursor
+cursorIn b h p = cursor (modeOf b) h p (storedOf b)
+
+-- after whole hunks: before a word of a begun one, and after the last
+abbrev pub cursorOf : List Hunk → Begun → Cursor
+cursorOf hs b = cursorIn b (length hs) (4 * total hs)
+
+abbrev pub cursorPast : List Hunk → Cursor
+cursorPast hs = cursor mode.End (length hs) (4 * total hs) 0
 
 -- ---- a begun hunk's words are taken
 
@@ -77,7 +82,7 @@ module _ (t : ℕ) (size : ℕ → ℕ) (Taken : Cursor → List ℕ → Type 0)
   part-begun s debugLength rest f g = step _ _ _ g
   part-begun s (debugWord n ws) rest f g = step _ _ _ (step _ _ _ (skipping t size Taken step h p s mode.DebugLength after.Part rest ws n f g))
 
-  begun-on : (b : Begun) (rest : List ℕ) → BegunFits t (size h) b → Taken (cursorOf b h p) rest → Taken (cursor mode.Begin h p 0) (soFar b ++ rest)
+  begun-on : (b : Begun) (rest : List ℕ) → BegunFits t (size h) b → Taken (cursorIn b h p) rest → Taken (cursor mode.Begin h p 0) (soFar b ++ rest)
   unfolding pick
   begun-on first rest f g = g
   begun-on nameLength rest f g = step _ _ _ g
@@ -95,7 +100,7 @@ module _ (t : ℕ) (size : ℕ → ℕ) (Taken : Cursor → List ℕ → Type 0)
       kept : (k ≡ 0x3E9) ⊎ (k ≡ 0x3EA) → k ≡ 0x3EB → ⊥
       kept (inl e) = omega arith
       kept (inr e) = omega arith
-  begun-on (behind x b ps q) rest f g =
+  begun-on (afterBody x b ps q) rest f g =
       let n = length (storedWords b) in
       simp append-assoc (begin-on t size Taken step h p x b 0 (joined partWords ps ++ (partSoFar q ++ rest)) (f .0) (parts-on t size Taken step h p n ps (partSoFar q ++ rest) (f .1) (part-begun n q rest (f .2) g)))
 
@@ -128,19 +133,17 @@ module _ (file : List ℕ) (end : ℕ) (within : end ≤ length file) (G : Type 
   here c k at r e x = let z : at ≡ end = omega arith in k (subst (Comes file c) z r)
 
 module _ (file : List ℕ) (some : 1 ≤ totalOf file) (hs : List Hunk) (at : ℕ) where
-  pub before-comes : (b : Begun) → Before file hs b at → (p : ℕ) × Comes file (cursorOf b (length hs) p) at
+  pub before-comes : (b : Begun) → Before file hs b at → Comes file (cursorOf hs b) at
   unfolding pick
   before-comes b s =
-      let G : Type 0 = (p : ℕ) × Comes file (cursorOf b (length hs) p) at in
-      let p : ℕ = 4 * total hs in
-      let y = begun-on (totalOf file) (sizeOf file) (Leads file at G) (along file at (s .stand .within) G) (length hs) p b [] (s .begun) (here file at (s .stand .within) G (cursorOf b (length hs) p) (λ r. (p, r))) in
+      let G : Type 0 = Comes file (cursorOf hs b) at in
+      let y = begun-on (totalOf file) (sizeOf file) (Leads file at G) (along file at (s .stand .within) G) (length hs) (4 * total hs) b [] (s .begun) (here file at (s .stand .within) G (cursorOf hs b) (λ r. r)) in
       hunks-lead file at (s .stand .within) G some hs (soFar b) (omega (arith, s .next)) (s .hunks) (s .stand)
       (rw (ne-eqb (length hs) (totalOf file) (omega (arith, s .next))) (rw append-nil at y))
 
-  pub whole-comes : length hs ≡ totalOf file → OfSizes (totalOf file) (sizeOf file) 0 hs → Stand file (joined hunkWords hs) at → (p : ℕ) × Comes file (cursor mode.End (length hs) p 0) at
+  pub whole-comes : AllHunks file hs at → Comes file (cursorPast hs) at
   unfolding pick
-  whole-comes e z s =
-      let G : Type 0 = (p : ℕ) × Comes file (cursor mode.End (length hs) p 0) at in
-      let p : ℕ = 4 * total hs in
-      hunks-lead file at (s .within) G some hs [] (omega arith) z (rw append-nil s)
-      (rw (eq-eqb (length hs) (totalOf file) e) (here file at (s .within) G (cursor mode.End (length hs) p 0) (λ r. (p, r))))
+  whole-comes s =
+      let G : Type 0 = Comes file (cursorPast hs) at in
+      hunks-lead file at (s .stand .within) G some hs [] (omega (arith, s .all)) (s .hunks) (rw append-nil (s .stand))
+      (rw (eq-eqb (length hs) (totalOf file) (s .all)) (here file at (s .stand .within) G (cursorPast hs) (λ r. r)))

@@ -1,7 +1,7 @@
 -- Wherever the reader comes, whole hunks and a begun one stand before it, or all hunks do. Assumes nothing.
 use Prim.Native.Nat.{ℕ, suc, _+_, _*_, _-_, _%_, _<_, _≤_}
-use mathlib.Core.Path.{_≡_, refl, sym, ap, subst, _∙_}
-use mathlib.Core.Logic.{_≢_, _⊎_, inl, inr}
+use mathlib.Core.Path.{_≡_, refl, sym, ap, ap₂, _∙_}
+use mathlib.Core.Logic.{_≢_, _⊎_, inl, inr, _↔_}
 use mathlib.Core.List.{List, [], _∷_, _++_, append-assoc, append-nil}
 use mathlib.Core.Bool.{Bool, true, false}
 use native.Mathlib.Omega.{arith}
@@ -14,21 +14,19 @@ use Rattle.answers.specs.Tests.{pick}
 use Rattle.program.specs.declared.reader.After.{After}
 use Rattle.program.specs.declared.reader.After.the-variants as after
 use Rattle.program.specs.declared.reader.Cursor.{Cursor}
-use Rattle.program.specs.declared.reader.Mode.{Mode}
 use Rattle.program.specs.declared.reader.Mode.the-variants as mode
-use Rattle.program.specs.declared.reader.Next.{Next}
-use Rattle.program.specs.declared.reader.Next.the-variants.{On, Bad}
-use Rattle.program.specs.Page.{Name, Body, Group, Symbol, Part, Hunk, none, named, code, stores, bss, relocation, symbols, debug, joined, nameWords, bodyWords, groupWords, symbolWords, partWords, hunkWords, Each, bodyCount, storedWords, OffsetFits, GroupFits, SymbolFits, PartFits, HunkFits}
-use Rattle.program.specs.Begun.{PartBegun, Begun, aPart, aCount, aNumber, anOffset, aSymbol, symbolWord, debugLength, debugWord, first, nameLength, nameWord, aBody, bodyLength, bodyWord, behind, partSoFar, soFar, PartBegunFits, BegunFits}
+use Rattle.program.specs.declared.reader.Next.the-variants.{On}
+use Rattle.program.specs.Page.{Name, Body, Group, Symbol, Part, Hunk, none, named, code, stores, bss, relocation, symbols, debug, joined, nameWords, bodyWords, groupWords, symbolWords, partWords, hunkWords, Each, bodyCount, storedWords, OffsetFits, GroupFits, SymbolFits, PartFits, HunkFits, total}
+use Rattle.program.specs.Begun.{PartBegun, Begun, aPart, aCount, aNumber, anOffset, aSymbol, symbolWord, debugLength, debugWord, first, nameLength, nameWord, aBody, bodyLength, bodyWord, afterBody, partSoFar, soFar, PartBegunFits, BegunFits}
 use Rattle.program.specs.Header.{totalOf, sizeOf, startAt}
-use Rattle.program.specs.Reader.{start, on, resume, skip, bodyOf, storedFrom, endOf, turn, stepOf}
+use Rattle.program.specs.Reader.{resume, skip, bodyOf, storedFrom, endOf, turn, stepOf}
 use Rattle.program.specs.Sane.{Sound}
-use Rattle.program.specs.Verdicts.{Stand, OfSizes, Before, Comes, begins, takes}
+use Rattle.program.specs.Verdicts.{Stand, OfSizes, Before, AllHunks, Comes, begins, takes}
 use Rattle.program.proofs.Heading.{words-add}
 use Rattle.program.proofs.Sanes.{pick-on, on-on, bad-on}
 use Rattle.program.proofs.Taken.{cursor}
 use Rattle.program.proofs.Traced.{cons}
-use Rattle.program.proofs.Beginnings.{partMode, modeOf, storedOf, cursorOf}
+use Rattle.program.proofs.Beginnings.{partMode, modeOf, cursorIn, cursorOf, cursorPast, before-comes, whole-comes}
 
 -- ---- one more at the end
 
@@ -46,6 +44,10 @@ joined-snoc f (y ∷ xs) x = ap (λ (l : List ℕ). f y ++ l) (joined-snoc f xs 
 sizes-snoc : (t : ℕ) (size : ℕ → ℕ) (hs : List Hunk) (i j : ℕ) (x : Hunk) → i + length hs ≡ j → OfSizes t size i hs → x .size ≡ size j → HunkFits t x → OfSizes t size i (hs ++ (x ∷ []))
 sizes-snoc t size [] i j x e z s f = let a : i ≡ j = omega arith in (rw a s, f, tt)
 sizes-snoc t size (h ∷ hs) i j x e z s f = (z .0, z .1, sizes-snoc t size hs (i + 1) j x (omega arith) (z .2) s f)
+
+total-snoc : (hs : List Hunk) (x : Hunk) → total (hs ++ (x ∷ [])) ≡ total hs + x .size
+total-snoc [] x = omega arith
+total-snoc (h ∷ hs) x = omega (arith, total-snoc hs x)
 
 -- ---- a word of a begun hunk
 
@@ -149,7 +151,7 @@ module _ (t : ℕ) (size : ℕ → ℕ) (h p w : ℕ) (d : Cursor) where
   -- the hunk goes on; or it ends
   abbrev Step : Begun → Type 0
   Step b =
-      ((r : Begun) × BegunFits t (size h) r × (soFar b ++ (w ∷ []) ≡ soFar r) × (cursorOf r h p ≡ d))
+      ((r : Begun) × BegunFits t (size h) r × (soFar b ++ (w ∷ []) ≡ soFar r) × (cursorIn r h p ≡ d))
       ⊎ ((x : Name) × (y : Body) × (ps : List Part) × (bodyCount y ≤ size h) × Each (PartFits t (length (storedWords y))) ps × (soFar b ++ (w ∷ []) ≡ nameWords x ++ bodyWords y ++ joined partWords ps ++ (0x3F2 ∷ [])) × (endOf t size (cursor mode.Part h p (length (storedWords y))) ≡ On d))
 
   type-step : (s : ℕ) → bodyOf (cursor mode.Part h p s) w ≡ On d → ((w ≡ 0x3E9) ⊎ (w ≡ 0x3EA) ⊎ (w ≡ 0x3EB)) × (cursor (mode.Length w) h p s ≡ d)
@@ -164,7 +166,7 @@ module _ (t : ℕ) (size : ℕ → ℕ) (h p w : ℕ) (d : Cursor) where
       pick-on (eqb i n) _ _ (On d) (λ e x. inl (eqb-true _ _ e, on-on _ d x)) (λ e x. inr (eqb-false _ _ e, on-on _ d x))
 
   -- a whole body
-  body-words : (x : Name) (l : List ℕ) (b : Body) → l ++ (w ∷ []) ≡ bodyWords b → (nameWords x ++ l) ++ (w ∷ []) ≡ soFar (behind x b [] aPart)
+  body-words : (x : Name) (l : List ℕ) (b : Body) → l ++ (w ∷ []) ≡ bodyWords b → (nameWords x ++ l) ++ (w ∷ []) ≡ soFar (afterBody x b [] aPart)
   body-words x l b e =
       append-assoc (nameWords x) l (w ∷ []) ∙ ap (λ (k : List ℕ). nameWords x ++ k) e ∙ sym (append-nil (nameWords x ++ bodyWords b)) ∙ sym (append-nil (nameWords x ++ bodyWords b ++ []))
 
@@ -176,7 +178,7 @@ module _ (t : ℕ) (size : ℕ → ℕ) (h p w : ℕ) (d : Cursor) where
         go : ((0 ≡ w) × (cursor mode.Part h p w ≡ d)) ⊎ ((0 ≢ w) × (cursor (mode.Stored 0) h p w ≡ d)) → Step (bodyLength x k)
         go (inl r) =
             let z : w ≡ length (storedWords (c [])) = sym (r .0) ∙ sym (ap length b) in
-            inl (behind x (c []) [] aPart, (omega (arith, n), tt, tt), body-words x (k ∷ []) (c []) (ap (λ (i : ℕ). k ∷ i ∷ []) (sym (r .0)) ∙ sym a), ap (λ (i : ℕ). cursor mode.Part h p i) (sym z) ∙ r .1)
+            inl (afterBody x (c []) [] aPart, (omega (arith, n), tt, tt), body-words x (k ∷ []) (c []) (ap (λ (i : ℕ). k ∷ i ∷ []) (sym (r .0)) ∙ sym a), ap (λ (i : ℕ). cursor mode.Part h p i) (sym z) ∙ r .1)
         go (inr r) =
             let z = r .0 in
             inl (bodyWord x k w [], (f, l, omega (arith, z)), append-assoc (nameWords x) (k ∷ []) (w ∷ []), r .1)
@@ -187,7 +189,7 @@ module _ (t : ℕ) (size : ℕ → ℕ) (h p w : ℕ) (d : Cursor) where
     length-step k (inr (inl e)) q = full-step k stores (inr e) (ap (λ (i : ℕ). i ∷ 0 ∷ []) (sym e)) refl refl (rw e at q)
     length-step k (inr (inr e)) q =
         let y : On (cursor mode.Part h p 0) ≡ On d = rw e at q in
-        inl (behind x (bss w) [] aPart, (l, tt, tt), body-words x (k ∷ []) (bss w) (ap (λ (i : ℕ). i ∷ w ∷ []) e), on-on _ d y)
+        inl (afterBody x (bss w) [] aPart, (l, tt, tt), body-words x (k ∷ []) (bss w) (ap (λ (i : ℕ). i ∷ w ∷ []) e), on-on _ d y)
 
   -- a stored word
   word-step : (x : Name) (k n : ℕ) (ws : List ℕ) (c : List ℕ → Body) → (k ≡ 0x3E9) ⊎ (k ≡ 0x3EA) → n ≤ size h → length ws < n → ((us : List ℕ) → (bodyWords (c us) ≡ k ∷ length us ∷ us) × (bodyCount (c us) ≡ length us) × (storedWords (c us) ≡ us)) → storedFrom (cursor (mode.Stored (length ws)) h p n) (length ws + 1) ≡ On d → Step (bodyWord x k n ws)
@@ -198,13 +200,13 @@ module _ (t : ℕ) (size : ℕ → ℕ) (h p w : ℕ) (d : Cursor) where
           let b = a (ws ++ (w ∷ [])) in
           let y : length (ws ++ (w ∷ [])) ≡ n = omega (arith, length-snoc ws w, r .0) in
           let z : length (storedWords (c (ws ++ (w ∷ [])))) ≡ n = ap length (b .2) ∙ y in
-          inl (behind x (c (ws ++ (w ∷ []))) [] aPart, (omega (arith, b .1), tt, tt), body-words x (k ∷ n ∷ ws) (c (ws ++ (w ∷ []))) (ap (λ (i : ℕ). k ∷ i ∷ ws ++ (w ∷ [])) (sym y) ∙ sym (b .0)), ap (λ (i : ℕ). cursor mode.Part h p i) z ∙ r .1)
+          inl (afterBody x (c (ws ++ (w ∷ []))) [] aPart, (omega (arith, b .1), tt, tt), body-words x (k ∷ n ∷ ws) (c (ws ++ (w ∷ []))) (ap (λ (i : ℕ). k ∷ i ∷ ws ++ (w ∷ [])) (sym y) ∙ sym (b .0)), ap (λ (i : ℕ). cursor mode.Part h p i) z ∙ r .1)
       go (inr r) =
           let z = r .0 in
           let y : length (ws ++ (w ∷ [])) ≡ length ws + 1 = omega (arith, length-snoc ws w) in
           inl (bodyWord x k n (ws ++ (w ∷ [])), (f, l, omega (arith, z)), append-assoc (nameWords x) (k ∷ n ∷ ws) (w ∷ []), ap (λ (i : ℕ). cursor (mode.Stored i) h p n) y ∙ r .1)
 
-  begun-step : (b : Begun) → BegunFits t (size h) b → turn t size (cursorOf b h p) w (modeOf b) ≡ On d → Step b
+  begun-step : (b : Begun) → BegunFits t (size h) b → turn t size (cursorIn b h p) w (modeOf b) ≡ On d → Step b
   begun-step first f =
       pick-on (eqb w 0x3E8) _ _ (On d) (λ e x. inl (nameLength, tt, cons (eqb-true _ _ e) refl, on-on _ d x))
       (λ _ x. let y = type-step 0 x in inl (bodyLength none w, y .0, refl, y .1))
@@ -225,35 +227,31 @@ module _ (t : ℕ) (size : ℕ → ℕ) (h p w : ℕ) (d : Cursor) where
       go : (k ≡ 0x3E9) ⊎ (k ≡ 0x3EA) → storedFrom (cursor (mode.Stored (length ws)) h p n) (length ws + 1) ≡ On d → Step (bodyWord x k n ws)
       go (inl q) e = word-step x k n ws code (inl q) (f .1) (f .2) (λ us. (ap (λ (i : ℕ). i ∷ length us ∷ us) (sym q), refl, refl)) e
       go (inr q) e = word-step x k n ws stores (inr q) (f .1) (f .2) (λ us. (ap (λ (i : ℕ). i ∷ length us ∷ us) (sym q), refl, refl)) e
-  begun-step (behind x b ps q) f = λ e. go (part-step (length (storedWords b)) q (f .2) e)
+  begun-step (afterBody x b ps q) f = λ e. go (part-step (length (storedWords b)) q (f .2) e)
     where
-      go : PartStep (length (storedWords b)) q → Step (behind x b ps q)
+      go : PartStep (length (storedWords b)) q → Step (afterBody x b ps q)
       go (inl r) =
-          inl (behind x b ps (r .0), (f .0, f .1, r .1), append-assoc (nameWords x ++ bodyWords b ++ joined partWords ps) (partSoFar q) (w ∷ []) ∙ ap (λ (l : List ℕ). nameWords x ++ bodyWords b ++ joined partWords ps ++ l) (r .2), r .3)
+          inl (afterBody x b ps (r .0), (f .0, f .1, r .1), append-assoc (nameWords x ++ bodyWords b ++ joined partWords ps) (partSoFar q) (w ∷ []) ∙ ap (λ (l : List ℕ). nameWords x ++ bodyWords b ++ joined partWords ps ++ l) (r .2), r .3)
       go (inr (inl r)) =
           let a = nameWords x ++ bodyWords b in
-          inl (behind x b (ps ++ (r .0 ∷ [])) aPart, (f .0, each-snoc (PartFits t (length (storedWords b))) ps (r .0) (f .1) (r .1), tt), append-assoc (a ++ joined partWords ps) (partSoFar q) (w ∷ []) ∙ ap (λ (l : List ℕ). a ++ joined partWords ps ++ l) (r .2) ∙ append-assoc a (joined partWords ps) (partWords (r .0)) ∙ ap (λ (l : List ℕ). a ++ l) (sym (joined-snoc partWords ps (r .0))) ∙ sym (append-nil (a ++ joined partWords (ps ++ (r .0 ∷ [])))), r .3)
+          inl (afterBody x b (ps ++ (r .0 ∷ [])) aPart, (f .0, each-snoc (PartFits t (length (storedWords b))) ps (r .0) (f .1) (r .1), tt), append-assoc (a ++ joined partWords ps) (partSoFar q) (w ∷ []) ∙ ap (λ (l : List ℕ). a ++ joined partWords ps ++ l) (r .2) ∙ append-assoc a (joined partWords ps) (partWords (r .0)) ∙ ap (λ (l : List ℕ). a ++ l) (sym (joined-snoc partWords ps (r .0))) ∙ sym (append-nil (a ++ joined partWords (ps ++ (r .0 ∷ [])))), r .3)
       go (inr (inr r)) =
           inr (x, b, ps, f .0, f .1, append-assoc (nameWords x ++ bodyWords b ++ joined partWords ps) (partSoFar q) (w ∷ []) ∙ ap (λ (l : List ℕ). nameWords x ++ bodyWords b ++ joined partWords ps ++ l) (r .0), r .1)
 
 -- ---- the words before a byte
 
--- whole hunks and a begun one, and what the reader expects there
+-- whole hunks and a begun one, and the cursor that knows them
 pub record Within (file : List ℕ) (c : Cursor) (at : ℕ) : Type 0 where
   pub hunks : List Hunk
   pub begun : Begun
-  pub place : ℕ
   pub before : Before file hunks begun at
-  pub is : cursorOf begun (length hunks) place ≡ c
+  pub is : cursorOf hunks begun ≡ c
 
--- all hunks
+-- all hunks, likewise
 pub record Past (file : List ℕ) (c : Cursor) (at : ℕ) : Type 0 where
   pub hunks : List Hunk
-  pub place : ℕ
-  pub all : length hunks ≡ totalOf file
-  pub fit : OfSizes (totalOf file) (sizeOf file) 0 hunks
-  pub stand : Stand file (joined hunkWords hunks) at
-  pub is : cursor mode.End (length hunks) place 0 ≡ c
+  pub whole : AllHunks file hunks at
+  pub is : cursorPast hunks ≡ c
 
 module _ (file : List ℕ) (even : length file % 4 ≡ 0) (s : Sound file) where
   stand-on : (ws vs : List ℕ) (at : ℕ) → Stand file ws at → at < length file → ws ++ (wordAt file at ∷ []) ≡ vs → Stand file vs (at + 4)
@@ -268,12 +266,15 @@ module _ (file : List ℕ) (even : length file % 4 ≡ 0) (s : Sound file) where
       }
 
   -- the last word of a hunk
-  whole : (hs : List Hunk) (b : Begun) (p at : ℕ) → Before file hs b at → at < length file → (x : Hunk) → x .size ≡ sizeOf file (length hs) → HunkFits (totalOf file) x → soFar b ++ (wordAt file at ∷ []) ≡ hunkWords x → (n : ℕ) (d : Cursor) → endOf (totalOf file) (sizeOf file) (cursor mode.Part (length hs) p n) ≡ On d → Within file d (at + 4) ⊎ Past file d (at + 4)
+  whole : (hs : List Hunk) (b : Begun) (at : ℕ) → Before file hs b at → at < length file → (x : Hunk) → x .size ≡ sizeOf file (length hs) → HunkFits (totalOf file) x → soFar b ++ (wordAt file at ∷ []) ≡ hunkWords x → (n : ℕ) (d : Cursor) → endOf (totalOf file) (sizeOf file) (cursor mode.Part (length hs) (4 * total hs) n) ≡ On d → Within file d (at + 4) ⊎ Past file d (at + 4)
   unfolding pick
-  whole hs b p at r l x z f e n d q = go (eqb (length hs + 1) (totalOf file)) refl (on-on _ d q)
+  whole hs b at r l x z f e n d q = go (eqb (length hs + 1) (totalOf file)) refl (on-on _ d q)
     where
       long : length (hs ++ (x ∷ [])) ≡ length hs + 1
       long = length-snoc hs x ∙ sym (add-one (length hs))
+
+      place : 4 * total (hs ++ (x ∷ [])) ≡ 4 * total hs + 4 * sizeOf file (length hs)
+      place = omega (arith, total-snoc hs x, z)
 
       fitted : OfSizes (totalOf file) (sizeOf file) 0 (hs ++ (x ∷ []))
       fitted = sizes-snoc (totalOf file) (sizeOf file) hs 0 (length hs) x (omega arith) (r .hunks) z f
@@ -283,30 +284,40 @@ module _ (file : List ℕ) (even : length file % 4 ≡ 0) (s : Sound file) where
           stand-on (joined hunkWords hs ++ soFar b) _ at (r .stand) l
           (append-assoc (joined hunkWords hs) (soFar b) (wordAt file at ∷ []) ∙ ap (λ (k : List ℕ). joined hunkWords hs ++ k) e ∙ sym (joined-snoc hunkWords hs x))
 
-      go : (t : Bool) → eqb (length hs + 1) (totalOf file) ≡ t → cursor (pick t mode.End mode.Begin) (length hs + 1) (p + 4 * sizeOf file (length hs)) 0 ≡ d → Within file d (at + 4) ⊎ Past file d (at + 4)
+      go : (t : Bool) → eqb (length hs + 1) (totalOf file) ≡ t → cursor (pick t mode.End mode.Begin) (length hs + 1) (4 * total hs + 4 * sizeOf file (length hs)) 0 ≡ d → Within file d (at + 4) ⊎ Past file d (at + 4)
       go true k i =
-          inr (record { hunks = hs ++ (x ∷ []); place = p + 4 * sizeOf file (length hs); all = long ∙ eqb-true _ _ k; fit = fitted; stand = stood; is = ap (λ (j : ℕ). cursor mode.End j (p + 4 * sizeOf file (length hs)) 0) long ∙ i })
+          inr (record { hunks = hs ++ (x ∷ []); whole = record { all = long ∙ eqb-true _ _ k; hunks = fitted; stand = stood }; is = ap₂ (λ (j p : ℕ). cursor mode.End j p 0) long place ∙ i })
       go false k i =
           let u = eqb-false (length hs + 1) (totalOf file) k in
-          inl (record { hunks = hs ++ (x ∷ []); begun = first; place = p + 4 * sizeOf file (length hs); before = record { next = omega (arith, long, r .next, u); hunks = fitted; begun = tt; stand = rw append-nil stood }; is = ap (λ (j : ℕ). cursor mode.Begin j (p + 4 * sizeOf file (length hs)) 0) long ∙ i })
+          inl (record { hunks = hs ++ (x ∷ []); begun = first; before = record { next = omega (arith, long, r .next, u); hunks = fitted; begun = tt; stand = rw append-nil stood }; is = ap₂ (λ (j p : ℕ). cursor mode.Begin j p 0) long place ∙ i })
 
   -- a word that is taken
   word-on : (c d : Cursor) (at : ℕ) → at < length file → stepOf (totalOf file) (sizeOf file) c (wordAt file at) ≡ On d → Within file c at ⊎ Past file c at → Within file d (at + 4) ⊎ Past file d (at + 4)
   unfolding stepOf
-  word-on c d at l e (inl r) = go (begun-step (totalOf file) (sizeOf file) (length (r .hunks)) (r .place) (wordAt file at) d (r .begun) (r .before .begun) (rw (← r .is) at e))
+  word-on c d at l e (inl r) = go (begun-step (totalOf file) (sizeOf file) (length (r .hunks)) (4 * total (r .hunks)) (wordAt file at) d (r .begun) (r .before .begun) (rw (← r .is) at e))
     where
-      go : Step (totalOf file) (sizeOf file) (length (r .hunks)) (r .place) (wordAt file at) d (r .begun) → Within file d (at + 4) ⊎ Past file d (at + 4)
+      go : Step (totalOf file) (sizeOf file) (length (r .hunks)) (4 * total (r .hunks)) (wordAt file at) d (r .begun) → Within file d (at + 4) ⊎ Past file d (at + 4)
       go (inl k) =
           let b = r .before in
-          inl (record { hunks = r .hunks; begun = k .0; place = r .place; before = record { next = b .next; hunks = b .hunks; begun = k .1; stand = stand-on _ _ at (b .stand) l (append-assoc (joined hunkWords (r .hunks)) (soFar (r .begun)) (wordAt file at ∷ []) ∙ ap (λ (i : List ℕ). joined hunkWords (r .hunks) ++ i) (k .2)) }; is = k .3 })
+          inl (record { hunks = r .hunks; begun = k .0; before = record { next = b .next; hunks = b .hunks; begun = k .1; stand = stand-on _ _ at (b .stand) l (append-assoc (joined hunkWords (r .hunks)) (soFar (r .begun)) (wordAt file at ∷ []) ∙ ap (λ (i : List ℕ). joined hunkWords (r .hunks) ++ i) (k .2)) }; is = k .3 })
       go (inr k) =
           let n = sizeOf file (length (r .hunks)) in
           let x : Hunk = record { size = n; name = k .0; body = k .1; parts = k .2 } in
-          whole (r .hunks) (r .begun) (r .place) at (r .before) l x refl (record { size = s .small (length (r .hunks)) (r .before .next); body = k .3; parts = k .4 }) (k .5) (length (storedWords (k .1))) d (k .6)
+          whole (r .hunks) (r .begun) at (r .before) l x refl (record { size = s .small (length (r .hunks)) (r .before .next); body = k .3; parts = k .4 }) (k .5) (length (storedWords (k .1))) d (k .6)
   word-on c d at l e (inr r) = bad-on 39 d (rw (← r .is) at e)
 
   pub comes-stands : (c : Cursor) (at : ℕ) → Comes file c at → Within file c at ⊎ Past file c at
   unfolding wordsAt
   comes-stands c at begins =
-      inl (record { hunks = []; begun = first; place = 0; before = record { next = s .some; hunks = tt; begun = tt; stand = record { place = omega arith; within = s .long; words = refl } }; is = refl })
+      inl (record { hunks = []; begun = first; before = record { next = s .some; hunks = tt; begun = tt; stand = record { place = omega arith; within = s .long; words = refl } }; is = refl })
   comes-stands c at (takes {c = c′} {d = d} {at = i} r l e) = word-on c′ d i l e (comes-stands c′ i r)
+
+  -- and there alone
+  stands-comes : (c : Cursor) (at : ℕ) → Within file c at ⊎ Past file c at → Comes file c at
+  stands-comes c at (inl r) = rw (← r .is) (before-comes file (s .some) (r .hunks) at (r .begun) (r .before))
+  stands-comes c at (inr r) = rw (← r .is) (whole-comes file (s .some) (r .hunks) at (r .whole))
+
+  -- the reader comes to a byte, with this cursor, if and only if whole hunks and a begun one stand before it, or all hunks do, and the cursor
+  -- is theirs
+  pub comes-exactly : (c : Cursor) (at : ℕ) → Comes file c at ↔ (Within file c at ⊎ Past file c at)
+  comes-exactly c at = (comes-stands c at, stands-comes c at)

@@ -1,5 +1,5 @@
--- A hunk that is begun: what of it stands before a word of the file, and which word may not come next there (the build paper, "The program
--- file", and "Numbers" 35 to 38). Each case is named after the word that comes next.
+-- A hunk that is begun: what of it stands before a word of the file, and which word may not come next (the build paper, "The program file",
+-- and "Numbers", 35 to 38). A case is named after the word that comes next.
 use Prim.Native.Nat.{ℕ, _+_, _^_, _<_, _≤_}
 use mathlib.Core.Path.{_≡_}
 use mathlib.Core.Logic.{_≢_, _⊎_}
@@ -9,41 +9,41 @@ use Rattle.program.specs.Page.{Name, Body, Group, Symbol, Part, joined, 
 
 -- ---- what stands there
 
--- of a part, behind the whole ones
+-- of a part that comes after whole parts
 pub data PartBegun : Type 0 where
-  -- nothing: a part's type comes next, or the hunk's end
+  -- nothing yet: the type of a part comes next, or the hunk's end
   aPart : PartBegun
-  -- 3EC and whole groups
+  -- 3EC and whole groups: the count of a further group comes next, or 0
   aCount : List Group → PartBegun
-  -- these, and how many offsets a further group has
+  -- also that count
   aNumber : List Group → ℕ → PartBegun
-  -- these, its hunk number, and the first of its offsets
+  -- also the group's hunk number, and its offsets so far
   anOffset : List Group → ℕ → ℕ → List ℕ → PartBegun
-  -- 3F0 and whole symbols
+  -- 3F0 and whole symbols: the length of a further name comes next, or 0
   aSymbol : List Symbol → PartBegun
-  -- these, how many words the name of a further symbol has, and the first of its name and value
+  -- also that length, and the words of the name and the value so far
   symbolWord : List Symbol → ℕ → List ℕ → PartBegun
   -- 3F1
   debugLength : PartBegun
-  -- 3F1, how many debug words there are, and the first of them
+  -- 3F1, the number of debug words, and these words so far
   debugWord : ℕ → List ℕ → PartBegun
 
 -- of a hunk
 pub data Begun : Type 0 where
-  -- nothing: a name block or the body comes next
+  -- nothing yet: a name block comes next, or the body
   first : Begun
   -- 3E8
   nameLength : Begun
-  -- 3E8, how many words the name has, and the first of them
+  -- 3E8, the length of the name, and its words so far
   nameWord : ℕ → List ℕ → Begun
   -- a whole name block
   aBody : List ℕ → Begun
-  -- a name block or none, and the body's type
+  -- a name block or none, and the type of the body
   bodyLength : Name → ℕ → Begun
-  -- these, how many words the body has, and the first of those that it stores
+  -- also the number of the body's words, and the stored words so far
   bodyWord : Name → ℕ → ℕ → List ℕ → Begun
   -- a name block or none, a whole body, whole parts, and what there is of a further part
-  behind : Name → Body → List Part → PartBegun → Begun
+  afterBody : Name → Body → List Part → PartBegun → Begun
 
 -- ---- written out
 
@@ -64,11 +64,11 @@ soFar (nameWord n ws) = 0x3E8 ∷ n ∷ ws
 soFar (aBody ws) = 0x3E8 ∷ counted ws
 soFar (bodyLength x k) = nameWords x ++ (k ∷ [])
 soFar (bodyWord x k n ws) = nameWords x ++ (k ∷ n ∷ ws)
-soFar (behind x b ps p) = nameWords x ++ bodyWords b ++ joined partWords ps ++ partSoFar p
+soFar (afterBody x b ps p) = nameWords x ++ bodyWords b ++ joined partWords ps ++ partSoFar p
 
--- ---- within the limits
+-- ---- within the limits; and a list of words that is begun has fewer than its number says
 
--- in one of t hunks, which stores m words
+-- in one of t hunks, which stores m words: where it stores none a group may still be begun, but no offset of it fits
 abbrev pub PartBegunFits : ℕ → ℕ → PartBegun → Type 0
 PartBegunFits t m aPart = Unit {0}
 PartBegunFits t m (aCount gs) = Each (GroupFits t m) gs
@@ -87,7 +87,7 @@ BegunFits t size (nameWord n ws) = length ws < n
 BegunFits t size (aBody ws) = Unit {0}
 BegunFits t size (bodyLength x k) = (k ≡ 0x3E9) ⊎ (k ≡ 0x3EA) ⊎ (k ≡ 0x3EB)
 BegunFits t size (bodyWord x k n ws) = ((k ≡ 0x3E9) ⊎ (k ≡ 0x3EA)) × (n ≤ size) × (length ws < n)
-BegunFits t size (behind x b ps p) =
+BegunFits t size (afterBody x b ps p) =
     (bodyCount b ≤ size) × Each (PartFits t (length (storedWords b))) ps × PartBegunFits t (length (storedWords b)) p
 
 -- ---- the word w may not come next: v is the number
@@ -108,7 +108,7 @@ abbrev pub Wrong : ℕ → ℕ → ℕ → ℕ → Begun → Type 0
 Wrong t size w v first = (v ≡ 35) × (w ≢ 0x3E8) × (w ≢ 0x3E9) × (w ≢ 0x3EA) × (w ≢ 0x3EB)
 Wrong t size w v (aBody ws) = (v ≡ 35) × (w ≢ 0x3E9) × (w ≢ 0x3EA) × (w ≢ 0x3EB)
 Wrong t size w v (bodyLength x k) = (v ≡ 36) × (size < w)
-Wrong t size w v (behind x b ps p) = PartWrong t (length (storedWords b)) w v p
+Wrong t size w v (afterBody x b ps p) = PartWrong t (length (storedWords b)) w v p
 Wrong t size w v nameLength = ⊥
 Wrong t size w v (nameWord n ws) = ⊥
 Wrong t size w v (bodyWord x k n ws) = ⊥

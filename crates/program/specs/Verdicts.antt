@@ -1,4 +1,4 @@
--- What a refusal of the check says of the file (the build paper, "Numbers").
+-- What a refusal of the check says of the file: `Says` (the build paper, "Numbers").
 use Prim.Native.Nat.{ℕ, _+_, _*_, _%_, _<_, _≤_}
 use mathlib.Core.Path.{_≡_}
 use mathlib.Core.Logic.{_≢_, _⊎_}
@@ -54,9 +54,9 @@ pub record HeadWord (file : List ℕ) (f : Refusal) : Type 0 where
 abbrev pub Headed : List ℕ → Type 0
 Headed file = (j : ℕ) → OfHeader file j → Fine file j
 
--- ---- 35 to 39, and 31 behind the header: what stands before a byte of the file
+-- ---- 35 to 39, and 31 after the header: what stands before a byte of the file
 
--- the words from the first hunk to byte `at` are these
+-- the words from the end of the header to byte `at` are these
 pub record Stand (file ws : List ℕ) (at : ℕ) : Type 0 where
   pub place : at ≡ startAt file + 4 * length ws
   pub within : at ≤ length file
@@ -67,14 +67,20 @@ abbrev pub OfSizes : ℕ → (ℕ → ℕ) → ℕ → List Hunk → Type 0
 OfSizes t size i [] = Unit {0}
 OfSizes t size i (h ∷ hs) = (h .size ≡ size i) × HunkFits t h × OfSizes t size (i + 1) hs
 
--- whole hunks stand before byte `at`, and what is begun of the next one
+-- before byte `at` stand whole hunks, and what is begun of the next
 pub record Before (file : List ℕ) (hs : List Hunk) (b : Begun) (at : ℕ) : Type 0 where
   pub next : length hs < totalOf file
   pub hunks : OfSizes (totalOf file) (sizeOf file) 0 hs
   pub begun : BegunFits (totalOf file) (sizeOf file (length hs)) b
   pub stand : Stand file (joined hunkWords hs ++ soFar b) at
 
--- 35 to 38: a word may not come there
+-- before byte `at` stand all hunks
+pub record AllHunks (file : List ℕ) (hs : List Hunk) (at : ℕ) : Type 0 where
+  pub all : length hs ≡ totalOf file
+  pub hunks : OfSizes (totalOf file) (sizeOf file) 0 hs
+  pub stand : Stand file (joined hunkWords hs) at
+
+-- 35 to 38: the word at `at` may not come there
 pub record WrongWord (file : List ℕ) (f : Refusal) : Type 0 where
   pub hunks : List Hunk
   pub begun : Begun
@@ -85,13 +91,11 @@ pub record WrongWord (file : List ℕ) (f : Refusal) : Type 0 where
   pub wrong : Wrong (totalOf file) (sizeOf file (length hunks)) (wordAt file at) number begun
   pub said : f ≡ refusal number at
 
--- 39: all hunks are whole, and there is a word behind them
+-- 39: there is a word after all hunks
 pub record MoreWords (file : List ℕ) (f : Refusal) : Type 0 where
   pub hunks : List Hunk
   pub at : ℕ
-  pub all : length hunks ≡ totalOf file
-  pub fit : OfSizes (totalOf file) (sizeOf file) 0 hunks
-  pub stand : Stand file (joined hunkWords hunks) at
+  pub whole : AllHunks file hunks at
   pub there : at < length file
   pub said : f ≡ refusal 39 at
 
@@ -110,7 +114,7 @@ Says file f =
     ⊎ (Whole file × HeadWord file f)
     ⊎ (Whole file × Headed file × (WrongWord file f ⊎ MoreWords file f ⊎ MissingWord file f))
 
--- ---- a step in between, for proofs alone: the same by the reader's cursor, word by word
+-- ---- a step in between, for the proofs: the same by the reader, word by word
 
 -- the reader comes to byte `at` with the cursor c: it has taken every word of the hunks before that byte
 pub data Comes (file : List ℕ) : Cursor → ℕ → Type 0 where
@@ -150,8 +154,7 @@ Refuses t size c w v Count = ⊥
 Refuses t size c w v DebugLength = ⊥
 Refuses t size c w v (Skip n a) = ⊥
 
--- any refusal by the reader: `Says` is what it comes to
-
+-- any refusal, by the reader; `Refusing.refused-exactly` turns it into `Says`
 abbrev pub Because : List ℕ → Refusal → Type 0
 Because file f =
     (Unwhole file × (f ≡ refusal 30 0))
