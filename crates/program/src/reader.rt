@@ -12,21 +12,21 @@ ghost use Rattle.program.specs.Sane.{Sane};
 ghost use Rattle.program.specs.Runs.{modedOf, skipAt, storedAt, Leads};
 
 // Types of blocks.
-pub const NAME: u32 = 0x3E8;
+pub(crate) const NAME: u32 = 0x3E8;
 
-pub const CODE: u32 = 0x3E9;
+const CODE: u32 = 0x3E9;
 
-pub const DATA: u32 = 0x3EA;
+const DATA: u32 = 0x3EA;
 
-pub const BSS: u32 = 0x3EB;
+const BSS: u32 = 0x3EB;
 
-pub const RELOCATION: u32 = 0x3EC;
+const RELOCATION: u32 = 0x3EC;
 
-pub const SYMBOLS: u32 = 0x3F0;
+const SYMBOLS: u32 = 0x3F0;
 
-pub const DEBUG: u32 = 0x3F1;
+const DEBUG: u32 = 0x3F1;
 
-pub const END: u32 = 0x3F2;
+const END: u32 = 0x3F2;
 
 // What comes after words that are skipped.
 pub enum After {
