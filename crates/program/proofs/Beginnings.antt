@@ -106,7 +106,7 @@ module _ (t : ℕ) (size : ℕ → ℕ) (Taken : Cursor → List ℕ → Type 0)
 
 -- ---- so the reader comes there
 
--- G follows, from this cursor and these words on, if the reader comes to the byte `end` behind them
+-- G follows, from this cursor and these words on, if the reader comes to the byte `end` after them
 abbrev Leads : List ℕ → ℕ → Type 0 → Cursor → List ℕ → Type 0
 Leads file end G c ws = (at : ℕ) → Comes file c at → at + 4 * length ws ≡ end → wordsAt file at (length ws) ≡ ws → G
 
@@ -122,7 +122,7 @@ module _ (file : List ℕ) (end : ℕ) (within : end ≤ length file) (G : Type 
   unfolding stepOf
   along c w ws g = lead (turn (totalOf file) (sizeOf file) c w (c .mode)) c w ws refl g
 
-  -- behind whole hunks
+  -- after whole hunks
   hunks-lead : 1 ≤ totalOf file → (hs : List Hunk) (rest : List ℕ) → length hs ≤ totalOf file → OfSizes (totalOf file) (sizeOf file) 0 hs → Stand file (joined hunkWords hs ++ rest) end → Front (Leads file end G) (totalOf file) (length hs) (4 * total hs) rest → G
   unfolding pick
   hunks-lead some hs rest l z s g =

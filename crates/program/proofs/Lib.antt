@@ -3,7 +3,7 @@
 pub mod Answers
 -- the header's words, and its tests both ways
 pub mod Heading
--- the header in code, and what holds behind it
+-- the header in code, and what holds after it
 pub mod Heads
 -- what holds while a file is read
 pub mod Sanes
@@ -27,5 +27,5 @@ pub mod Beginnings
 pub mod Standing
 -- what each refusal of the check says
 pub mod Refusing
--- words that a pass may go on behind
+-- words after which a pass may go on
 pub mod Runs

@@ -1,4 +1,4 @@
--- The reader takes hunks as they are written out: whatever it comes to behind them, it comes to (`fronts-on`), so it accepts them
+-- The reader takes hunks as they are written out: whatever it comes to after them, it comes to (`fronts-on`), so it accepts them
 -- (`hunks-on`). Assumes nothing.
 use Prim.Native.Nat.{ℕ, suc, _+_, _*_, _-_, _%_, _<_, _≤_}
 use mathlib.Core.Path.{_≡_, refl}
@@ -48,7 +48,7 @@ Goes Taken (Bad v) ws = ⊥
 abbrev pub Front : (Cursor → List ℕ → Type 0) → ℕ → ℕ → ℕ → List ℕ → Type 0
 Front Taken t h p ws = Taken (cursor (pick (eqb h t) mode.End mode.Begin) h p 0) ws
 
--- one that holds before a word if it holds behind it
+-- one that holds before a word if it holds after it
 module _ (t : ℕ) (size : ℕ → ℕ) (Taken : Cursor → List ℕ → Type 0) (step : (c : Cursor) (w : ℕ) (ws : List ℕ) → Goes Taken (turn t size c w (c .mode)) ws → Taken c (w ∷ ws)) where
   module _ (h p s : ℕ) where
     abbrev Here : Mode → List ℕ → Type 0
@@ -159,7 +159,7 @@ module _ (t : ℕ) (size : ℕ → ℕ) (Taken : Cursor → List ℕ → Type 0)
     unfolding pick
     full-on k ws s rest e l g = step _ _ _ (rw (le-ltb (size h) (length ws) l, e) (all-stored mode.Part rest ws g))
 
-    -- a body's type, behind a name or none
+    -- a body's type, after a name or none
     kind-goes : (m : Mode) (k s : ℕ) (rest : List ℕ) → (k ≡ 0x3E9) ⊎ (k ≡ 0x3EA) ⊎ (k ≡ 0x3EB) → Taken (cursor (mode.Length k) h p s) rest → Goes Taken (bodyOf (cursor m h p s) k) rest
     unfolding pick
     kind-goes m k s rest (inl e) g = rw (eq-eqb k 0x3E9 e) g

@@ -68,7 +68,7 @@ module _ (t : ℕ) (size : ℕ → ℕ) where
   Behind h s after.Symbol ws = Symbols h s ws
   Behind h s after.Part ws = Tail h s ws
 
-  -- n words, and what is behind them
+  -- n words, and what is after them
   abbrev Beyond : ℕ → ℕ → ℕ → After → List ℕ → Type 0
   Beyond h s n a ws = (us : List ℕ) × (rest : List ℕ) × (length us ≡ n) × Behind h s a rest × (ws ≡ us ++ rest)
 

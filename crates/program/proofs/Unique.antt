@@ -20,7 +20,7 @@ cut (x ∷ a) (y ∷ b) r s l e =
     let p = cut a b r s (omega arith) (cc) in
     (cons q (p .0), p .1)
 
--- words behind their number
+-- words after their number
 counted-same : (a b r s : List ℕ) → length a ∷ a ++ r ≡ length b ∷ b ++ s → (a ≡ b) × (r ≡ s)
 counted-same a b r s e = cut a b r s (cc) (cc)
 

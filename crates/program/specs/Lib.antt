@@ -13,7 +13,7 @@ pub mod Check
 pub mod Acts
 -- what holds while a file is read
 pub mod Sane
--- words that a pass may go on behind
+-- words after which a pass may go on
 pub mod Runs
 -- what a refusal of the check says
 pub mod Verdicts
