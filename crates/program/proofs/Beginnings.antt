@@ -1,13 +1,14 @@
 -- Where whole hunks and a begun one stand before a byte, there the reader comes, and expects what comes next. Assumes nothing.
 use Prim.Native.Nat.{ℕ, suc, _+_, _*_, _-_, _≤_}
 use mathlib.Core.Path.{_≡_, refl, sym, ap, subst, _∙_}
-use mathlib.Core.Logic.{_⊎_, inl, inr}
+use mathlib.Core.Logic.{_≢_, _⊎_, inl, inr}
 use mathlib.Core.List.{List, [], _∷_, _++_, append-assoc, append-nil}
 use native.Mathlib.Omega.{arith}
 use lib.ListN.{length}
 use borrow.Author.Tests.{lt-ltb, le-ltb, lt-leb, eq-eqb, ne-eqb}
 use Rattle.words.specs.Word.{wordAt, wordsAt}
 use Rattle.answers.specs.Tests.{pick}
+use Rattle.answers.proofs.Clashes.{impossible}
 use Rattle.program.specs.declared.reader.After.the-variants as after
 use Rattle.program.specs.declared.reader.Cursor.{Cursor}
 use Rattle.program.specs.declared.reader.Mode.{Mode}
@@ -61,6 +62,26 @@ cursorOf hs b = cursorIn b (length hs) (4 * total hs)
 
 abbrev pub cursorPast : List Hunk → Cursor
 cursorPast hs = cursor mode.End (length hs) (4 * total hs) 0
+
+-- where a hunk is begun, the last has not ended
+pub unended : (b : Begun) → modeOf b ≢ mode.End
+unended first e = impossible cc
+unended nameLength e = impossible cc
+unended (nameWord n ws) e = impossible cc
+unended (aBody ws) e = impossible cc
+unended (bodyLength x k) e = impossible cc
+unended (bodyWord x k n ws) e = impossible cc
+unended (afterBody x b ps q) e = go q e
+  where
+    go : (q : PartBegun) → partMode q ≡ mode.End → ⊥
+    go aPart e = impossible cc
+    go (aCount gs) e = impossible cc
+    go (aNumber gs n) e = impossible cc
+    go (anOffset gs n k os) e = impossible cc
+    go (aSymbol us) e = impossible cc
+    go (symbolWord us n ws) e = impossible cc
+    go debugLength e = impossible cc
+    go (debugWord n ws) e = impossible cc
 
 -- ---- a begun hunk's words are taken
 

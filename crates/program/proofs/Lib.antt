@@ -13,18 +13,18 @@ pub mod Modes
 pub mod Walks
 -- passes over what a file asks for
 pub mod Passes
--- hunks written out are accepted
+-- hunks written out are taken, and accepted
 pub mod Taken
--- what is accepted is hunks written out
-pub mod Traced
--- words determine the hunks
-pub mod Unique
--- a program file is what the page says
-pub mod Pages
 -- the reader comes to where a hunk is begun
 pub mod Beginnings
 -- what stands before a byte that the reader comes to
 pub mod Standing
+-- where the walk over the words stops
+pub mod Stops
+-- a program file is what the page says
+pub mod Pages
+-- words determine the hunks
+pub mod Unique
 -- what each refusal of the check says
 pub mod Refusing
 -- words after which a pass may go on

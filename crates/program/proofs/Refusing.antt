@@ -1,6 +1,6 @@
 -- What each refusal of the check says of the file, and that it is given exactly then: `refused-exactly`. Before that the same by the reader's
 -- cursor (`check-why`, `why-check`). Assumes nothing.
-use Prim.Native.Nat.{ℕ, zero, suc, _+_, _*_, _-_, _/_, _%_, _<_, _≤_}
+use Prim.Native.Nat.{ℕ, zero, suc, _+_, _*_, _-_, _%_, _<_, _≤_}
 use mathlib.Core.Path.{_≡_, refl, sym, ap, subst, _∙_}
 use mathlib.Core.Logic.{_≢_, _⊎_, inl, inr, _↔_, Iff·rfl}
 use mathlib.Core.List.{List}
@@ -22,24 +22,24 @@ use Rattle.program.specs.declared.check.Answer.the-variants.{Accepted, R
 use Rattle.program.specs.declared.reader.Cursor.{Cursor}
 use Rattle.program.specs.declared.reader.Mode.{Mode}
 use Rattle.program.specs.declared.reader.Mode.the-variants.{Begin, NameLength, Body, Length, Stored, Part, Count, Number, Offset, Symbol, DebugLength, Skip, End}
-use Rattle.program.specs.declared.reader.Next.{Next}
 use Rattle.program.specs.declared.reader.Next.the-variants.{On, Bad}
-use Rattle.program.specs.Header.{totalOf, sizeOf, startAt, judge, heads}
-use Rattle.program.specs.Reader.{start, on, bodyOf, endOf, turn, stepOf}
-use Rattle.program.specs.Check.{refuse, endedOf, restOf, walkOf, and, checkOf}
+use Rattle.program.specs.Header.{totalOf, sizeOf, judge, heads}
+use Rattle.program.specs.Reader.{on, bodyOf, endOf, turn, stepOf}
+use Rattle.program.specs.Check.{refuse, endedOf, walkOf, and, checkOf}
 use Rattle.program.specs.Sane.{Sound}
 use Rattle.program.specs.Page.{Hunk, storedWords, OffsetFits, Holds, total}
 use Rattle.program.specs.Begun.{PartBegun, Begun, aPart, aCount, aNumber, anOffset, aSymbol, symbolWord, debugLength, debugWord, first, nameLength, nameWord, aBody, bodyLength, bodyWord, afterBody, PartWrong, Wrong}
-use Rattle.program.specs.Verdicts.{WrongWord, MoreWords, MissingWord, Says, Unwhole, Whole, OfHeader, Fine, faultAt, HeadFails, HeadWord, Headed, Comes, begins, takes, HunkWord, Missing, Refuses, Because}
+use Rattle.program.specs.Verdicts.{WrongWord, MoreWords, MissingWord, Says, Unwhole, Whole, OfHeader, Fine, faultAt, HeadFails, HeadWord, Headed, HunkWord, Missing, Refuses, Because}
 use Rattle.program.proofs.Answers.{not-refused, not-failed}
 use Rattle.program.proofs.Heading.{each-fine, heads-pass}
 use Rattle.program.proofs.Heads.{sound-header}
 use Rattle.program.proofs.Pages.{accepted-page, page-accepted}
 use Rattle.program.proofs.Sanes.{pick-on}
 use Rattle.program.proofs.Taken.{cursor}
-use Rattle.program.proofs.Beginnings.{partMode, modeOf, cursorIn, cursorOf, cursorPast, before-comes, whole-comes}
+use Rattle.program.proofs.Beginnings.{partMode, modeOf, unended, cursorIn, cursorOf, cursorPast, before-comes, whole-comes}
 use Rattle.program.proofs.Standing.{Within, Past, comes-stands}
-use Rattle.program.proofs.Walks.{Reads, reads-start, reads-on, walk-on, walk-bad, walk-end}
+use Rattle.program.proofs.Stops.{Ends, ended, Stops, walk-stops, comes-reads}
+use Rattle.program.proofs.Walks.{walk-bad, walk-end}
 
 -- ---- the header
 
@@ -75,48 +75,13 @@ refused-same r f e = cc
 on-bad : {X : Type 0} (d : Cursor) (v : ℕ) → On d ≡ Bad v → X
 on-bad d v e = impossible cc
 
-ended-why : (file : List ℕ) (f : Refusal) (c : Cursor) (m : Mode) → endedOf (length file) c m ≡ Refused f → (m ≢ End) × (f ≡ refusal 31 (length file))
-ended-why file f c End e = not-refused e
-ended-why file f c Begin e = ((λ q. absurd (other q)), refused-same _ f e)
+walk-why : (file : List ℕ) (f : Refusal) (a : Answer) → Stops file a → a ≡ Refused f → HunkWord file f ⊎ Missing file f
+walk-why file f a (inr k) e = inl (rw (refused-same _ f (sym (k .2) ∙ e)) (k .1))
+walk-why file f a (inl k) e = go (ended (length file) (k .0) (k .0 .mode))
   where
-    other : Begin ≡ End → ⊥
-    other q = impossible cc
-ended-why file f c NameLength e = ((λ q. impossible cc), refused-same _ f e)
-ended-why file f c Body e = ((λ q. impossible cc), refused-same _ f e)
-ended-why file f c (Length k) e = ((λ q. impossible cc), refused-same _ f e)
-ended-why file f c (Stored i) e = ((λ q. impossible cc), refused-same _ f e)
-ended-why file f c Part e = ((λ q. impossible cc), refused-same _ f e)
-ended-why file f c Count e = ((λ q. impossible cc), refused-same _ f e)
-ended-why file f c (Number n) e = ((λ q. impossible cc), refused-same _ f e)
-ended-why file f c (Offset n k) e = ((λ q. impossible cc), refused-same _ f e)
-ended-why file f c Symbol e = ((λ q. impossible cc), refused-same _ f e)
-ended-why file f c DebugLength e = ((λ q. impossible cc), refused-same _ f e)
-ended-why file f c (Skip n a) e = ((λ q. impossible cc), refused-same _ f e)
-
-module _ (file : List ℕ) (even : length file % 4 ≡ 0) where
-  -- n words are left
-  walk-why : (f : Refusal) (n at : ℕ) (c : Cursor) → length file ≡ at + 4 * n → Comes file c at → restOf file at c ≡ Refused f → HunkWord file f ⊎ Missing file f
-  walk-why f zero at c l r e =
-      let q : at ≡ length file = omega arith in
-      let p = ended-why file f c (c .mode) (sym (walk-end file at c (omega arith)) ∙ e) in
-      inr (record { cursor = c; comes = subst (Comes file c) q r; unended = p .0; said = p .1 })
-  walk-why f (suc n) at c l r e = go (stepOf (totalOf file) (sizeOf file) c (wordAt file at)) refl (walk-why f n (at + 4))
-    where
-      h : at < length file
-      h = omega arith
-
-      k : at % 4 ≡ 0
-      k = omega arith
-
-      go : (x : Next) → stepOf (totalOf file) (sizeOf file) c (wordAt file at) ≡ x → ((d : Cursor) → length file ≡ at + 4 + 4 * n → Comes file d (at + 4) → restOf file (at + 4) d ≡ Refused f → HunkWord file f ⊎ Missing file f) → HunkWord file f ⊎ Missing file f
-      go (On d) q more = more d (omega arith) (takes r h q) (sym (walk-on file at c (wordAt file at) _ even k h refl refl d q) ∙ e)
-      go (Bad v) q more =
-          inl (record { cursor = c; at = at; comes = r; there = h; number = v; refuses = q; said = refused-same _ f (sym (walk-bad file at c (wordAt file at) _ even k h refl refl v q) ∙ e) })
-
-  -- where the reader comes to, the rest of the file gives the file's answer
-  pub comes-reads : Sound file → {c : Cursor} {at : ℕ} → Comes file c at → Reads file c at
-  comes-reads s begins = reads-start file start (startAt file) (totalOf file) s refl refl refl
-  comes-reads s (takes {c} {d} {at} r h q) = reads-on file c at (wordAt file at) _ d (comes-reads s r) even h refl refl q
+    go : Ends (length file) (k .0) (k .0 .mode) → HunkWord file f ⊎ Missing file f
+    go (inl x) = not-refused (sym (x .1) ∙ sym (k .2) ∙ e)
+    go (inr x) = inr (record { cursor = k .0; comes = k .1; unended = x .0; said = refused-same _ f (sym (x .1) ∙ sym (k .2) ∙ e) })
 
 -- ---- the whole check
 
@@ -132,10 +97,7 @@ module _ (file : List ℕ) (f : Refusal) where
   all-why w (Failed r) b p q e = inr (inl (w, heads-why file f 5 0 (λ j l h. omega arith) (λ j h. absurd (omega arith)) (p ∙ ap Failed (sym (refused-same r f e)))))
   all-why w Passed (Failed r) p q e = inr (inl (w, heads-why file f (totalOf file) 5 (λ j l h. h) (λ j h. each-fine file 5 0 p j (omega arith) h) (q ∙ ap Failed (sym (refused-same r f e)))))
   all-why w Passed Passed p q e =
-      let s = sound-header file p q in
-      let even = w .1 in
-      let n = (length file - startAt file) / 4 in
-      inr (inr (w, all-fine file p q, walk-why file even f n (startAt file) start (omega (arith, s .long, even)) begins e))
+      inr (inr (w, all-fine file p q, walk-why file f (walkOf file) (walk-stops file (w .1) (sound-header file p q)) e))
 
   -- the check refuses for one of these reasons
   pub check-why : checkOf file ≡ Refused f → Because file f
@@ -186,22 +148,11 @@ module _ (file : List ℕ) (f : Refusal) where
       r .rest ∙ walk-bad file (c .at) (c .cursor) (wordAt file (c .at)) _ (w .1) (r .aligned) (c .there) refl refl (c .number) (c .refuses) ∙ ap Refused (sym (c .said))
   walk-refuses w s (inr c) =
       let r = comes-reads file (w .1) s (c .comes) in
-      r .rest ∙ walk-end file (length file) (c .cursor) (omega arith) ∙ unended (c .cursor .mode) (c .unended) ∙ ap Refused (sym (c .said))
+      r .rest ∙ walk-end file (length file) (c .cursor) (omega arith) ∙ go (ended (length file) (c .cursor) (c .cursor .mode)) ∙ ap Refused (sym (c .said))
     where
-      unended : (m : Mode) → m ≢ End → endedOf (length file) (c .cursor) m ≡ refuse 31 (length file)
-      unended End h = absurd (h refl)
-      unended Begin h = refl
-      unended NameLength h = refl
-      unended Body h = refl
-      unended (Length k) h = refl
-      unended (Stored i) h = refl
-      unended Part h = refl
-      unended Count h = refl
-      unended (Number n) h = refl
-      unended (Offset n k) h = refl
-      unended Symbol h = refl
-      unended DebugLength h = refl
-      unended (Skip n a) h = refl
+      go : Ends (length file) (c .cursor) (c .cursor .mode) → endedOf (length file) (c .cursor) (c .cursor .mode) ≡ refuse 31 (length file)
+      go (inl x) = absurd (c .unended (x .0))
+      go (inr x) = x .1
 
   whole-check : Whole file → checkOf file ≡ and (heads file 0 5) (and (heads file 5 (totalOf file)) (walkOf file))
   unfolding checkOf pick
@@ -343,26 +294,6 @@ module _ (t : ℕ) (size : ℕ → ℕ) (h p w v : ℕ) where
   begun-wrong (bodyLength x k) = Iff·rfl
   begun-wrong (bodyWord x k n ws) = Iff·rfl
   begun-wrong (afterBody x b ps q) = part-wrong (length (storedWords b)) q
-
--- where a hunk is begun, the last has not ended
-unended : (b : Begun) → modeOf b ≢ End
-unended first e = impossible cc
-unended nameLength e = impossible cc
-unended (nameWord n ws) e = impossible cc
-unended (aBody ws) e = impossible cc
-unended (bodyLength x k) e = impossible cc
-unended (bodyWord x k n ws) e = impossible cc
-unended (afterBody x b ps q) e = go q e
-  where
-    go : (q : PartBegun) → partMode q ≡ End → ⊥
-    go aPart e = impossible cc
-    go (aCount gs) e = impossible cc
-    go (aNumber gs n) e = impossible cc
-    go (anOffset gs n k os) e = impossible cc
-    go (aSymbol us) e = impossible cc
-    go (symbolWord us n ws) e = impossible cc
-    go debugLength e = impossible cc
-    go (debugWord n ws) e = impossible cc
 
 module _ (file : List ℕ) (even : length file % 4 ≡ 0) (s : Sound file) where
   module _ (f : Refusal) where

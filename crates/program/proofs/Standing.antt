@@ -25,8 +25,10 @@ use Rattle.program.specs.Verdicts.{Stand, OfSizes, Before, AllHunks, Com
 use Rattle.program.proofs.Heading.{words-add}
 use Rattle.program.proofs.Sanes.{pick-on, on-on, bad-on}
 use Rattle.program.proofs.Taken.{cursor}
-use Rattle.program.proofs.Traced.{cons}
 use Rattle.program.proofs.Beginnings.{partMode, modeOf, cursorIn, cursorOf, cursorPast, before-comes, whole-comes}
+
+pub cons : {w v : ℕ} {a b : List ℕ} → w ≡ v → a ≡ b → w ∷ a ≡ v ∷ b
+cons p q = cc
 
 -- ---- one more at the end
 

@@ -1,5 +1,4 @@
--- The reader takes hunks as they are written out: whatever it comes to after them, it comes to (`fronts-on`), so it accepts them
--- (`hunks-on`). Assumes nothing.
+-- What holds of a reader after hunks that are written out holds before them (`fronts-on`); so it accepts them (`hunks-on`). Assumes nothing.
 use Prim.Native.Nat.{ℕ, suc, _+_, _*_, _-_, _%_, _<_, _≤_}
 use mathlib.Core.Path.{_≡_, refl}
 use mathlib.Core.Logic.{_≢_, _⊎_, inl, inr}
@@ -35,9 +34,9 @@ pub sized-le : (t : ℕ) (size : ℕ → ℕ) (h : ℕ) (hs : List Hunk) → Siz
 sized-le t size h [] e = omega arith
 sized-le t size h (x ∷ xs) f = let l = sized-le t size (h + 1) xs (f .2) in omega arith
 
-pub sized-of : (t : ℕ) (size : ℕ → ℕ) (h : ℕ) (hs : List Hunk) → Sized t size h hs → OfSizes t size h hs × (h + length hs ≡ t)
-sized-of t size h [] e = (tt, omega arith)
-sized-of t size h (x ∷ xs) f = let r = sized-of t size (h + 1) xs (f .2) in ((f .0, f .1, r .0), omega (arith, r .1))
+pub sized-all : (t : ℕ) (size : ℕ → ℕ) (h : ℕ) (hs : List Hunk) → Sized t size h hs → OfSizes t size h hs × (h + length hs ≡ t)
+sized-all t size h [] e = (tt, omega arith)
+sized-all t size h (x ∷ xs) f = let r = sized-all t size (h + 1) xs (f .2) in ((f .0, f .1, r .0), omega (arith, r .1))
 
 -- a statement on a cursor and the words from it on
 abbrev pub Goes : (Cursor → List ℕ → Type 0) → Next → List ℕ → Type 0
@@ -217,5 +216,5 @@ module _ (t : ℕ) (size : ℕ → ℕ) (end n : ℕ) where
   pub hunks-on : (hs : List Hunk) (h p : ℕ) → Sized t size h hs → p + 4 * total hs ≡ n → Front Accepts t h p (joined hunkWords hs)
   unfolding pick walk
   hunks-on hs h p f e =
-      let z = sized-of t size h hs f in
+      let z = sized-all t size h hs f in
       rw append-nil at (fronts-on t size Accepts step hs h p t n [] (z .0) (z .1) (omega arith) e (λ at. rw (eq-eqb t t refl)))

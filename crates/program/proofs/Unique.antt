@@ -6,7 +6,7 @@ use native.Mathlib.Omega.{arith}
 use lib.ListN.{length, length-map}
 use Rattle.answers.proofs.Clashes.{impossible}
 use Rattle.program.specs.Page.{Name, Body, Group, Symbol, Part, Hunk, none, named, code, stores, bss, relocation, symbols, debug, joined, nameWords, bodyWords, groupWords, symbolWords, partWords, hunkWords, written, Each, storedWords, GroupFits, SymbolFits, PartFits, HunkFits, Program, Holds}
-use Rattle.program.proofs.Traced.{cons, grouped}
+use Rattle.program.proofs.Standing.{cons}
 
 -- ---- lists of words
 
@@ -127,9 +127,13 @@ name-same (named x) (named y) b d r s e = let h = counted-same x y (bodyWords b 
 
 -- ---- hunks
 
+-- a hunk's words and others, piece by piece
+grouped : (x : Hunk) (rest : List ℕ) → hunkWords x ++ rest ≡ nameWords (x .name) ++ (bodyWords (x .body) ++ (joined partWords (x .parts) ++ (0x3F2 ∷ rest)))
+grouped x rest = simp append-assoc
+
 hunk-same : (t : ℕ) (x y : Hunk) (r s : List ℕ) → x .size ≡ y .size → HunkFits t x → HunkFits t y → hunkWords x ++ r ≡ hunkWords y ++ s → (x ≡ y) × (r ≡ s)
 hunk-same t x y r s z p q e =
-    let a = name-same (x .name) (y .name) (x .body) (y .body) _ _ (sym (grouped (x .name) (x .body) (x .parts) r (x .size)) ∙ e ∙ grouped (y .name) (y .body) (y .parts) s (y .size)) in
+    let a = name-same (x .name) (y .name) (x .body) (y .body) _ _ (sym (grouped x r) ∙ e ∙ grouped y s) in
     let b = body-same (x .body) (y .body) _ _ (a .1) in
     let n = length (storedWords (x .body)) in
     let f : Each (PartFits t n) (y .parts) = subst (λ (d : Body). Each (PartFits t (length (storedWords d))) (y .parts)) (sym (b .0)) (q .parts) in
