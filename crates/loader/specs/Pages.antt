@@ -3,10 +3,10 @@ use Prim.Native.Nat.{ℕ, zero, suc, _+_, _-_, _*_, _/_, _%_, _^_, _<_, _≤_}
 use mathlib.Core.Path.{_≡_}
 use mathlib.Core.Logic.{_⊎_}
 use mathlib.Core.List.{List, [], _∷_, _++_, map}
-use lib.ListN.{length, replicate, drop}
+use lib.ListN.{length, replicate, take, drop}
 use Rattle.words.specs.Word.{wordAt, addAt}
 use Rattle.words.specs.Shift.{Target}
-use Rattle.program.specs.Page.{Body, Group, Part, Hunk, code, stores, bss, relocation, symbols, debug, joined, Each, storedWords, total}
+use Rattle.program.specs.Page.{Body, Group, Part, Hunk, code, stores, bss, relocation, symbols, debug, joined, nameWords, bodyWords, groupWords, partWords, hunkWords, Each, storedWords, total}
 use Rattle.loader.specs.Memory.{amountOf, moved}
 
 -- ---- records
@@ -58,6 +58,57 @@ abbrev pub targetsIn : ℕ → List Hunk → ℕ → List (ℕ × ℕ)
 targetsIn p [] i = []
 targetsIn p (h ∷ hs) zero = partTargets p (h .parts)
 targetsIn p (h ∷ hs) (suc i) = targetsIn (p + 4 * h .size) hs i
+
+-- ---- targets with their bytes in the file
+
+-- a target: the hunk that it stands in, its first byte in memory, the hunk whose base it gets, and the byte in the file of the offset that names it
+pub record PageTarget : Type 0 where
+  pub hunk : ℕ
+  pub place : ℕ
+  pub named : ℕ
+  pub byte : ℕ
+
+-- of hunk i, which stands at byte p of memory: the targets of offsets that get the base of hunk k; the first offset stands at byte `at` of the file
+abbrev pub offsetsAt : ℕ → ℕ → ℕ → ℕ → List ℕ → List PageTarget
+offsetsAt i p k at [] = []
+offsetsAt i p k at (o ∷ os) = record { hunk = i; place = p + o; named = k; byte = at } ∷ offsetsAt i p k (at + 4) os
+
+-- of groups from byte `at` on: in each, the offsets follow two words
+abbrev pub groupsAt : ℕ → ℕ → ℕ → List Group → List PageTarget
+groupsAt i p at [] = []
+groupsAt i p at (g ∷ gs) = offsetsAt i p (g .hunk) (at + 8) (g .offsets) ++ groupsAt i p (at + 4 * length (groupWords g)) gs
+
+-- of parts from byte `at` on: in a relocation the groups follow one word
+abbrev pub partsAt : ℕ → ℕ → ℕ → List Part → List PageTarget
+partsAt i p at [] = []
+partsAt i p at (relocation gs ∷ ps) = groupsAt i p (at + 4) gs ++ partsAt i p (at + 4 * length (partWords (relocation gs))) ps
+partsAt i p at (symbols us ∷ ps) = partsAt i p (at + 4 * length (partWords (symbols us))) ps
+partsAt i p at (debug ws ∷ ps) = partsAt i p (at + 4 * length (partWords (debug ws))) ps
+
+-- of hunk i, from byte `at` of the file on: its parts follow its name and its body
+abbrev pub hunkAt : ℕ → ℕ → ℕ → Hunk → List PageTarget
+hunkAt i p at h = partsAt i p (at + 4 * length (nameWords (h .name) ++ bodyWords (h .body))) (h .parts)
+
+-- of hunks from number i on, the first at byte p of memory and at byte `at` of the file
+abbrev pub hunksAt : ℕ → ℕ → ℕ → List Hunk → List PageTarget
+hunksAt i p at [] = []
+hunksAt i p at (h ∷ hs) = hunkAt i p at h ++ hunksAt (i + 1) (p + 4 * h .size) (at + 4 * length (hunkWords h)) hs
+
+-- all targets in file order: the hunks follow five words and a size for each
+abbrev pub fileTargets : List Hunk → List PageTarget
+fileTargets hs = hunksAt 0 0 (20 + 4 * length hs) hs
+
+-- the same as three numbers, without the hunk that it stands in
+abbrev pub bare : PageTarget → Target
+bare t = record { place = t .place; key = t .named; byte = t .byte }
+
+-- by place and named hunk alone
+abbrev pub pairOf : PageTarget → ℕ × ℕ
+pairOf t = (t .place, t .named)
+
+-- hunk i's first byte in memory: the hunks before it stand end to end
+abbrev pub hunkPlace : List Hunk → ℕ → ℕ
+hunkPlace hs i = 4 * total (take i hs)
 
 -- place and hunk of a target that the file names
 abbrev pub aimOf : Target → ℕ × ℕ
