@@ -1,6 +1,6 @@
 -- A load of a file that is hunks, written out, in the terms of the page: its records, its memory, its targets with their bytes in the file. Assumes nothing.
 use Prim.Native.Nat.{ℕ, suc, _+_, _*_, _-_, _/_, _%_, _≤_}
-use mathlib.Core.Path.{_≡_, refl, sym, ap, ap₂, _∙_}
+use mathlib.Core.Path.{_≡_, refl, sym, ap, _∙_}
 use mathlib.Core.List.{List, [], _∷_, _++_, map, append-assoc, map-append}
 use native.Mathlib.Omega.{arith}
 use lib.ListN.{length, take, drop, set, replicate, length-append, length-replicate, replicate-append-replicate}
@@ -9,7 +9,7 @@ use Rattle.words.specs.Word.{wordsAt, setWord, addAt}
 use Rattle.words.specs.Shift.{Target, shiftAll}
 use Rattle.program.specs.declared.act.Act.{Act}
 use Rattle.program.specs.declared.act.Act.the-variants.{Quiet, Body, Store, Add}
-use Rattle.program.specs.Page.{Group, Part, Hunk, code, stores, bss, relocation, symbols, debug, joined, groupWords, partWords, hunkWords, written, Each, bodyCount, storedWords, HunkFits, Program, total}
+use Rattle.program.specs.Page.{Hunk, code, stores, bss, joined, hunkWords, written, Each, bodyCount, storedWords, HunkFits, Program, total}
 use Rattle.program.specs.Page as page
 use Rattle.program.specs.Header.{totalOf, sizeOf}
 use Rattle.program.specs.Acts.{actsOf, pass}
@@ -18,7 +18,7 @@ use Rattle.program.proofs.Taken.{Sized}
 use Rattle.program.proofs.Pages.{is-total, all-sized}
 use Rattle.loader.specs.Memory.{loadedOf, place1, placed, targets, targetsOf, amountOf, bodiesOf, loadOf, moved, moveOf}
 use Rattle.loader.specs.Table.{entry1, listed, recordsOf}
-use Rattle.loader.specs.Pages.{PageTarget, kindOf, recordNumbers, wordBytes, hunkBytes, imageOf, groupTargets, partTargets, pageTargets, offsetsAt, groupsAt, partsAt, hunkAt, hunksAt, fileTargets, bare, pairOf, aimOf, relocated}
+use Rattle.loader.specs.Pages.{PageTarget, kindOf, recordNumbers, wordBytes, hunkBytes, imageOf, hunkAt, hunksAt, fileTargets, bare, relocated}
 use Rattle.loader.proofs.PageActs.{plain, storing, adding, pageActs, page-acts}
 
 -- ---- passes
@@ -174,45 +174,10 @@ targets-page h p at (x ∷ xs) =
     ∙ ap (λ (u : List Target). map bare (hunkAt h p at x) ++ u) (targets-page (h + 1) (p + 4 * x .size) to xs)
     ∙ sym (map-append bare (hunkAt h p at x) (hunksAt (h + 1) (p + 4 * x .size) to xs))
 
--- ---- targets by place and hunk alone
-
--- both parts of two lists
-both : (a b : List PageTarget) (c d : List (ℕ × ℕ)) → map pairOf a ≡ c → map pairOf b ≡ d → map pairOf (a ++ b) ≡ c ++ d
-both a b c d e f = map-append pairOf a b ∙ ap₂ _++_ e f
-
-pairs-offsets : (i p k at : ℕ) (os : List ℕ) → map pairOf (offsetsAt i p k at os) ≡ map (λ o. (p + o, k)) os
-pairs-offsets i p k at [] = refl
-pairs-offsets i p k at (o ∷ os) = ap (λ (l : List (ℕ × ℕ)). (p + o, k) ∷ l) (pairs-offsets i p k (at + 4) os)
-
-pairs-groups : (i p at : ℕ) (gs : List Group) → map pairOf (groupsAt i p at gs) ≡ groupTargets p gs
-pairs-groups i p at [] = refl
-pairs-groups i p at (g ∷ gs) =
-    both (offsetsAt i p (g .hunk) (at + 8) (g .offsets)) (groupsAt i p (at + 4 * length (groupWords g)) gs) _ _ (pairs-offsets i p (g .hunk) (at + 8) (g .offsets)) (pairs-groups i p _ gs)
-
-pairs-parts : (i p at : ℕ) (ps : List Part) → map pairOf (partsAt i p at ps) ≡ partTargets p ps
-pairs-parts i p at [] = refl
-pairs-parts i p at (relocation gs ∷ ps) =
-    both (groupsAt i p (at + 4) gs) (partsAt i p (at + 4 * length (partWords (relocation gs))) ps) _ _ (pairs-groups i p (at + 4) gs) (pairs-parts i p _ ps)
-pairs-parts i p at (symbols us ∷ ps) = pairs-parts i p _ ps
-pairs-parts i p at (debug ws ∷ ps) = pairs-parts i p _ ps
-
-pairs-hunks : (i p at : ℕ) (hs : List Hunk) → map pairOf (hunksAt i p at hs) ≡ pageTargets p hs
-pairs-hunks i p at [] = refl
-pairs-hunks i p at (h ∷ hs) =
-    both (hunkAt i p at h) (hunksAt (i + 1) (p + 4 * h .size) (at + 4 * length (hunkWords h)) hs) _ _ (pairs-parts i p _ (h .parts)) (pairs-hunks (i + 1) (p + 4 * h .size) _ hs)
-
--- the targets of a page by place and hunk
-pub page-pairs : (hs : List Hunk) → map pairOf (fileTargets hs) ≡ pageTargets 0 hs
-page-pairs hs = pairs-hunks 0 0 (20 + 4 * length hs) hs
-
-bare-pairs : (ts : List PageTarget) → map aimOf (map bare ts) ≡ map pairOf ts
-bare-pairs [] = refl
-bare-pairs (t ∷ ts) = ap (λ (l : List (ℕ × ℕ)). pairOf t ∷ l) (bare-pairs ts)
-
-relocated-aims : (m : List ℕ) (ts : List Target) (f : ℕ → ℕ) → shiftAll m ts f ≡ relocated m (map aimOf ts) f
+relocated-bare : (m : List ℕ) (ts : List PageTarget) (f : ℕ → ℕ) → shiftAll m (map bare ts) f ≡ relocated m ts f
 unfolding shiftAll relocated
-relocated-aims m [] f = refl
-relocated-aims m (t ∷ ts) f = relocated-aims (addAt m (t .place) (f (t .key))) ts f
+relocated-bare m [] f = refl
+relocated-bare m (t ∷ ts) f = relocated-bare (addAt m (t .place) (f (t .named))) ts f
 
 -- ---- of a file
 
@@ -253,19 +218,15 @@ module _ (file : List ℕ) (hs : List Hunk) (pr : Program hs) (even : length fil
   page-load bases m = ap (λ (u : List ℕ). shiftAll u (targetsOf file) (amountOf bases)) (page-bodies m)
 
   -- the targets: place, hunk, and byte in the file
-  pub page-triples : targetsOf file ≡ map bare (fileTargets hs)
-  page-triples = targets-plain (actsOf file) ∙ ap targets (page-acts file hs pr even e) ∙ targets-page 0 0 (20 + 4 * length hs) hs
-
-  -- place and hunk alone
-  pub page-targets : map aimOf (targetsOf file) ≡ pageTargets 0 hs
-  page-targets = ap (map aimOf) page-triples ∙ bare-pairs (fileTargets hs) ∙ page-pairs hs
+  pub page-targets : targetsOf file ≡ map bare (fileTargets hs)
+  page-targets = targets-plain (actsOf file) ∙ ap targets (page-acts file hs pr even e) ∙ targets-page 0 0 (20 + 4 * length hs) hs
 
   -- a load and a move, by the page alone
-  page-relocated : (m : List ℕ) (f : ℕ → ℕ) → shiftAll m (targetsOf file) f ≡ relocated m (pageTargets 0 hs) f
-  page-relocated m f = relocated-aims m (targetsOf file) f ∙ ap (λ (ts : List (ℕ × ℕ)). relocated m ts f) page-targets
+  page-relocated : (m : List ℕ) (f : ℕ → ℕ) → shiftAll m (targetsOf file) f ≡ relocated m (fileTargets hs) f
+  page-relocated m f = ap (λ (ts : List Target). shiftAll m ts f) page-targets ∙ relocated-bare m (fileTargets hs) f
 
-  pub page-loads : (bases m : List ℕ) → loadOf file bases m ≡ relocated (imageOf hs ++ drop (4 * total hs) m) (pageTargets 0 hs) (amountOf bases)
+  pub page-loads : (bases m : List ℕ) → loadOf file bases m ≡ relocated (imageOf hs ++ drop (4 * total hs) m) (fileTargets hs) (amountOf bases)
   page-loads bases m = page-load bases m ∙ page-relocated (imageOf hs ++ drop (4 * total hs) m) (amountOf bases)
 
-  pub page-moves : (old new m : List ℕ) → moveOf file old new m ≡ relocated m (pageTargets 0 hs) (moved old new)
+  pub page-moves : (old new m : List ℕ) → moveOf file old new m ≡ relocated m (fileTargets hs) (moved old new)
   page-moves old new m = page-relocated m (moved old new)

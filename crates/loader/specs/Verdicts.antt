@@ -12,12 +12,14 @@ use Rattle.answers.specs.declared.Refusal.{Refusal}
 use Rattle.answers.specs.declared.Tested.the-variants.{Passed, Failed}
 use Rattle.program.specs.declared.check.Answer.{Answer}
 use Rattle.program.specs.declared.check.Answer.the-variants.{Accepted, Refused}
+use Rattle.program.specs.Page.{Hunk, Each}
 use Rattle.program.specs.Header.{totalOf}
 use Rattle.program.specs.Check.{checkOf}
 use Rattle.loader.specs.Memory.{loadedOf, amountOf}
 use Rattle.loader.specs.Bases.{topOf, entryBad, basesFault}
 use Rattle.loader.specs.Near.{clash, clashOf}
 use Rattle.loader.specs.Calls.{roomFault}
+use Rattle.loader.specs.Pages.{PageTarget, fileTargets}
 
 -- an answer that accepts
 abbrev pub Accepts : Answer → Type 0
@@ -74,11 +76,34 @@ BasesWhy file bases from f =
     ((f ≡ refusal 40 from) × (length bases ≢ totalOf file))
     ⊎ ((length bases ≡ totalOf file) × ((i : ℕ) × (i < totalOf file) × (f ≡ refusal 40 (from + i)) × (entryBad file bases i ≡ true) × ((j : ℕ) → j < i → entryBad file bases j ≡ false)))
 
--- ---- 42
+-- ---- 42, in the terms of the page
+
+-- two targets of one hunk, less than 4 bytes apart
+abbrev pub Near : PageTarget → PageTarget → Type 0
+Near x y = (x .hunk ≡ y .hunk) × (x .place < y .place + 4) × (y .place < x .place + 4)
+
+-- no target is near another of the list
+abbrev pub Spaced : List PageTarget → Type 0
+Spaced [] = Unit {0}
+Spaced (x ∷ xs) = Each (λ y. Near x y → ⊥) xs × Spaced xs
 
 abbrev pub Member : {A : Type 0} → A → List A → Type 0
 Member u [] = ⊥
 Member u (x ∷ xs) = (u ≡ x) ⊎ Member u xs
+
+-- the first target in file order that is near an earlier one: the file names it at byte p
+pub record FirstNear (hs : List Hunk) (p : ℕ) : Type 0 where
+  pub before : List PageTarget
+  pub target : PageTarget
+  pub after : List PageTarget
+  pub split : fileTargets hs ≡ before ++ (target ∷ after)
+  pub spaced : Spaced before
+  pub other : PageTarget
+  pub earlier : Member other before
+  pub near : Near target other
+  pub place : p ≡ target .byte
+
+-- ---- 42, as it is tested: over all of memory
 
 -- a target is the first that has less than 4 bytes to one before it, the other
 pub record ClashWhy (ts : List Target) (f : Refusal) : Type 0 where
