@@ -5,6 +5,7 @@ use mathlib.Core.Path.{_≡_}
 use mathlib.Core.Logic.{_↔_}
 use mathlib.Core.List.{List, _++_}
 use lib.ListN.{length, getD, drop, replicate}
+use Rattle.answers.specs.Refusals.{refusal}
 use Rattle.answers.specs.declared.Refusal.{Refusal}
 use Rattle.answers.specs.declared.Tested.the-variants.{Failed}
 use Rattle.words.specs.Word.{Bytes}
@@ -41,13 +42,12 @@ use Rattle.program.specs.Verdicts.{Because}
 use Rattle.program.proofs.Pages as pages
 use Rattle.program.proofs.Refusing as faults
 use Rattle.loader.specs.Calls.{loadAnswer, moveAnswer}
-use Rattle.loader.specs.Memory.{targetsOf, amountOf, moved}
+use Rattle.loader.specs.Memory.{amountOf, moved}
 use Rattle.loader.specs.Near.{clashOf}
-use Rattle.loader.specs.Pages.{imageOf, pageTargets, targetsIn, aimOf, Adds, Outside, placedHunks}
-use Rattle.loader.specs.Verdicts.{LoadWhy, MoveWhy, Member, ClashWhy}
+use Rattle.loader.specs.Pages.{imageOf, fileTargets, Adds, Outside, placedHunks}
+use Rattle.loader.specs.Verdicts.{LoadWhy, MoveWhy, FirstNear}
 use Rattle.loader.proofs.Refusing as unloaded
-use Rattle.loader.proofs.NearTargets as nearness
-use Rattle.loader.proofs.OneHunk as onehunk
+use Rattle.loader.proofs.PageNear as nearness
 use Rattle.hunks.specs.declared.Hunk.{Hunk}
 use Rattle.hunks.specs.Calls.{Loads, Moves}
 use Rattle.hunks.specs.Moving.{SameRoom, LoadsAt}
@@ -125,12 +125,9 @@ module _ (file : List ℕ) where
   pub move-refused-exactly : (old new : List ℕ) (m r w : ℕ) (f : Refusal) → (moveAnswer file old new m r w ≡ Refused f) ↔ MoveWhy file old new m r w f
   move-refused-exactly old new m r w f = unloaded.move-why file m r w f old new
 
-  -- 42 exactly at the first target that is too near one before it; both are of one hunk
-  pub clash-exactly : (f : Refusal) → (clashOf file ≡ Failed f) ↔ ClashWhy (targetsOf file) f
-  clash-exactly f = nearness.clash-why (targetsOf file) f
-
-  pub clash-one-hunk : (hs : List paper.Hunk) → paper.Holds file hs → (f : Refusal) (r : ClashWhy (targetsOf file) f) → (i : ℕ) × (i < length hs) × Member (aimOf (r .target)) (targetsIn 0 hs i) × Member (aimOf (r .other)) (targetsIn 0 hs i)
-  clash-one-hunk hs h f r = onehunk.clash-one-hunk file hs h f r
+  -- 42 exactly at the first target that is near an earlier one of its hunk, at its byte in the file
+  pub near-exactly : (hs : List paper.Hunk) → paper.Holds file hs → (f : Refusal) → (clashOf file ≡ Failed f) ↔ ((p : ℕ) × (f ≡ refusal 42 p) × FirstNear hs p)
+  near-exactly hs h = nearness.near-exactly file hs h
 
 -- ---- loading and moving
 
@@ -144,17 +141,17 @@ module _ (file m : List ℕ) (t : List Hunk) (w : List ℕ) (x n : ℕ) (m1 : Li
   move-page = calls.move-page file m t w x n m1 t1 w1
 
   -- a load adds the base of its hunk to each target's stored word; a move adds new minus old base to what stood there
-  pub load-words : (bases : List ℕ) → Loads file bases m t w (Accepted x n) m1 t1 w1 → (hs : List paper.Hunk) → paper.Holds file hs → Adds (imageOf hs) m1 (pageTargets 0 hs) (amountOf bases)
+  pub load-words : (bases : List ℕ) → Loads file bases m t w (Accepted x n) m1 t1 w1 → (hs : List paper.Hunk) → paper.Holds file hs → Adds (imageOf hs) m1 (fileTargets hs) (amountOf bases)
   load-words = calls.load-words file m t w x n m1 t1 w1
 
-  pub move-words : (old new : List ℕ) → Moves file old new m t w (Accepted x n) m1 t1 w1 → (hs : List paper.Hunk) → paper.Holds file hs → Adds m m1 (pageTargets 0 hs) (moved old new)
+  pub move-words : (old new : List ℕ) → Moves file old new m t w (Accepted x n) m1 t1 w1 → (hs : List paper.Hunk) → paper.Holds file hs → Adds m m1 (fileTargets hs) (moved old new)
   move-words = calls.move-words file m t w x n m1 t1 w1
 
   -- outside the targets a load leaves the hunks' bytes, and behind them what stood there; a move leaves every byte as it was
-  pub load-others : (bases : List ℕ) → Loads file bases m t w (Accepted x n) m1 t1 w1 → (hs : List paper.Hunk) → paper.Holds file hs → (k : ℕ) → Outside k (pageTargets 0 hs) → getD m1 k 0 ≡ getD (placedHunks hs m) k 0
+  pub load-others : (bases : List ℕ) → Loads file bases m t w (Accepted x n) m1 t1 w1 → (hs : List paper.Hunk) → paper.Holds file hs → (k : ℕ) → Outside k (fileTargets hs) → getD m1 k 0 ≡ getD (placedHunks hs m) k 0
   load-others = calls.load-others file m t w x n m1 t1 w1
 
-  pub move-others-stay : (old new : List ℕ) → Moves file old new m t w (Accepted x n) m1 t1 w1 → (hs : List paper.Hunk) → paper.Holds file hs → (length m1 ≡ length m) × ((k : ℕ) → Outside k (pageTargets 0 hs) → getD m1 k 0 ≡ getD m k 0)
+  pub move-others-stay : (old new : List ℕ) → Moves file old new m t w (Accepted x n) m1 t1 w1 → (hs : List paper.Hunk) → paper.Holds file hs → (length m1 ≡ length m) × ((k : ℕ) → Outside k (fileTargets hs) → getD m1 k 0 ≡ getD m k 0)
   move-others-stay = calls.move-others-stay file m t w x n m1 t1 w1
 
 module _ (file m : List ℕ) (t : List Hunk) (w : List ℕ) where

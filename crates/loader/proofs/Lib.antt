@@ -31,8 +31,13 @@ pub mod Numbers
 pub mod PageActs
 -- what a load and a move do, in the page's terms
 pub mod PageLoads
--- targets that are too near stand in one hunk
+-- each target at its offset in its hunk; targets that are near are of one hunk
 pub mod OneHunk
+-- 40 and 42 in the page's terms
+pub mod PageBases
+pub mod PageNear
+-- when a call is accepted, and when each of 40, 41 and 42 is given, in the page's terms
+pub mod PageVerdicts
 -- what becomes of each target and of every other byte
 pub mod Targets
 -- an accepted call in the page's terms
