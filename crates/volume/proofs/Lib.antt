@@ -13,5 +13,7 @@ pub mod Passes
 pub mod Breaks
 -- the starred cases hold
 pub mod Stars
+-- the floppy's numbers
+pub mod Floppy
 -- which numbers the tests of each kind of block give
 pub mod Given
