@@ -1,17 +1,25 @@
 -- The headline theorems side by side, each cited from the crate that proves it. What the names in them mean is in the specs/ of that crate.
 -- Assumes nothing.
-use Prim.Native.Nat.{ℕ, _≤_, _<_}
+use Prim.Native.Nat.{ℕ, _+_, _*_, _≤_, _<_}
 use mathlib.Core.Path.{_≡_}
-use mathlib.Core.Logic.{_↔_}
+use mathlib.Core.Logic.{_⊎_, _↔_}
+use mathlib.Core.Bool.{false}
 use mathlib.Core.List.{List, _++_}
 use lib.ListN.{length, getD, drop, replicate}
 use Rattle.answers.specs.Refusals.{refusal}
 use Rattle.answers.specs.declared.Refusal.{Refusal}
-use Rattle.answers.specs.declared.Tested.the-variants.{Failed}
+use Rattle.answers.specs.declared.Tested.the-variants.{Passed, Failed}
+use Rattle.answers.specs.Tests.{pick}
+use Rattle.reach.specs.References.{Reached}
 use Rattle.words.specs.Word.{Bytes}
 use Rattle.volume.specs.declared.disk.Disk.{Disk}
-use Rattle.volume.specs.Disks.{claimBytes}
+use Rattle.volume.specs.Disks.{floppy, rootOf, claimBytes, chainLimit}
+use Rattle.volume.specs.Blocks.{directory}
+use Rattle.volume.specs.Files.{sizeOf}
+use Rattle.volume.specs.References.{to, entry, references}
 use Rattle.volume.specs.Law.{Tree, Volume}
+use Rattle.volume.specs.Stars.{stars, Hold}
+use Rattle.volume.proofs.Stars as starred
 use Rattle.audit.specs.declared.audit.Report.{Report}
 use Rattle.audit.specs.declared.audit.Audited.{Audited}
 use Rattle.audit.specs.declared.audit.Audited.the-variants as audited
@@ -21,15 +29,21 @@ use Rattle.audit.proofs.Accepting as accepting
 use Rattle.audit.proofs.Refusing as refusing
 use Rattle.lookup.specs.declared.find.Found.{Found}
 use Rattle.lookup.specs.declared.find.Found.the-variants as found
+use Rattle.lookup.specs.Paths.{longestPath, components}
 use Rattle.lookup.specs.Lookup as lookup
+use Rattle.lookup.specs.Trails.{First, Trail, Lies, pathOf}
 use Rattle.lookup.specs.Verdicts as lookups
 use Rattle.lookup.proofs.Deciding as finding
 use Rattle.lookup.proofs.Refusing as missing
+use Rattle.lookup.proofs.Compared as counting
+use Rattle.lookup.proofs.Bridge as bridge
 use Rattle.reading.specs.declared.read.Reading.{Reading}
 use Rattle.reading.specs.declared.read.Reading.the-variants as reading
 use Rattle.reading.specs.Bytes.{fileBytes}
+use Rattle.reading.specs.FileTests.{blocksFault}
 use Rattle.reading.specs.Reads as read
 use Rattle.reading.specs.Outcomes as outcomes
+use Rattle.reading.proofs.Passing as passing
 use Rattle.reading.proofs.Answers as answers
 use Rattle.reading.proofs.Refusing as unread
 use Rattle.reading.proofs.Readings as readings
@@ -83,6 +97,18 @@ module _ (d : Disk) (s : List ℕ) (n : ℕ) where
 -- ---- a path, and a read of it at offset o
 
 module _ (d : Disk) (s path : List ℕ) where
+  -- a directory is found exactly if each component is the first equal name of a directory, in the one before it; a file exactly if the last
+  -- component is one there
+  pub directory-exactly : (k n : ℕ) → (lookup.findOf d s path ≡ found.Directory k n) ↔ (lookups.Opened d s path × Trail d s (rootOf d) (components path) k n)
+  directory-exactly k n = missing.directory-exactly d s path k n
+
+  pub file-exactly : (k z n : ℕ) → (lookup.findOf d s path ≡ found.File k z n) ↔ lookups.IsFile d s path k z n
+  file-exactly k z n = missing.file-exactly d s path k z n
+
+  -- a path compares at most as many entries for each of its components as a chain may have
+  pub found-few : (k z n : ℕ) → (lookup.findOf d s path ≡ found.Directory k n) ⊎ (lookup.findOf d s path ≡ found.File k z n) → n ≤ length (components path) * chainLimit d
+  found-few k z n e = counting.found-few d s path k z n e
+
   -- 19 exactly if the chain has ended and no entry on it has the name; every other refusal exactly then
   pub missing-exactly : (i : ℕ) → (lookup.findOf d s path ≡ lookup.refuse 19 i) ↔ lookups.Missing d s path i
   missing-exactly i = missing.missing-exactly d s path i
@@ -93,9 +119,13 @@ module _ (d : Disk) (s path : List ℕ) where
   pub find-determined : (r r′ : Found) → lookup.Finds d s path r → lookup.Finds d s path r′ → (lookup.numbersOf r ≡ lookup.numbersOf r′) × (r ≡ r′)
   find-determined r r′ a a′ = finding.find-determined d s path r r′ a a′
 
-  -- bytes exactly if the path leads to a file whose blocks all pass; every refusal exactly then
+  -- bytes exactly if the path leads to a whole file; then the output holds its bytes from the offset on, and after them what it held; every
+  -- refusal exactly then
   pub read-exactly : (o n m : ℕ) → (read.readOf d s path o n ≡ reading.Bytes m) ↔ outcomes.Gives d s path o n m
   read-exactly o n m = answers.read-exactly d s path o n m
+
+  pub read-output : (o m k z c : ℕ) (output output′ : List ℕ) → read.Reads d s path o output (reading.Bytes m) output′ → lookup.findOf d s path ≡ found.File k z c → outcomes.Filled (fileBytes d s k) o output m output′
+  read-output o m k z c output output′ r e = answers.read-output d s path o m k z c output output′ r e
 
   pub read-refused-exactly : (o n v k : ℕ) → (read.readOf d s path o n ≡ read.refuse v k) ↔ outcomes.Refuses d s path v k
   read-refused-exactly o n v k = unread.refused-exactly d s path o n v k
@@ -107,6 +137,30 @@ module _ (d : Disk) (s path : List ℕ) where
   pub tree-read-whole : Tree d s → (k z c : ℕ) → lookup.findOf d s path ≡ found.File k z c → (output : List ℕ) → z ≤ length output → (r : Reading) (output′ : List ℕ) → read.Reads d s path 0 output r output′
       → (r ≡ reading.Bytes z) × (length (fileBytes d s k) ≡ z) × (output′ ≡ fileBytes d s k ++ drop z output)
   tree-read-whole v k z c e output h r output′ w = reads.tree-read-whole d s v path k z c e output output′ r h w
+
+module _ (d : Disk) (s : List ℕ) where
+  -- a component that leads to the entry at place p has compared p + 1, at most as many as a chain may have
+  pub compared-most : (t : ℕ) (name : List ℕ) (p : ℕ) → First d s t name p → p + 1 ≤ chainLimit d
+  compared-most t name p f = counting.first-few d s t name p f
+
+  -- the tests of a file's blocks pass exactly if it is whole: as the law says, with all of its blocks
+  pub tested-exactly : (h : ℕ) → (blocksFault d s h ≡ Passed) ↔ outcomes.Whole d s h
+  tested-exactly h = passing.tested-exactly d s h
+
+  -- in a tree every reached entry lies below the root by the names of directories; it is found by its path, and a file is read whole
+  pub reached-lies : Tree d s → (k : ℕ) → Reached (references d s) (to entry k) → Lies s (rootOf d) k
+  reached-lies v k r = bridge.reached-lies d s v k r
+
+  pub reached-found : Tree d s → (k : ℕ) (h : Lies s (rootOf d) k) → length (pathOf s (rootOf d) k h) ≤ longestPath → (n : ℕ) × (lookup.findOf d s (pathOf s (rootOf d) k h) ≡ pick (directory s k) (found.Directory k n) (found.File k (sizeOf s k) n))
+  reached-found v k h l = bridge.reached-found d s v k h l
+
+  pub reached-read : Tree d s → (k : ℕ) (h : Lies s (rootOf d) k) → directory s k ≡ false → length (pathOf s (rootOf d) k h) ≤ longestPath → (output output′ : List ℕ) (r : Reading) → sizeOf s k ≤ length output → read.Reads d s (pathOf s (rootOf d) k h) 0 output r output′
+      → (r ≡ reading.Bytes (sizeOf s k)) × (length (fileBytes d s k) ≡ sizeOf s k) × (output′ ≡ fileBytes d s k ++ drop (sizeOf s k) output)
+  reached-read v k h e l output output′ r m q = reads.reached-read d s v k h e l output output′ r m q
+
+-- the worked cases with a star
+pub stars-hold : Hold floppy stars
+stars-hold = starred.stars-hold
 
 -- ---- a program file
 

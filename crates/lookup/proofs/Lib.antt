@@ -13,6 +13,8 @@ pub mod Trails
 pub mod Deciding
 -- each number exactly then
 pub mod Refusing
+-- `found-few`: a lookup compares at most as many entries for each component as a chain may have
+pub mod Compared
 -- `chain-few`: no chain of a tree is longer than the limit
 pub mod Rooms
 -- `tree-answers`: in a tree a lookup gives an answer, 18, 19 or 20
