@@ -19,6 +19,8 @@ pub mod Moving
 pub mod Deciding
 -- which test refuses a call
 pub mod Refusing
+-- the tests of a call that is lent any number of lists of bases
+pub mod Lists
 -- choices between a fault and the next test
 pub mod Picks
 -- what 40, 41 and 42 say: bases, room, near targets

@@ -18,29 +18,29 @@ use Rattle.loader.specs.Calls.{roomFault, also, lastTests, loadAnswer, m
 use Rattle.loader.specs.Verdicts.{Accepts, LoadWhy, MoveWhy}
 use Rattle.loader.proofs.Answering.{also-so, also-both}
 
-also-refused : (a : Answer) (h : Tested) (f : Refusal) → also a h ≡ Refused f → (a ≡ Refused f) ⊎ (((t : ℕ) × (n : ℕ) × (a ≡ Accepted t n)) × (h ≡ Failed f))
+pub also-refused : (a : Answer) (h : Tested) (f : Refusal) → also a h ≡ Refused f → (a ≡ Refused f) ⊎ (((t : ℕ) × (n : ℕ) × (a ≡ Accepted t n)) × (h ≡ Failed f))
 also-refused (Accepted t n) Passed f e = not-refused e
 also-refused (Accepted t n) (Failed r) f e = let q : r ≡ f = cc in inr ((t, n, refl), ap Failed q)
 also-refused (Refused r) h f e = inl e
 
-also-stays : (a : Answer) (h : Tested) (f : Refusal) → a ≡ Refused f → also a h ≡ Refused f
+pub also-stays : (a : Answer) (h : Tested) (f : Refusal) → a ≡ Refused f → also a h ≡ Refused f
 also-stays a h f e = rw e
 
-also-fails : (a : Answer) (h : Tested) (t n : ℕ) (f : Refusal) → a ≡ Accepted t n → h ≡ Failed f → also a h ≡ Refused f
+pub also-fails : (a : Answer) (h : Tested) (t n : ℕ) (f : Refusal) → a ≡ Accepted t n → h ≡ Failed f → also a h ≡ Refused f
 also-fails a h t n f x y = rw (x, y)
 
-accepts-both : (a : Answer) (h : Tested) → Accepts a → h ≡ Passed → Accepts (also a h)
+pub accepts-both : (a : Answer) (h : Tested) → Accepts a → h ≡ Passed → Accepts (also a h)
 accepts-both a h x y = (x .0, x .1, also-both a h (x .0) (x .1) (x .2) y)
 
 -- room and near targets
-abbrev LastWhy : List ℕ → Answer → ℕ → ℕ → ℕ → Refusal → Type 0
+abbrev pub LastWhy : List ℕ → Answer → ℕ → ℕ → ℕ → Refusal → Type 0
 LastWhy file a m r w f =
     (a ≡ Refused f)
     ⊎ (Accepts a × (roomFault (totalOf file) (loadedOf file) m r w ≡ Failed f))
     ⊎ (Accepts a × (roomFault (totalOf file) (loadedOf file) m r w ≡ Passed) × (clashOf file ≡ Failed f))
 
 module _ (file : List ℕ) (m r w : ℕ) (f : Refusal) where
-  last-why : (a : Answer) → lastTests file a m r w ≡ Refused f → LastWhy file a m r w f
+  pub last-why : (a : Answer) → lastTests file a m r w ≡ Refused f → LastWhy file a m r w f
   last-why a h = go (also-refused (also a (roomFault (totalOf file) (loadedOf file) m r w)) (clashOf file) f h)
     where
       two : (a ≡ Refused f) ⊎ (Accepts a × (roomFault (totalOf file) (loadedOf file) m r w ≡ Failed f)) → LastWhy file a m r w f
@@ -53,7 +53,7 @@ module _ (file : List ℕ) (m r w : ℕ) (f : Refusal) where
           let s = also-so a (roomFault (totalOf file) (loadedOf file) m r w) (y .0 .0) (y .0 .1) (y .0 .2) in
           inr (inr ((y .0 .0, y .0 .1, s .0), s .1, y .1))
 
-  last-then : (a : Answer) → LastWhy file a m r w f → lastTests file a m r w ≡ Refused f
+  pub last-then : (a : Answer) → LastWhy file a m r w f → lastTests file a m r w ≡ Refused f
   last-then a (inl x) = also-stays _ (clashOf file) f (also-stays a _ f x)
   last-then a (inr (inl y)) = also-stays _ (clashOf file) f (also-fails a _ (y .0 .0) (y .0 .1) f (y .0 .2) (y .1))
   last-then a (inr (inr y)) =
@@ -61,7 +61,7 @@ module _ (file : List ℕ) (m r w : ℕ) (f : Refusal) where
       also-fails _ (clashOf file) (s .0) (s .1) f (s .2) (y .2)
 
 -- what accepts so far, with one more list of bases
-accepts-so : (a : Answer) (h : Tested) → Accepts (also a h) → Accepts a × (h ≡ Passed)
+pub accepts-so : (a : Answer) (h : Tested) → Accepts (also a h) → Accepts a × (h ≡ Passed)
 accepts-so a h x = let s = also-so a h (x .0) (x .1) (x .2) in ((x .0, x .1, s .0), s .1)
 
 module _ (file : List ℕ) (m r w : ℕ) (f : Refusal) where

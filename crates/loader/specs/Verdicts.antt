@@ -12,7 +12,7 @@ use Rattle.answers.specs.declared.Refusal.{Refusal}
 use Rattle.answers.specs.declared.Tested.the-variants.{Passed, Failed}
 use Rattle.program.specs.declared.check.Answer.{Answer}
 use Rattle.program.specs.declared.check.Answer.the-variants.{Accepted, Refused}
-use Rattle.program.specs.Page.{Hunk, Each, total}
+use Rattle.program.specs.Page.{Hunk, Each, Holds, total}
 use Rattle.program.specs.Header.{totalOf}
 use Rattle.program.specs.Check.{checkOf}
 use Rattle.loader.specs.Memory.{loadedOf, amountOf}
@@ -166,3 +166,9 @@ Refuses41 hs lists memory records work p =
 abbrev pub Refuses42 : List Hunk → List (List ℕ) → ℕ → ℕ → ℕ → ℕ → Type 0
 Refuses42 hs lists memory records work p =
     Each (GoodBases hs) lists × Room (length hs) (4 * total hs) memory records work × FirstNear hs p
+
+-- any refusal: of the file; else, of the hunks that it holds, 40, 41 or 42 at a place
+abbrev pub CallWhy : List ℕ → List (List ℕ) → ℕ → ℕ → ℕ → Refusal → Type 0
+CallWhy file lists memory records work f =
+    (checkOf file ≡ Refused f)
+    ⊎ ((hs : List Hunk) × Holds file hs × (p : ℕ) × (((f ≡ refusal 40 p) × Refuses40 hs lists p) ⊎ ((f ≡ refusal 41 p) × Refuses41 hs lists memory records work p) ⊎ ((f ≡ refusal 42 p) × Refuses42 hs lists memory records work p)))
