@@ -17,7 +17,7 @@ pub mod Calling
 pub mod Moving
 -- the contracts decide
 pub mod Deciding
--- which test refuses a call
+-- tests one after the other
 pub mod Refusing
 -- the tests of a call that is lent any number of lists of bases
 pub mod Lists
@@ -27,7 +27,7 @@ pub mod Picks
 pub mod BadBases
 pub mod Rooms
 pub mod NearTargets
--- each number by its own test
+-- the check's own numbers
 pub mod Numbers
 -- what a file asks for, in the page's terms
 pub mod PageActs

@@ -1,9 +1,8 @@
--- Each of 40, 41 and 42 is given exactly by its own test, and the check's own refusals have numbers below 40. Assumes nothing.
+-- The check's own refusals have numbers below 40. Assumes nothing.
 use Prim.Native.Nat.{ℕ, zero, suc, _+_, _*_, _<_}
-use mathlib.Core.Path.{_≡_, ap, subst}
+use mathlib.Core.Path.{_≡_, subst}
 use mathlib.Core.List.{List, [], _∷_}
 use mathlib.Core.Bool.{Bool, true, false}
-use mathlib.Core.Logic.{_↔_, _⊎_, inl, inr}
 use native.Mathlib.Omega.{arith}
 use Rattle.words.specs.Word.{wordAt}
 use Rattle.answers.specs.Tests.{pick, must}
@@ -20,17 +19,6 @@ use Rattle.program.specs.declared.reader.Next.the-variants.{On, Bad}
 use Rattle.program.specs.Header.{totalOf, headFault, judge, heads}
 use Rattle.program.specs.Reader.{bodyOf, turn, stepOf}
 use Rattle.program.specs.Check.{endedOf, next, walk, and, checkOf}
-use Rattle.loader.specs.Memory.{loadedOf, targetsOf}
-use Rattle.loader.specs.Bases.{basesFault}
-use Rattle.loader.specs.Near.{clashOf}
-use Rattle.loader.specs.Calls.{roomFault, loadAnswer, moveAnswer}
-use Rattle.loader.specs.Verdicts.{Accepts, Gives, LoadWhy, MoveWhy, BasesWhy}
-use Rattle.loader.proofs.Refusing.{load-why, move-why}
-use Rattle.loader.proofs.Rooms.{room-why}
-use Rattle.loader.proofs.BadBases.{bases-why}
-use Rattle.loader.proofs.NearTargets.{clash-why}
-
--- ---- the check's own refusals have numbers below 40
 
 abbrev Low : Next → Type 0
 Low (On d) = Unit
@@ -135,82 +123,3 @@ check-low file =
 
 pub check-number : (file : List ℕ) (f : Refusal) → checkOf file ≡ Refused f → f .number < 40
 check-number file f e = subst LowAnswer e (check-low file)
-
--- ---- each number is given by its own test
-
-bases-number : (file bases : List ℕ) (from : ℕ) (f : Refusal) → BasesWhy file bases from f → f .number ≡ 40
-bases-number file bases from f (inl x) = ap (λ (g : Refusal). g .number) (x .0)
-bases-number file bases from f (inr x) = ap (λ (g : Refusal). g .number) (x .1 .2)
-
-module _ (file : List ℕ) (f : Refusal) where
-  of-bases : (bases : List ℕ) (from : ℕ) → basesFault file bases from ≡ Failed f → f .number ≡ 40
-  of-bases bases from h = bases-number file bases from f (bases-why file bases from f .0 h)
-
-  of-room : (t n m r w : ℕ) → roomFault t n m r w ≡ Failed f → f .number ≡ 41
-  of-room t n m r w h = ap (λ (g : Refusal). g .number) (room-why t n m r w f .0 h .0)
-
-  of-clash : clashOf file ≡ Failed f → f .number ≡ 42
-  of-clash h = ap (λ (g : Refusal). g .number) (clash-why (targetsOf file) f .0 h .said)
-
-module _ (file bases : List ℕ) (m r w : ℕ) (f : Refusal) where
-  pub load-40 : Gives (loadAnswer file bases m r w) f 40 ↔ (Accepts (checkOf file) × (basesFault file bases 0 ≡ Failed f))
-  load-40 = (λ h. go (h .1) (load-why file m r w f bases .0 (h .0)), λ h. (load-why file m r w f bases .1 (inr (inl h)), of-bases file f bases 0 (h .1)))
-    where
-      go : f .number ≡ 40 → LoadWhy file bases m r w f → Accepts (checkOf file) × (basesFault file bases 0 ≡ Failed f)
-      go e (inl x) = absurd (omega (arith, check-number file f x))
-      go e (inr (inl x)) = x
-      go e (inr (inr (inl x))) = absurd (omega (arith, of-room file f _ _ m r w (x .2)))
-      go e (inr (inr (inr x))) = absurd (omega (arith, of-clash file f (x .3)))
-
-  pub load-41 : Gives (loadAnswer file bases m r w) f 41 ↔ (Accepts (checkOf file) × (basesFault file bases 0 ≡ Passed) × (roomFault (totalOf file) (loadedOf file) m r w ≡ Failed f))
-  load-41 = (λ h. go (h .1) (load-why file m r w f bases .0 (h .0)), λ h. (load-why file m r w f bases .1 (inr (inr (inl h))), of-room file f _ _ m r w (h .2)))
-    where
-      go : f .number ≡ 41 → LoadWhy file bases m r w f → Accepts (checkOf file) × (basesFault file bases 0 ≡ Passed) × (roomFault (totalOf file) (loadedOf file) m r w ≡ Failed f)
-      go e (inl x) = absurd (omega (arith, check-number file f x))
-      go e (inr (inl x)) = absurd (omega (arith, of-bases file f bases 0 (x .1)))
-      go e (inr (inr (inl x))) = x
-      go e (inr (inr (inr x))) = absurd (omega (arith, of-clash file f (x .3)))
-
-  pub load-42 : Gives (loadAnswer file bases m r w) f 42 ↔ (Accepts (checkOf file) × (basesFault file bases 0 ≡ Passed) × (roomFault (totalOf file) (loadedOf file) m r w ≡ Passed) × (clashOf file ≡ Failed f))
-  load-42 = (λ h. go (h .1) (load-why file m r w f bases .0 (h .0)), λ h. (load-why file m r w f bases .1 (inr (inr (inr h))), of-clash file f (h .3)))
-    where
-      go : f .number ≡ 42 → LoadWhy file bases m r w f → Accepts (checkOf file) × (basesFault file bases 0 ≡ Passed) × (roomFault (totalOf file) (loadedOf file) m r w ≡ Passed) × (clashOf file ≡ Failed f)
-      go e (inl x) = absurd (omega (arith, check-number file f x))
-      go e (inr (inl x)) = absurd (omega (arith, of-bases file f bases 0 (x .1)))
-      go e (inr (inr (inl x))) = absurd (omega (arith, of-room file f _ _ m r w (x .2)))
-      go e (inr (inr (inr x))) = x
-
-module _ (file old new : List ℕ) (m r w : ℕ) (f : Refusal) where
-  pub move-40 : Gives (moveAnswer file old new m r w) f 40 ↔ ((Accepts (checkOf file) × (basesFault file old 0 ≡ Failed f)) ⊎ (Accepts (checkOf file) × (basesFault file old 0 ≡ Passed) × (basesFault file new (totalOf file) ≡ Failed f)))
-  move-40 = (λ h. go (h .1) (move-why file m r w f old new .0 (h .0)), back)
-    where
-      go : f .number ≡ 40 → MoveWhy file old new m r w f → (Accepts (checkOf file) × (basesFault file old 0 ≡ Failed f)) ⊎ (Accepts (checkOf file) × (basesFault file old 0 ≡ Passed) × (basesFault file new (totalOf file) ≡ Failed f))
-      go e (inl x) = absurd (omega (arith, check-number file f x))
-      go e (inr (inl x)) = inl x
-      go e (inr (inr (inl x))) = inr x
-      go e (inr (inr (inr (inl x)))) = absurd (omega (arith, of-room file f _ _ m r w (x .3)))
-      go e (inr (inr (inr (inr x)))) = absurd (omega (arith, of-clash file f (x .4)))
-
-      back : (Accepts (checkOf file) × (basesFault file old 0 ≡ Failed f)) ⊎ (Accepts (checkOf file) × (basesFault file old 0 ≡ Passed) × (basesFault file new (totalOf file) ≡ Failed f)) → Gives (moveAnswer file old new m r w) f 40
-      back (inl x) = (move-why file m r w f old new .1 (inr (inl x)), of-bases file f old 0 (x .1))
-      back (inr x) = (move-why file m r w f old new .1 (inr (inr (inl x))), of-bases file f new (totalOf file) (x .2))
-
-  pub move-41 : Gives (moveAnswer file old new m r w) f 41 ↔ (Accepts (checkOf file) × (basesFault file old 0 ≡ Passed) × (basesFault file new (totalOf file) ≡ Passed) × (roomFault (totalOf file) (loadedOf file) m r w ≡ Failed f))
-  move-41 = (λ h. go (h .1) (move-why file m r w f old new .0 (h .0)), λ h. (move-why file m r w f old new .1 (inr (inr (inr (inl h)))), of-room file f _ _ m r w (h .3)))
-    where
-      go : f .number ≡ 41 → MoveWhy file old new m r w f → Accepts (checkOf file) × (basesFault file old 0 ≡ Passed) × (basesFault file new (totalOf file) ≡ Passed) × (roomFault (totalOf file) (loadedOf file) m r w ≡ Failed f)
-      go e (inl x) = absurd (omega (arith, check-number file f x))
-      go e (inr (inl x)) = absurd (omega (arith, of-bases file f old 0 (x .1)))
-      go e (inr (inr (inl x))) = absurd (omega (arith, of-bases file f new (totalOf file) (x .2)))
-      go e (inr (inr (inr (inl x)))) = x
-      go e (inr (inr (inr (inr x)))) = absurd (omega (arith, of-clash file f (x .4)))
-
-  pub move-42 : Gives (moveAnswer file old new m r w) f 42 ↔ (Accepts (checkOf file) × (basesFault file old 0 ≡ Passed) × (basesFault file new (totalOf file) ≡ Passed) × (roomFault (totalOf file) (loadedOf file) m r w ≡ Passed) × (clashOf file ≡ Failed f))
-  move-42 = (λ h. go (h .1) (move-why file m r w f old new .0 (h .0)), λ h. (move-why file m r w f old new .1 (inr (inr (inr (inr h)))), of-clash file f (h .4)))
-    where
-      go : f .number ≡ 42 → MoveWhy file old new m r w f → Accepts (checkOf file) × (basesFault file old 0 ≡ Passed) × (basesFault file new (totalOf file) ≡ Passed) × (roomFault (totalOf file) (loadedOf file) m r w ≡ Passed) × (clashOf file ≡ Failed f)
-      go e (inl x) = absurd (omega (arith, check-number file f x))
-      go e (inr (inl x)) = absurd (omega (arith, of-bases file f old 0 (x .1)))
-      go e (inr (inr (inl x))) = absurd (omega (arith, of-bases file f new (totalOf file) (x .2)))
-      go e (inr (inr (inr (inl x)))) = absurd (omega (arith, of-room file f _ _ m r w (x .3)))
-      go e (inr (inr (inr (inr x)))) = x

@@ -19,10 +19,10 @@ use Rattle.loader.specs.Memory.{loadedOf}
 use Rattle.loader.specs.Near.{clashOf}
 use Rattle.loader.specs.Bases.{basesFault}
 use Rattle.loader.specs.Calls.{roomFault, loadAnswer, moveAnswer}
-use Rattle.loader.specs.Verdicts.{Accepts, BasesWhy, GoodBases, FirstBad, Room, Short, FirstNear, Takes, Refuses40, Refuses41, Refuses42, CallWhy}
+use Rattle.loader.specs.Verdicts.{Accepts, GoodBases, FirstBad, Room, Short, FirstNear, Takes, Refuses40, Refuses41, Refuses42, CallWhy}
 use Rattle.loader.proofs.Answering.{room-passed}
 use Rattle.loader.proofs.Deciding.{room-good}
-use Rattle.loader.proofs.BadBases.{bases-why}
+use Rattle.loader.proofs.BadBases.{BasesWhy, bases-why}
 use Rattle.loader.proofs.Rooms.{room-why}
 use Rattle.loader.proofs.Numbers.{check-number}
 use Rattle.loader.proofs.PageLoads.{page-loaded}

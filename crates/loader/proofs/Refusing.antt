@@ -1,21 +1,19 @@
--- Which test refuses a load or a move: they come one after the other. Assumes nothing.
+-- Tests that come one after the other: which of them refuses. Assumes nothing.
 use Prim.Native.Nat.{ℕ}
 use mathlib.Core.Path.{_≡_, refl, ap}
 use mathlib.Core.List.{List}
-use mathlib.Core.Logic.{_↔_, _⊎_, inl, inr}
+use mathlib.Core.Logic.{_⊎_, inl, inr}
 use Rattle.answers.specs.declared.Refusal.{Refusal}
 use Rattle.answers.specs.declared.Tested.{Tested}
 use Rattle.answers.specs.declared.Tested.the-variants.{Passed, Failed}
 use Rattle.program.specs.declared.check.Answer.{Answer}
 use Rattle.program.specs.declared.check.Answer.the-variants.{Accepted, Refused}
 use Rattle.program.specs.Header.{totalOf}
-use Rattle.program.specs.Check.{checkOf}
 use Rattle.program.proofs.Answers.{not-refused}
 use Rattle.loader.specs.Memory.{loadedOf}
-use Rattle.loader.specs.Bases.{basesFault}
 use Rattle.loader.specs.Near.{clashOf}
-use Rattle.loader.specs.Calls.{roomFault, also, lastTests, loadAnswer, moveAnswer}
-use Rattle.loader.specs.Verdicts.{Accepts, LoadWhy, MoveWhy}
+use Rattle.loader.specs.Calls.{roomFault, also, lastTests}
+use Rattle.loader.specs.Verdicts.{Accepts}
 use Rattle.loader.proofs.Answering.{also-so, also-both}
 
 pub also-refused : (a : Answer) (h : Tested) (f : Refusal) → also a h ≡ Refused f → (a ≡ Refused f) ⊎ (((t : ℕ) × (n : ℕ) × (a ≡ Accepted t n)) × (h ≡ Failed f))
@@ -63,53 +61,3 @@ module _ (file : List ℕ) (m r w : ℕ) (f : Refusal) where
 -- what accepts so far, with one more list of bases
 pub accepts-so : (a : Answer) (h : Tested) → Accepts (also a h) → Accepts a × (h ≡ Passed)
 accepts-so a h x = let s = also-so a h (x .0) (x .1) (x .2) in ((x .0, x .1, s .0), s .1)
-
-module _ (file : List ℕ) (m r w : ℕ) (f : Refusal) where
-  load-there : (bases : List ℕ) → LastWhy file (also (checkOf file) (basesFault file bases 0)) m r w f → LoadWhy file bases m r w f
-  load-there bases (inl x) = go (also-refused (checkOf file) (basesFault file bases 0) f x)
-    where
-      go : (checkOf file ≡ Refused f) ⊎ (Accepts (checkOf file) × (basesFault file bases 0 ≡ Failed f)) → LoadWhy file bases m r w f
-      go (inl y) = inl y
-      go (inr y) = inr (inl y)
-  load-there bases (inr (inl y)) = let s = accepts-so (checkOf file) (basesFault file bases 0) (y .0) in inr (inr (inl (s .0, s .1, y .1)))
-  load-there bases (inr (inr y)) = let s = accepts-so (checkOf file) (basesFault file bases 0) (y .0) in inr (inr (inr (s .0, s .1, y .1, y .2)))
-
-  load-back : (bases : List ℕ) → LoadWhy file bases m r w f → LastWhy file (also (checkOf file) (basesFault file bases 0)) m r w f
-  load-back bases (inl x) = inl (also-stays _ _ f x)
-  load-back bases (inr (inl y)) = inl (also-fails _ _ (y .0 .0) (y .0 .1) f (y .0 .2) (y .1))
-  load-back bases (inr (inr (inl y))) = inr (inl (accepts-both _ _ (y .0) (y .1), y .2))
-  load-back bases (inr (inr (inr y))) = inr (inr (accepts-both _ _ (y .0) (y .1), y .2, y .3))
-
-  pub load-why : (bases : List ℕ) → (loadAnswer file bases m r w ≡ Refused f) ↔ LoadWhy file bases m r w f
-  unfolding loadAnswer
-  load-why bases = (λ h. load-there bases (last-why file m r w f _ h), λ h. last-then file m r w f _ (load-back bases h))
-
-  move-there : (old new : List ℕ) → LastWhy file (also (also (checkOf file) (basesFault file old 0)) (basesFault file new (totalOf file))) m r w f → MoveWhy file old new m r w f
-  move-there old new (inl x) = go (also-refused (also (checkOf file) (basesFault file old 0)) (basesFault file new (totalOf file)) f x)
-    where
-      one : (checkOf file ≡ Refused f) ⊎ (Accepts (checkOf file) × (basesFault file old 0 ≡ Failed f)) → MoveWhy file old new m r w f
-      one (inl y) = inl y
-      one (inr y) = inr (inl y)
-
-      go : (also (checkOf file) (basesFault file old 0) ≡ Refused f) ⊎ (Accepts (also (checkOf file) (basesFault file old 0)) × (basesFault file new (totalOf file) ≡ Failed f)) → MoveWhy file old new m r w f
-      go (inl y) = one (also-refused (checkOf file) (basesFault file old 0) f y)
-      go (inr y) = let s = accepts-so (checkOf file) (basesFault file old 0) (y .0) in inr (inr (inl (s .0, s .1, y .1)))
-  move-there old new (inr (inl y)) =
-      let s = accepts-so (also (checkOf file) (basesFault file old 0)) (basesFault file new (totalOf file)) (y .0) in
-      let v = accepts-so (checkOf file) (basesFault file old 0) (s .0) in
-      inr (inr (inr (inl (v .0, v .1, s .1, y .1))))
-  move-there old new (inr (inr y)) =
-      let s = accepts-so (also (checkOf file) (basesFault file old 0)) (basesFault file new (totalOf file)) (y .0) in
-      let v = accepts-so (checkOf file) (basesFault file old 0) (s .0) in
-      inr (inr (inr (inr (v .0, v .1, s .1, y .1, y .2))))
-
-  move-back : (old new : List ℕ) → MoveWhy file old new m r w f → LastWhy file (also (also (checkOf file) (basesFault file old 0)) (basesFault file new (totalOf file))) m r w f
-  move-back old new (inl x) = inl (also-stays _ _ f (also-stays _ _ f x))
-  move-back old new (inr (inl y)) = inl (also-stays _ _ f (also-fails _ _ (y .0 .0) (y .0 .1) f (y .0 .2) (y .1)))
-  move-back old new (inr (inr (inl y))) = let s = accepts-both (checkOf file) (basesFault file old 0) (y .0) (y .1) in inl (also-fails _ _ (s .0) (s .1) f (s .2) (y .2))
-  move-back old new (inr (inr (inr (inl y)))) = inr (inl (accepts-both _ _ (accepts-both _ _ (y .0) (y .1)) (y .2), y .3))
-  move-back old new (inr (inr (inr (inr y)))) = inr (inr (accepts-both _ _ (accepts-both _ _ (y .0) (y .1)) (y .2), y .3, y .4))
-
-  pub move-why : (old new : List ℕ) → (moveAnswer file old new m r w ≡ Refused f) ↔ MoveWhy file old new m r w f
-  unfolding moveAnswer
-  move-why old new = (λ h. move-there old new (last-why file m r w f _ h), λ h. last-then file m r w f _ (move-back old new h))
