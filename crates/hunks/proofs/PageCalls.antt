@@ -41,7 +41,7 @@ module _ (file m : List ℕ) (t : List Hunk) (w : List ℕ) (x n : ℕ) (m′ : 
     pub load-words : (hs : List page.Hunk) → Holds file hs → Adds (imageOf hs) m′ (fileTargets hs) (amountOf bases)
     load-words hs h = targets.load-words file hs h m (numbersIn t) w x n m′ (numbersIn t′) w′ bases (load-numbers file bases m t w _ m′ t′ w′ l)
 
-    -- every other byte: the hunks', and behind them what stood there
+    -- every other byte: the hunks', and after them what stood there
     pub load-others : (hs : List page.Hunk) → Holds file hs → (k : ℕ) → Outside k (fileTargets hs) → getD m′ k 0 ≡ getD (placedHunks hs m) k 0
     load-others hs h = targets.load-others file hs h m (numbersIn t) w x n m′ (numbersIn t′) w′ bases (load-numbers file bases m t w _ m′ t′ w′ l)
 

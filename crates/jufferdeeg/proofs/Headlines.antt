@@ -4,9 +4,8 @@ use Prim.Native.Nat.{ℕ, _+_, _*_, _≤_, _<_}
 use mathlib.Core.Path.{_≡_}
 use mathlib.Core.Logic.{_⊎_, _↔_}
 use mathlib.Core.Bool.{false}
-use mathlib.Core.List.{List, _++_}
+use mathlib.Core.List.{List, [], _∷_, _++_}
 use lib.ListN.{length, getD, drop, replicate}
-use Rattle.answers.specs.Refusals.{refusal}
 use Rattle.answers.specs.declared.Refusal.{Refusal}
 use Rattle.answers.specs.declared.Tested.the-variants.{Passed, Failed}
 use Rattle.answers.specs.Tests.{pick}
@@ -57,11 +56,9 @@ use Rattle.program.proofs.Pages as pages
 use Rattle.program.proofs.Refusing as faults
 use Rattle.loader.specs.Calls.{loadAnswer, moveAnswer}
 use Rattle.loader.specs.Memory.{amountOf, moved}
-use Rattle.loader.specs.Near.{clashOf}
 use Rattle.loader.specs.Pages.{imageOf, fileTargets, Adds, Outside, placedHunks}
-use Rattle.loader.specs.Verdicts.{LoadWhy, MoveWhy, FirstNear}
-use Rattle.loader.proofs.Refusing as unloaded
-use Rattle.loader.proofs.PageNear as nearness
+use Rattle.loader.specs.Verdicts.{Takes, CallWhy}
+use Rattle.loader.proofs.PageVerdicts as verdicts
 use Rattle.hunks.specs.declared.Hunk.{Hunk}
 use Rattle.hunks.specs.Calls.{Loads, Moves}
 use Rattle.hunks.specs.Moving.{SameRoom, LoadsAt}
@@ -169,19 +166,23 @@ module _ (file : List ℕ) where
   pub page : ((t : ℕ) × (n : ℕ) × (checkOf file ≡ Accepted t n)) ↔ ((hs : List paper.Hunk) × paper.Holds file hs)
   page = pages.page file
 
-  -- each refusal exactly then: of the file, of a load, of a move
+  -- each refusal exactly then
   pub check-refused-exactly : (f : Refusal) → (checkOf file ≡ Refused f) ↔ Because file f
   check-refused-exactly f = (faults.check-why file f, faults.why-check file f)
 
-  pub load-refused-exactly : (bases : List ℕ) (m r w : ℕ) (f : Refusal) → (loadAnswer file bases m r w ≡ Refused f) ↔ LoadWhy file bases m r w f
-  load-refused-exactly bases m r w f = unloaded.load-why file m r w f bases
+  -- a load, which is lent one list of bases: accepted exactly then, and each refusal exactly then
+  pub load-accepted-exactly : (bases : List ℕ) (m r w t n : ℕ) → (loadAnswer file bases m r w ≡ Accepted t n) ↔ ((hs : List paper.Hunk) × paper.Holds file hs × Takes hs (bases ∷ []) m r w t n)
+  load-accepted-exactly bases m r w t n = verdicts.load-accepted file bases m r w t n
 
-  pub move-refused-exactly : (old new : List ℕ) (m r w : ℕ) (f : Refusal) → (moveAnswer file old new m r w ≡ Refused f) ↔ MoveWhy file old new m r w f
-  move-refused-exactly old new m r w f = unloaded.move-why file m r w f old new
+  pub load-refused-exactly : (bases : List ℕ) (m r w : ℕ) (f : Refusal) → (loadAnswer file bases m r w ≡ Refused f) ↔ CallWhy file (bases ∷ []) m r w f
+  load-refused-exactly bases m r w f = verdicts.load-refused file bases m r w f
 
-  -- 42 exactly at the first target that is near an earlier one of its hunk, at its byte in the file
-  pub near-exactly : (hs : List paper.Hunk) → paper.Holds file hs → (f : Refusal) → (clashOf file ≡ Failed f) ↔ ((p : ℕ) × (f ≡ refusal 42 p) × FirstNear hs p)
-  near-exactly hs h = nearness.near-exactly file hs h
+  -- a move, which is lent the old list and the new
+  pub move-accepted-exactly : (old new : List ℕ) (m r w t n : ℕ) → (moveAnswer file old new m r w ≡ Accepted t n) ↔ ((hs : List paper.Hunk) × paper.Holds file hs × Takes hs (old ∷ new ∷ []) m r w t n)
+  move-accepted-exactly old new m r w t n = verdicts.move-accepted file old new m r w t n
+
+  pub move-refused-exactly : (old new : List ℕ) (m r w : ℕ) (f : Refusal) → (moveAnswer file old new m r w ≡ Refused f) ↔ CallWhy file (old ∷ new ∷ []) m r w f
+  move-refused-exactly old new m r w f = verdicts.move-refused file old new m r w f
 
 -- ---- loading and moving
 

@@ -37,7 +37,7 @@ use Rattle.loader.specs.Calls.{roomFault, also, lastTests, loadAnswer, m
 same-numbers : (a b t n : ℕ) → Accepted a b ≡ Accepted t n → (a ≡ t) × (b ≡ n)
 same-numbers a b t n h = ((cc), (cc))
 
--- ---- an accepted walk ends behind the last hunk
+-- ---- an accepted walk ends after the last hunk
 
 record Whole (file : List ℕ) (t n : ℕ) : Type 0 where
   hunks : t ≡ totalOf file

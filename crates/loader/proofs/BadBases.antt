@@ -3,7 +3,7 @@ use Prim.Native.Nat.{ℕ, zero, suc, _+_, _*_, _%_, _^_, _<_, _≤_}
 use mathlib.Core.Path.{_≡_, refl, sym, ap, subst, _∙_}
 use mathlib.Core.List.{List}
 use mathlib.Core.Bool.{Bool, true, false}
-use mathlib.Core.Logic.{_↔_, _⊎_, inl, inr}
+use mathlib.Core.Logic.{_↔_, _≢_, _⊎_, inl, inr}
 use native.Mathlib.Omega.{arith}
 use native.Mathlib.Decide.{decLt}
 use lib.Dec.{ltb, eqb}
@@ -19,11 +19,17 @@ use Rattle.program.specs.Header.{totalOf, sizeOf}
 use Rattle.program.proofs.Answers.{not-failed}
 use Rattle.loader.specs.Memory.{amountOf}
 use Rattle.loader.specs.Bases.{larger, smaller, topOf, overlap, shares, entryBad, basesFrom, basesFault}
-use Rattle.loader.specs.Verdicts.{Shared, GoodEntry, BadEntry, BasesWhy}
+use Rattle.loader.specs.Verdicts.{Shared, GoodEntry, BadEntry}
 use Rattle.loader.proofs.Marking.{no-bool}
 use Rattle.loader.proofs.Picks.{or-left, or-right, pick-else, pick-failed, pick-fails, pick-goes, pick-or}
 
 -- ---- which entry
+
+-- as it is tested: the list has another length; else entry i is bad, and none before it
+abbrev pub BasesWhy : List ℕ → List ℕ → ℕ → Refusal → Type 0
+BasesWhy file bases from f =
+    ((f ≡ refusal 40 from) × (length bases ≢ totalOf file))
+    ⊎ ((length bases ≡ totalOf file) × ((i : ℕ) × (i < totalOf file) × (f ≡ refusal 40 (from + i)) × (entryBad file bases i ≡ true) × ((j : ℕ) → j < i → entryBad file bases j ≡ false)))
 
 module _ (file bases : List ℕ) (from : ℕ) where
   -- the first bad one of n entries from i on is k

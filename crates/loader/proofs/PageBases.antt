@@ -14,8 +14,8 @@ use Rattle.program.proofs.Taken.{Sized}
 use Rattle.program.proofs.Pages.{is-total, all-sized}
 use Rattle.loader.specs.Bases.{basesFault}
 use Rattle.loader.specs.Pages.{sizeAt}
-use Rattle.loader.specs.Verdicts.{Shared, GoodEntry, BadEntry, GoodBases, BadBases, BasesWhy}
-use Rattle.loader.proofs.BadBases.{bases-why, bases-exactly, entry-why, entry-good}
+use Rattle.loader.specs.Verdicts.{Shared, GoodEntry, BadEntry, GoodBases, BadBases}
+use Rattle.loader.proofs.BadBases.{BasesWhy, bases-why, bases-exactly, entry-why, entry-good}
 
 -- ---- sizes that agree
 

@@ -16,8 +16,8 @@ use Rattle.program.specs.Page.{Hunk, Each, Holds}
 use Rattle.loader.specs.Memory.{targetsOf}
 use Rattle.loader.specs.Near.{clashOf}
 use Rattle.loader.specs.Pages.{PageTarget, Named, fileTargets, bare}
-use Rattle.loader.specs.Verdicts.{Near, Spaced, Member, FirstNear, ClashWhy}
-use Rattle.loader.proofs.NearTargets.{clash-why, apart-exactly}
+use Rattle.loader.specs.Verdicts.{Near, Spaced, Member, FirstNear}
+use Rattle.loader.proofs.NearTargets.{ClashWhy, clash-why, apart-exactly}
 use Rattle.loader.proofs.PageLoads.{page-targets}
 use Rattle.loader.proofs.OneHunk.{each-member, member-left, targets-named, near-one-hunk}
 
@@ -118,7 +118,7 @@ module _ (file : List ℕ) (hs : List Hunk) (held : Holds file hs) where
 
   near-there : (f : Refusal) → ClashWhy (targetsOf file) f → (p : ℕ) × (f ≡ refusal 42 p) × FirstNear hs p
   near-there f r =
-      let c = cut-at (fileTargets hs) (r .before) (r .target) (r .behind) (sym triples ∙ r .split) in
+      let c = cut-at (fileTargets hs) (r .before) (r .target) (r .after) (sym triples ∙ r .split) in
       let o = bare-member (r .other) (c .before) (subst (Member (r .other)) (sym (c .firsts)) (r .among)) in
       let all = subst (Each (Named file hs)) (c .split) named in
       let a = each-right (Named file hs) (c .before) (c .target ∷ c .after) all .0 in
@@ -149,7 +149,7 @@ module _ (file : List ℕ) (hs : List Hunk) (held : Holds file hs) where
       record {
         before = map bare (r .before);
         target = bare (r .target);
-        behind = map bare (r .after);
+        after = map bare (r .after);
         split = triples ∙ ap (map bare) (r .split) ∙ map-append bare (r .before) (r .target ∷ r .after);
         said = e ∙ ap (refusal 42) (r .place);
         first = apart-exactly (map bare (r .before)) .1 (spaced-apart (r .before) b (r .spaced));

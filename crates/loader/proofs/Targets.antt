@@ -62,7 +62,7 @@ module _ (file : List ℕ) (hs : List Hunk) (held : Holds file hs) where
           adds-bare _ m′ (fileTargets hs) (amountOf bases) (rw (l .loaded, ← page-bodies file hs (held .fits) (held .even) (held .words) m, ← theirs) a) in
           adds-first (imageOf hs) _ m′ (fileTargets hs) (amountOf bases) (4 * total hs) (omega (arith, length-image (length hs) hs (held .fits .hunks))) (page-within file hs held) b
 
-      -- every other byte: the hunks', and behind them what stood there
+      -- every other byte: the hunks', and after them what stood there
       pub load-others : (k : ℕ) → Outside k (fileTargets hs) → getD m′ k 0 ≡ getD (placedHunks hs m) k 0
       load-others k o =
           ap (λ (u : List ℕ). getD u k 0) (l .loaded)

@@ -1,60 +1,24 @@
--- What the answers of a load and a move say: when a call is accepted, which test refuses it, and what 40, 41 and 42 say of bases, room and
--- targets (the build paper, "The program file" and "Numbers").
+-- What the answers of a load and a move say, in the terms of the page: when a call is accepted, and when 40, 41 and 42 are given (the build
+-- paper, "The program file" and "Numbers").
 use Prim.Native.Nat.{ℕ, _+_, _*_, _%_, _^_, _<_, _≤_}
 use mathlib.Core.Path.{_≡_}
 use mathlib.Core.Logic.{_≢_, _⊎_}
 use mathlib.Core.List.{List, [], _∷_, _++_}
-use mathlib.Core.Bool.{true, false}
 use lib.ListN.{length}
-use Rattle.words.specs.Shift.{Target}
 use Rattle.answers.specs.Refusals.{refusal}
 use Rattle.answers.specs.declared.Refusal.{Refusal}
-use Rattle.answers.specs.declared.Tested.the-variants.{Passed, Failed}
 use Rattle.program.specs.declared.check.Answer.{Answer}
 use Rattle.program.specs.declared.check.Answer.the-variants.{Accepted, Refused}
-use Rattle.program.specs.Page.{Hunk, Each, total}
-use Rattle.program.specs.Header.{totalOf}
+use Rattle.program.specs.Page.{Hunk, Each, Holds, total}
 use Rattle.program.specs.Check.{checkOf}
-use Rattle.loader.specs.Memory.{loadedOf, amountOf}
-use Rattle.loader.specs.Bases.{entryBad, basesFault}
-use Rattle.loader.specs.Near.{clash, clashOf}
-use Rattle.loader.specs.Calls.{roomFault}
+use Rattle.loader.specs.Memory.{amountOf}
 use Rattle.loader.specs.Pages.{PageTarget, fileTargets, sizeAt}
 
 -- an answer that accepts
 abbrev pub Accepts : Answer → Type 0
 Accepts a = (t : ℕ) × (n : ℕ) × (a ≡ Accepted t n)
 
--- a refusal with number v
-abbrev pub Gives : Answer → Refusal → ℕ → Type 0
-Gives a f v = (a ≡ Refused f) × (f .number ≡ v)
-
--- ---- the tests in their order
-
--- a load's refusal: of the file, else of the bases, else of the room, else of near targets
-abbrev pub LoadWhy : List ℕ → List ℕ → ℕ → ℕ → ℕ → Refusal → Type 0
-LoadWhy file bases m r w f =
-    (checkOf file ≡ Refused f)
-    ⊎ (Accepts (checkOf file) × (basesFault file bases 0 ≡ Failed f))
-    ⊎ (Accepts (checkOf file) × (basesFault file bases 0 ≡ Passed) × (roomFault (totalOf file) (loadedOf file) m r w ≡ Failed f))
-    ⊎ (Accepts (checkOf file) × (basesFault file bases 0 ≡ Passed) × (roomFault (totalOf file) (loadedOf file) m r w ≡ Passed) × (clashOf file ≡ Failed f))
-
--- a move's: the old list, then the new one, which counts on from T
-abbrev pub MoveWhy : List ℕ → List ℕ → List ℕ → ℕ → ℕ → ℕ → Refusal → Type 0
-MoveWhy file old new m r w f =
-    (checkOf file ≡ Refused f)
-    ⊎ (Accepts (checkOf file) × (basesFault file old 0 ≡ Failed f))
-    ⊎ (Accepts (checkOf file) × (basesFault file old 0 ≡ Passed) × (basesFault file new (totalOf file) ≡ Failed f))
-    ⊎ (Accepts (checkOf file) × (basesFault file old 0 ≡ Passed) × (basesFault file new (totalOf file) ≡ Passed) × (roomFault (totalOf file) (loadedOf file) m r w ≡ Failed f))
-    ⊎ (Accepts (checkOf file) × (basesFault file old 0 ≡ Passed) × (basesFault file new (totalOf file) ≡ Passed) × (roomFault (totalOf file) (loadedOf file) m r w ≡ Passed) × (clashOf file ≡ Failed f))
-
--- a list of bases: it has another length; else entry i is bad, and none before it
-abbrev pub BasesWhy : List ℕ → List ℕ → ℕ → Refusal → Type 0
-BasesWhy file bases from f =
-    ((f ≡ refusal 40 from) × (length bases ≢ totalOf file))
-    ⊎ ((length bases ≡ totalOf file) × ((i : ℕ) × (i < totalOf file) × (f ≡ refusal 40 (from + i)) × (entryBad file bases i ≡ true) × ((j : ℕ) → j < i → entryBad file bases j ≡ false)))
-
--- ---- bases, where hunk k takes `size k` words
+-- ---- 40: bases, where hunk k takes `size k` words
 
 -- address a is one of hunk i's
 abbrev pub Owns : (ℕ → ℕ) → List ℕ → ℕ → ℕ → Type 0
@@ -91,7 +55,7 @@ abbrev pub FirstBad : List Hunk → ℕ → List (List ℕ) → ℕ → Type 0
 FirstBad hs from [] p = ⊥
 FirstBad hs from (l ∷ ls) p = BadBases hs l from p ⊎ (GoodBases hs l × FirstBad hs (from + length hs) ls p)
 
--- ---- room, where t hunks take n bytes
+-- ---- 41: room, where t hunks take n bytes
 
 -- memory and work area for every byte, and a record for each hunk
 pub record Room (t n memory records work : ℕ) : Type 0 where
@@ -103,7 +67,7 @@ pub record Room (t n memory records work : ℕ) : Type 0 where
 abbrev pub Short : ℕ → ℕ → ℕ → ℕ → ℕ → Type 0
 Short t n memory records work = (memory < n) ⊎ (records < t) ⊎ (work < n)
 
--- ---- 42, in the terms of the page
+-- ---- 42: near targets
 
 -- two targets of one hunk, less than 4 bytes apart
 abbrev pub Near : PageTarget → PageTarget → Type 0
@@ -114,6 +78,7 @@ abbrev pub Spaced : List PageTarget → Type 0
 Spaced [] = Unit {0}
 Spaced (x ∷ xs) = Each (λ y. Near x y → ⊥) xs × Spaced xs
 
+-- u is one of the list
 abbrev pub Member : {A : Type 0} → A → List A → Type 0
 Member u [] = ⊥
 Member u (x ∷ xs) = (u ≡ x) ⊎ Member u xs
@@ -130,22 +95,7 @@ pub record FirstNear (hs : List Hunk) (p : ℕ) : Type 0 where
   pub near : Near target other
   pub place : p ≡ target .byte
 
--- ---- 42, as it is tested: over all of memory
-
--- a target is the first that has less than 4 bytes to one before it, the other
-pub record ClashWhy (ts : List Target) (f : Refusal) : Type 0 where
-  pub before : List Target
-  pub target : Target
-  pub behind : List Target
-  pub split : ts ≡ before ++ (target ∷ behind)
-  pub said : f ≡ refusal 42 (target .byte)
-  pub first : clash [] before ≡ Passed
-  pub other : Target
-  pub among : Member other before
-  pub below : target .place < other .place + 4
-  pub above : other .place < target .place + 4
-
--- ---- a call in the terms of the page
+-- ---- a call
 
 -- a call that is lent these lists of bases (a load one, a move the old and the new) is accepted, with t hunks and n bytes
 pub record Takes (hs : List Hunk) (lists : List (List ℕ)) (memory records work t n : ℕ) : Type 0 where
@@ -166,3 +116,9 @@ Refuses41 hs lists memory records work p =
 abbrev pub Refuses42 : List Hunk → List (List ℕ) → ℕ → ℕ → ℕ → ℕ → Type 0
 Refuses42 hs lists memory records work p =
     Each (GoodBases hs) lists × Room (length hs) (4 * total hs) memory records work × FirstNear hs p
+
+-- any refusal: of the file; else, of the hunks that it holds, 40, 41 or 42 at a place
+abbrev pub CallWhy : List ℕ → List (List ℕ) → ℕ → ℕ → ℕ → Refusal → Type 0
+CallWhy file lists memory records work f =
+    (checkOf file ≡ Refused f)
+    ⊎ ((hs : List Hunk) × Holds file hs × (p : ℕ) × (((f ≡ refusal 40 p) × Refuses40 hs lists p) ⊎ ((f ≡ refusal 41 p) × Refuses41 hs lists memory records work p) ⊎ ((f ≡ refusal 42 p) × Refuses42 hs lists memory records work p)))
