@@ -2,4 +2,5 @@
 pub mod Crossing
 pub mod Deciding
 pub mod Headlines
+pub mod Seen
 pub mod Walking
