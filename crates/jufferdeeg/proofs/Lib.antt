@@ -3,4 +3,5 @@ pub mod Crossing
 pub mod Deciding
 pub mod Headlines
 pub mod Seen
+pub mod SeenMoving
 pub mod Walking
