@@ -2,4 +2,6 @@
 pub mod Crossing
 pub mod Deciding
 pub mod Headlines
+pub mod Seen
+pub mod SeenMoving
 pub mod Walking
