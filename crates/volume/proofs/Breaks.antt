@@ -1,102 +1,27 @@
 -- The tests of a block give a number exactly if the block breaks the law as `specs/Breaks.antt` says, and pass exactly if it does not. Assumes nothing.
-use Prim.Native.Nat.{ℕ, zero, suc, _+_}
+use Prim.Native.Nat.{ℕ, _+_, _≤_}
 use mathlib.Core.Path.{_≡_, refl, sym, ap, _∙_}
 use mathlib.Core.Logic.{_≢_, _⊎_, inl, inr, _↔_}
 use mathlib.Core.Bool.{Bool, true, false}
 use mathlib.Core.List.{List, [], _∷_, _++_}
 use native.Mathlib.Omega.{arith}
-use lib.Dec.{eqb}
-use borrow.Author.Tests.{eq-eqb, ne-eqb, eqb-true, eqb-false, lt-ltb, le-ltb}
+use lib.Dec.{leb, eqb}
+use borrow.Author.Tests.{eq-eqb, ne-eqb, eqb-true, eqb-false, le-leb, leb-true, leb-false, lt-ltb, le-ltb}
 use Rattle.answers.specs.Tests.{pick, must, never, first, tests}
 use Rattle.answers.proofs.Tests.{first-zero, tests-append, must-passed, must-passes, pick-true, pick-false}
-use Rattle.answers.proofs.Given.{Given, given}
+use Rattle.answers.proofs.Given.{given}
 use Rattle.answers.proofs.Clashes.{impossible}
 use Rattle.reach.specs.References.{_∈_}
 use Rattle.volume.specs.declared.disk.Disk.{Disk}
-use Rattle.volume.specs.Disks.{rootOf, inRange, firstKey}
-use Rattle.volume.specs.Blocks.{wordOf, sumOf, directory}
+use Rattle.volume.specs.Disks.{rootOf, fileLimit, inRange, firstKey}
+use Rattle.volume.specs.Blocks.{slots, wordOf, sumOf, directory}
 use Rattle.volume.specs.Names.{nameOf, nameGood, slotOf}
-use Rattle.volume.specs.Files.{heldOf, sizeOf}
+use Rattle.volume.specs.Files.{heldOf, sizeOf, blocksOf}
 use Rattle.volume.specs.Law.{OneBitmap, Valid, Lists}
-use Rattle.volume.specs.Rules.{rootWords, rootFault, allZero, mapFault, bitmapFault, entryWords, entryName, entryFault, countRules, fileFault, listFault, dataLinks, dataFault}
+use Rattle.volume.specs.Rules.{rootWords, rootFault, allZero, mapFault, bitmapFault, entryWords, entryName, entryFault, countRules, emptyRules, fileFault, listFault, dataLinks, dataFault}
 use Rattle.volume.specs.Breaks.{Inside, RootKind, RootFixed, RootSound, RootBreaks, root-7, root-8, root-4, root-11, MapBreaks, map-16, BitmapBreaks, bitmap-7, EntryKind, EntryTies, Placed, EntryBreaks, entry-7, entry-8, entry-9, entry-10, entry-11, entry-12, HeaderSound, HeaderBreaks, header-14, ListKind, ListSound, ListBreaks, list-7, list-8, list-10, list-14, DataTies, DataBreaks, data-7, data-8, data-15}
 use Rattle.volume.proofs.Sizes.{range-is}
-use Rattle.volume.proofs.Passes.{is, be, is-not, be-not, test-at, _&_, zeros-there, zeros-found, entry-passed, entry-passes, count-passed, count-passes, list-passed, list-passes, file-passed, file-passes, data-passed, data-passes}
-
--- ---- tests in order: x is 0 exactly if P holds, else its number n
-
-record Test (n x : ℕ) (P : Type 0) : Type 0 where
-  gives : Given (n ∷ []) x
-  passed : x ≡ 0 → P
-  passes : P → x ≡ 0
-
-module _ {n x : ℕ} {P : Type 0} (r : Test n x P) where
-  one : x ≢ 0 → x ≡ n
-  one z = go (r .gives .member z)
-    where
-      go : x ∈ (n ∷ []) → x ≡ n
-      go (inl e) = e
-      go (inr e) = absurd e
-
-  broken : {v : ℕ} → v ≢ 0 → x ≡ v → (P → ⊥) × (v ≡ n)
-  broken {v} z e = ((λ p. z (sym e ∙ r .passes p)), sym e ∙ one (λ q. z (sym e ∙ q)))
-
-  breaks : {v : ℕ} → (P → ⊥) → v ≡ n → x ≡ v
-  breaks {v} q e = one (λ z. q (r .passed z)) ∙ sym e
-
-  module _ {v : ℕ} (y : ℕ) where
-    -- v is its number, or it passes and v is the number of what follows
-    down : {C : Type 0} → v ≢ 0 → ((P → ⊥) → v ≡ n → C) → (P → y ≡ v → C) → first x y ≡ v → C
-    unfolding first
-    down {C} z f g e = go x refl e
-      where
-        go : (w : ℕ) → x ≡ w → first w y ≡ v → C
-        go zero q e = g (r .passed q) e
-        go (suc w) q e = f (broken z (q ∙ e) .0) (broken z (q ∙ e) .1)
-
-    fall : v ≢ 0 → (P → ⊥) → v ≡ n → first x y ≡ v
-    unfolding first
-    fall z q e = go x (breaks q e)
-      where
-        go : (w : ℕ) → w ≡ v → first w y ≡ v
-        go zero h = absurd (z (sym h))
-        go (suc w) h = h
-
-    on : P → y ≡ v → first x y ≡ v
-    unfolding first
-    on p e = rw (r .passes p) e
-
--- the last
-last : (x : ℕ) → first x 0 ≡ x
-unfolding first
-last zero = refl
-last (suc x) = refl
-
--- ---- tests of one word, or of a Bool
-
-word-test : (a b v : ℕ) → Given (suc v ∷ []) (must (eqb a b) (suc v)) → Test (suc v) (must (eqb a b) (suc v)) (a ≡ b)
-word-test a b v g = record { gives = g; passed = is a b v; passes = be a b (suc v) }
-
-sum-test : (s : List ℕ) (k : ℕ) → Test 7 (must (eqb (sumOf s k) 0) 7) (sumOf s k ≡ 0)
-sum-test s k = word-test (sumOf s k) 0 6 (search given depth 8)
-
-name-test : (s : List ℕ) (k : ℕ) → Test 11 (must (nameGood s k) 11) (nameGood s k ≡ true)
-name-test s k = record { gives = search given depth 8; passed = must-passed (nameGood s k) 10; passes = must-passes (nameGood s k) 11 }
-
--- a name that is not good
-bad-name : (s : List ℕ) (k : ℕ) → (nameGood s k ≡ true → ⊥) → nameGood s k ≡ false
-bad-name s k h = go (nameGood s k) refl
-  where
-    go : (b : Bool) → nameGood s k ≡ b → nameGood s k ≡ false
-    go true e = absurd (h e)
-    go false e = e
-
-not-good : (s : List ℕ) (k : ℕ) → nameGood s k ≡ false → nameGood s k ≡ true → ⊥
-not-good s k p q = impossible cc
-
--- no number is 0
-some : {v : ℕ} (n : ℕ) → v ≡ suc n → v ≢ 0
-some n p q = omega arith
+use Rattle.volume.proofs.Checks.{is, be, is-not, be-not, test-at, _&_, zeros-there, zeros-found, Test, broken, breaks, down, fall, on, last, word-test, sum-test, name-test, bad-name, not-good, some, among}
 
 -- ---- the root
 
@@ -221,20 +146,6 @@ module _ (s : List ℕ) (k : ℕ) where
 
 -- ---- an entry
 
--- a number is one of some numbers, or not
-among : (x : ℕ) (l : List ℕ) → Dec (x ∈ l)
-among x [] = no (λ h. h)
-among x (y ∷ l) = go (eqb x y) refl (among x l)
-  where
-    go : (b : Bool) → eqb x y ≡ b → Dec (x ∈ l) → Dec (x ∈ (y ∷ l))
-    go true q ih = yes (inl (eqb-true _ _ q))
-    go false q (yes h) = yes (inr h)
-    go false q (no h) = no (neither (eqb-false _ _ q) h)
-      where
-        neither : x ≢ y → (x ∈ l → ⊥) → x ∈ (y ∷ l) → ⊥
-        neither a b (inl e) = a e
-        neither a b (inr e) = b e
-
 module _ (d : Disk) (s : List ℕ) (k t i : ℕ) where
   abbrev w127 : ℕ
   w127 = wordOf s k 127
@@ -344,14 +255,88 @@ module _ (d : Disk) (s : List ℕ) (k t i : ℕ) where
   pub entry-breaks : (v : ℕ) → ((entryFault d s k t i ≡ v) × (v ≢ 0)) ↔ EntryBreaks d s k t i v
   entry-breaks v = ((λ h. entry-broken v (h .1) (h .0)), entry-fault v)
 
+  -- and it passes exactly if it is as the law says
   pub entry-sound : (entryFault d s k t i ≡ 0) ↔ Placed d s k t i
-  entry-sound = (entry-passed d s k t i, entry-passes d s k t i)
+  entry-sound = (passed′, λ h. past (h .sum) (record { type = h .entry .type; kind = h .entry .kind }) (on ties-test _ (record { own = h .entry .own; parent = h .parent; link = h .link }) (on (name-test s k) _ (h .entry .name) (slot-test .passes (h .slot)))))
+    where
+      passed′ : entryFault d s k t i ≡ 0 → Placed d s k t i
+      passed′ e =
+          let a = first-zero _ _ (sym entry-order ∙ e) in
+          let b = first-zero _ _ (a .1) in
+          let c = first-zero _ _ (first-zero _ _ (b .1) .1) in
+          let f = first-zero _ _ (c .1) in
+          let g = first-zero _ _ (f .1) in
+          let o = ties-test .passed (f .0) in
+          record {
+            sum = sum-test s k .passed (a .0);
+            entry = record { type = type-test .passed (b .0); kind = known-test .passed (c .0); own = o .own; name = name-test s k .passed (g .0) };
+            parent = o .parent;
+            link = o .link;
+            slot = slot-test .passed (g .1);
+          }
+
+-- ---- a block that lists keys, n of them still to come
+
+module _ (s : List ℕ) (k n : ℕ) where
+  abbrev more : ℕ
+  more = pick (leb n slots) (must (eqb (wordOf s k 126) 0) 14) (never (eqb (wordOf s k 126) 0) 14)
+
+  more-passed : more ≡ 0 → (wordOf s k 126 ≡ 0) ↔ (n ≤ slots)
+  more-passed e = go (leb n slots) refl
+    where
+      go : (b : Bool) → leb n slots ≡ b → (wordOf s k 126 ≡ 0) ↔ (n ≤ slots)
+      go true h = ((λ _. leb-true n slots h), (λ _. is _ _ 13 (sym (pick-true (leb n slots) _ _ _ h refl) ∙ e)))
+      go false h = ((λ z. absurd (is-not _ _ 13 (sym (pick-false (leb n slots) _ _ _ h refl) ∙ e) z)), (λ l. absurd (omega (arith, leb-false n slots h))))
+
+  more-passes : (wordOf s k 126 ≡ 0) ↔ (n ≤ slots) → more ≡ 0
+  more-passes f = go (leb n slots) refl
+    where
+      go : (b : Bool) → leb n slots ≡ b → more ≡ 0
+      go true h = pick-true (leb n slots) _ _ _ h refl ∙ be _ _ 14 (f .1 (leb-true n slots h))
+      go false h = pick-false (leb n slots) _ _ _ h refl ∙ be-not _ _ 14 (λ z. omega (arith, leb-false n slots h, f .0 z))
+
+  lists-test : Test 14 (tests (countRules s k n)) (Lists s k n)
+  lists-test =
+      record {
+        gives = search given depth 8;
+        passed = λ e. record { count = is _ _ 13 (test-at 0 (countRules s k n) e refl); more = more-passed (test-at 1 (countRules s k n) e refl) };
+        passes = λ p. be _ _ 14 (p .count) & more-passes (p .more) & refl;
+      }
 
 -- ---- a file's header
 
 module _ (d : Disk) (s : List ℕ) (h : ℕ) where
+  abbrev n : ℕ
+  n = blocksOf d s h
+
+  header-order : fileFault d s h ≡ first (must (leb (sizeOf s h) (fileLimit d)) 14) (first (tests (countRules s h n)) (tests (emptyRules d s h n)))
+  unfolding fileFault
+  header-order = ap (first (must (leb (sizeOf s h) (fileLimit d)) 14)) (tests-append (countRules s h n) (emptyRules d s h n))
+
+  size-test : Test 14 (must (leb (sizeOf s h) (fileLimit d)) 14) (sizeOf s h ≤ fileLimit d)
+  size-test = record { gives = search given depth 8; passed = λ e. leb-true _ _ (must-passed _ 13 e); passes = λ p. must-passes _ 14 (le-leb _ _ p) }
+
+  empty-test : Test 14 (tests (emptyRules d s h n)) (n ≡ 0 → wordOf s h 4 ≡ 0)
+  empty-test =
+      record {
+        gives = search given depth 8;
+        passed = λ e z. is _ _ 13 (sym (pick-true (eqb n 0) _ _ _ (eq-eqb n 0 z) refl) ∙ test-at 0 (emptyRules d s h n) e refl);
+        passes = λ p. empty p (eqb n 0) refl & refl;
+      }
+    where
+      empty : (n ≡ 0 → wordOf s h 4 ≡ 0) → (b : Bool) → eqb n 0 ≡ b → pick (eqb n 0) (must (eqb (wordOf s h 4) 0) 14) 0 ≡ 0
+      empty p true e = pick-true (eqb n 0) _ _ _ e refl ∙ be _ _ 14 (p (eqb-true n 0 e))
+      empty p false e = pick-false (eqb n 0) _ _ _ e refl
+
+  -- it passes exactly if it is as the law says
   pub header-sound : (fileFault d s h ≡ 0) ↔ HeaderSound d s h
-  header-sound = ((λ e. let p = file-passed d s h e in record { size = p .0; lists = p .1; empty = p .2 }), (λ p. file-passes d s h (p .size, p .lists, p .empty)))
+  header-sound = (passed′, λ p. header-order ∙ on size-test _ (p .size) (on (lists-test s h n) _ (p .lists) (empty-test .passes (p .empty))))
+    where
+      passed′ : fileFault d s h ≡ 0 → HeaderSound d s h
+      passed′ e =
+          let a = first-zero _ _ (sym header-order ∙ e) in
+          let b = first-zero _ _ (a .1) in
+          record { size = size-test .passed (a .0); lists = lists-test s h n .passed (b .0); empty = empty-test .passed (b .1) }
 
   header-test : Test 14 (fileFault d s h) (HeaderSound d s h)
   unfolding fileFault
@@ -384,9 +369,6 @@ module _ (s : List ℕ) (k h n : ℕ) where
   owns-test : Test 10 (tests owns) ((wordOf s k 1 ≡ k) × (wordOf s k 125 ≡ h))
   owns-test = record { gives = search given depth 8; passed = λ e. (is _ _ 9 (test-at 0 owns e refl), is _ _ 9 (test-at 1 owns e refl)); passes = λ p. be _ _ 10 (p .0) & be _ _ 10 (p .1) & refl }
 
-  lists-test : Test 14 (tests (countRules s k n)) (Lists s k n)
-  lists-test = record { gives = search given depth 8; passed = count-passed s k n; passes = count-passes s k n }
-
   list-order : listFault s k h n ≡ first (must (eqb (sumOf s k) 0) 7) (first (tests types) (first (tests owns) (tests (countRules s k n))))
   unfolding listFault
   list-order = ap (first (must (eqb (sumOf s k) 0) 7)) (tests-append types (owns ++ countRules s k n) ∙ ap (first (tests types)) (tests-append owns (countRules s k n)))
@@ -396,21 +378,31 @@ module _ (s : List ℕ) (k h n : ℕ) where
       down (sum-test s k) _ z list-7
       (λ a. down types-test _ z (list-8 a)
       (λ b. down owns-test _ z (λ c. list-10 a b (λ x. c (x .own, x .parent)))
-      (λ c q. let w = broken lists-test z q in list-14 a (record { type = b .type; kind = b .kind; own = c .0; parent = c .1 }) (w .0) (w .1))))
+      (λ c q. let w = broken (lists-test s k n) z q in list-14 a (record { type = b .type; kind = b .kind; own = c .0; parent = c .1 }) (w .0) (w .1))))
       (sym list-order ∙ e)
 
   list-fault : (v : ℕ) → ListBreaks s k h n v → (listFault s k h n ≡ v) × (v ≢ 0)
   list-fault v (list-7 a e) = (list-order ∙ fall (sum-test s k) _ (some 6 e) a e, some 6 e)
   list-fault v (list-8 a b e) = (list-order ∙ on (sum-test s k) _ a (fall types-test _ (some 7 e) b e), some 7 e)
   list-fault v (list-10 a b c e) = (list-order ∙ on (sum-test s k) _ a (on types-test _ b (fall owns-test _ (some 9 e) (λ x. c (record { type = b .type; kind = b .kind; own = x .0; parent = x .1 })) e)), some 9 e)
-  list-fault v (list-14 a b c e) = (list-order ∙ on (sum-test s k) _ a (on types-test _ (record { type = b .type; kind = b .kind }) (on owns-test _ (b .own, b .parent) (breaks lists-test c e))), some 13 e)
+  list-fault v (list-14 a b c e) = (list-order ∙ on (sum-test s k) _ a (on types-test _ (record { type = b .type; kind = b .kind }) (on owns-test _ (b .own, b .parent) (breaks (lists-test s k n) c e))), some 13 e)
 
   -- 7, 8, 10 and 14
   pub list-breaks : (v : ℕ) → ((listFault s k h n ≡ v) × (v ≢ 0)) ↔ ListBreaks s k h n v
   list-breaks v = ((λ e. list-broken v (e .1) (e .0)), list-fault v)
 
+  -- and it passes exactly if it is as the law says
   pub list-sound : (listFault s k h n ≡ 0) ↔ ListSound s k h n
-  list-sound = ((λ e. let p = list-passed s k h n e in record { sum = p .0; block = p .1; lists = p .2 }), (λ p. list-passes s k h n (p .sum, p .block, p .lists)))
+  list-sound = (passed′, λ p. list-order ∙ on (sum-test s k) _ (p .sum) (on types-test _ (record { type = p .block .type; kind = p .block .kind }) (on owns-test _ (p .block .own, p .block .parent) (lists-test s k n .passes (p .lists)))))
+    where
+      passed′ : listFault s k h n ≡ 0 → ListSound s k h n
+      passed′ e =
+          let a = first-zero _ _ (sym list-order ∙ e) in
+          let b = first-zero _ _ (a .1) in
+          let c = first-zero _ _ (b .1) in
+          let y = types-test .passed (b .0) in
+          let o = owns-test .passed (c .0) in
+          record { sum = sum-test s k .passed (a .0); block = record { type = y .type; kind = y .kind; own = o .0; parent = o .1 }; lists = lists-test s k n .passed (c .1) }
 
 -- ---- a data block
 
@@ -428,34 +420,47 @@ module _ (d : Disk) (s : List ℕ) (k h n named : ℕ) where
   unfolding dataFault
   data-order = refl
 
-  -- past the sum and the type
-  datum-test : sumOf s k ≡ 0 → wordOf s k 0 ≡ 8 → Test 15 (tests rest) (DataTies d s k h n named)
-  datum-test a b = record { gives = search given depth 12; passed = passed′; passes = passes′ }
+  -- past the type
+  datum-test : wordOf s k 0 ≡ 8 → Test 15 (tests rest) (DataTies d s k h n named)
+  datum-test b = record { gives = search given depth 12; passed = passed′; passes = λ p. be _ _ 15 (p .block .parent) & be _ _ 15 (p .block .number) & be _ _ 15 (p .block .held) & be _ _ 15 (p .here) & end p (eqb n (blocksOf d s h)) refl & refl }
     where
       passed′ : tests rest ≡ 0 → DataTies d s k h n named
-      passed′ e = let p = data-passed d s k h n named (data-order ∙ on (sum-test s k) _ a (on data-type-test _ b e)) in record { block = p .1; here = p .2 .0; last = p .2 .1 }
+      passed′ e =
+          record {
+            block = record { type = b; parent = is _ _ 14 (test-at 0 rest e refl); number = is _ _ 14 (test-at 1 rest e refl); held = is _ _ 14 (test-at 2 rest e refl) };
+            here = is _ _ 14 (test-at 3 rest e refl);
+            last = λ y. is _ _ 14 (sym (pick-true (eqb n (blocksOf d s h)) _ _ _ (eq-eqb _ _ y) refl) ∙ test-at 4 rest e refl);
+          }
 
-      passes′ : DataTies d s k h n named → tests rest ≡ 0
-      passes′ p = first-zero _ _ (first-zero _ _ (sym data-order ∙ data-passes d s k h n named (a, p .block, (p .here, p .last))) .1) .1
+      end : DataTies d s k h n named → (t : Bool) → eqb n (blocksOf d s h) ≡ t → pick (eqb n (blocksOf d s h)) (must (eqb (wordOf s k 4) 0) 15) 0 ≡ 0
+      end p true e = pick-true (eqb n (blocksOf d s h)) _ _ _ e refl ∙ be _ _ 15 (p .last (eqb-true _ _ e))
+      end p false e = pick-false (eqb n (blocksOf d s h)) _ _ _ e refl
 
   data-broken : (v : ℕ) → v ≢ 0 → dataFault d s k h z n named ≡ v → DataBreaks d s k h n named v
   data-broken v y e =
       down (sum-test s k) _ y data-7
       (λ a. down data-type-test _ y (data-8 a)
-      (λ b q. let w = broken (datum-test a b) y q in data-15 a b (w .0) (w .1)))
+      (λ b q. let w = broken (datum-test b) y q in data-15 a b (w .0) (w .1)))
       (sym data-order ∙ e)
 
   data-fault : (v : ℕ) → DataBreaks d s k h n named v → (dataFault d s k h z n named ≡ v) × (v ≢ 0)
   data-fault v (data-7 a e) = (data-order ∙ fall (sum-test s k) _ (some 6 e) a e, some 6 e)
   data-fault v (data-8 a b e) = (data-order ∙ on (sum-test s k) _ a (fall data-type-test _ (some 7 e) b e), some 7 e)
-  data-fault v (data-15 a b c e) = (data-order ∙ on (sum-test s k) _ a (on data-type-test _ b (breaks (datum-test a b) c e)), some 14 e)
+  data-fault v (data-15 a b c e) = (data-order ∙ on (sum-test s k) _ a (on data-type-test _ b (breaks (datum-test b) c e)), some 14 e)
 
   -- 7, 8 and 15
   pub data-breaks : (v : ℕ) → ((dataFault d s k h (sizeOf s h) n named ≡ v) × (v ≢ 0)) ↔ DataBreaks d s k h n named v
   data-breaks v = ((λ e. data-broken v (e .1) (e .0)), data-fault v)
 
+  -- and it passes exactly if it is as the law says
   pub data-sound : (dataFault d s k h (sizeOf s h) n named ≡ 0) ↔ ((sumOf s k ≡ 0) × DataTies d s k h n named)
-  data-sound = ((λ e. let p = data-passed d s k h n named e in (p .0, record { block = p .1; here = p .2 .0; last = p .2 .1 })), (λ p. data-passes d s k h n named (p .0, p .1 .block, (p .1 .here, p .1 .last))))
+  data-sound = (passed′, λ p. data-order ∙ on (sum-test s k) _ (p .0) (on data-type-test _ (p .1 .block .type) (datum-test (p .1 .block .type) .passes (p .1))))
+    where
+      passed′ : dataFault d s k h (sizeOf s h) n named ≡ 0 → (sumOf s k ≡ 0) × DataTies d s k h n named
+      passed′ e =
+          let a = first-zero _ _ (sym data-order ∙ e) in
+          let b = first-zero _ _ (a .1) in
+          (sum-test s k .passed (a .0), datum-test (data-type-test .passed (b .0)) .passed (b .1))
 
 -- ---- a key
 

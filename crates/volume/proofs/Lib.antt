@@ -7,10 +7,12 @@ pub mod Keys
 pub mod Names
 -- the tests of a block, part by part
 pub mod Faults
--- a block passes its tests exactly if it is as the law says
-pub mod Passes
--- and gives a number exactly if it breaks the law as that number says
+-- tests that pass, and tests in order
+pub mod Checks
+-- a block passes its tests exactly if it is as the law says, and gives a number exactly if it breaks the law as that number says
 pub mod Breaks
+-- what a block that passes is, part by part
+pub mod Passes
 -- the starred cases hold
 pub mod Stars
 -- the floppy's numbers
