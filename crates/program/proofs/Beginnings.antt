@@ -86,7 +86,8 @@ unended (afterBody x b ps q) e = go q e
 -- ---- a begun hunk's words are taken
 
 module _ (t : ℕ) (size : ℕ → ℕ) (Taken : Cursor → List ℕ → Type 0) (step : (c : Cursor) (w : ℕ) (ws : List ℕ) → Goes Taken (turn t size c w (c .mode)) ws → Taken c (w ∷ ws)) (h p : ℕ) where
-  part-begun : (s : ℕ) (q : PartBegun) (rest : List ℕ) → PartBegunFits t s q → Taken (cursor (partMode q) h p s) rest → Taken (cursor mode.Part h p s) (partSoFar q ++ rest)
+  part-begun : (s : ℕ) (q : PartBegun) (rest : List ℕ) → PartBegunFits t s q → Taken (cursor (partMode q) h p s) rest
+      → Taken (cursor mode.Part h p s) (partSoFar q ++ rest)
   unfolding pick
   part-begun s aPart rest f g = g
   part-begun s (aCount gs) rest f g = step _ _ _ (groups-on t size Taken step h p s gs rest f g)
@@ -132,7 +133,8 @@ abbrev Leads : List ℕ → ℕ → Type 0 → Cursor → List ℕ → Type 0
 Leads file end G c ws = (at : ℕ) → Comes file c at → at + 4 * length ws ≡ end → wordsAt file at (length ws) ≡ ws → G
 
 module _ (file : List ℕ) (end : ℕ) (within : end ≤ length file) (G : Type 0) where
-  lead : (r : Next) (c : Cursor) (w : ℕ) (ws : List ℕ) → stepOf (totalOf file) (sizeOf file) c w ≡ r → Goes (Leads file end G) r ws → Leads file end G c (w ∷ ws)
+  lead : (r : Next) (c : Cursor) (w : ℕ) (ws : List ℕ) → stepOf (totalOf file) (sizeOf file) c w ≡ r → Goes (Leads file end G) r ws
+      → Leads file end G c (w ∷ ws)
   unfolding wordsAt
   lead (On d) c w ws e g at r l x =
       let v : wordAt file at ≡ w = cc in
@@ -144,7 +146,8 @@ module _ (file : List ℕ) (end : ℕ) (within : end ≤ length file) (G : Type 
   along c w ws g = lead (turn (totalOf file) (sizeOf file) c w (c .mode)) c w ws refl g
 
   -- after whole hunks
-  hunks-lead : 1 ≤ totalOf file → (hs : List Hunk) (rest : List ℕ) → length hs ≤ totalOf file → OfSizes (totalOf file) (sizeOf file) 0 hs → Stand file (joined hunkWords hs ++ rest) end → Front (Leads file end G) (totalOf file) (length hs) (4 * total hs) rest → G
+  hunks-lead : 1 ≤ totalOf file → (hs : List Hunk) (rest : List ℕ) → length hs ≤ totalOf file → OfSizes (totalOf file) (sizeOf file) 0 hs
+      → Stand file (joined hunkWords hs ++ rest) end → Front (Leads file end G) (totalOf file) (length hs) (4 * total hs) rest → G
   unfolding pick
   hunks-lead some hs rest l z s g =
       let y = fronts-on (totalOf file) (sizeOf file) (Leads file end G) along hs 0 0 (length hs) (4 * total hs) rest z (omega arith) l (omega arith) g in

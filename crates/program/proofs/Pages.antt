@@ -34,7 +34,8 @@ use Rattle.program.proofs.Heading.{words-add, Split, split, heads-pass,
 abbrev sizes : List Hunk → List ℕ
 sizes hs = map (λ h. h .size) hs
 
-sized-of : (t : ℕ) (size : ℕ → ℕ) (hs : List Hunk) (h : ℕ) → Each (HunkFits t) hs → h + length hs ≡ t → ((i : ℕ) → i < length hs → size (h + i) ≡ getD (sizes hs) i 0) → Sized t size h hs
+sized-of : (t : ℕ) (size : ℕ → ℕ) (hs : List Hunk) (h : ℕ) → Each (HunkFits t) hs → h + length hs ≡ t
+    → ((i : ℕ) → i < length hs → size (h + i) ≡ getD (sizes hs) i 0) → Sized t size h hs
 sized-of t size [] h f e g = omega arith
 sized-of t size (x ∷ xs) h f e g =
     let a : h + 0 ≡ h = omega arith in
@@ -185,7 +186,8 @@ module _ (file : List ℕ) (t n : ℕ) (r : Read file t n) where
       stop (inr k) = not-accepted (sym (k .2) ∙ r .hunks)
       stop (inl k) = over (ended (length file) (k .0) (k .0 .mode)) (comes-stands file (r .even) sound (k .0) (length file) (k .1))
         where
-          over : Ends (length file) (k .0) (k .0 .mode) → Within file (k .0) (length file) ⊎ Past file (k .0) (length file) → (hs : List Hunk) × AllHunks file hs (length file)
+          over : Ends (length file) (k .0) (k .0 .mode) → Within file (k .0) (length file) ⊎ Past file (k .0) (length file)
+              → (hs : List Hunk) × AllHunks file hs (length file)
           over (inr x) y = not-accepted (sym (x .1) ∙ sym (k .2) ∙ r .hunks)
           over (inl x) (inl y) = absurd (unended (y .begun) (ap (λ (c : Cursor). c .mode) (y .is) ∙ x .0))
           over (inl x) (inr y) = (y .hunks, y .whole)

@@ -53,17 +53,21 @@ fine-more file i b x j h = go (decLt j i)
     go (yes q) = b j q
     go (no q) = let e : i ≡ j = omega arith in subst (Fine file) e x
 
-heads-why : (file : List ℕ) (f : Refusal) (n i : ℕ) → ((j : ℕ) → i ≤ j → j < i + n → OfHeader file j) → ((j : ℕ) → j < i → Fine file j) → heads file i n ≡ Failed f → HeadWord file f
+heads-why : (file : List ℕ) (f : Refusal) (n i : ℕ) → ((j : ℕ) → i ≤ j → j < i + n → OfHeader file j) → ((j : ℕ) → j < i → Fine file j)
+    → heads file i n ≡ Failed f → HeadWord file f
 unfolding heads pick
 heads-why file f zero i w b e = not-failed e
 heads-why file f (suc n) i w b e = long (ltb (length file) (4 * i + 4)) refl e (heads-why file f n (i + 1) (λ j l h. w j (omega arith) (omega arith)))
   where
-    wrong : (v : ℕ) → faultAt file i ≡ v → 4 * i + 4 ≤ length file → judge v (4 * i) (heads file (i + 1) n) ≡ Failed f → (((j : ℕ) → j < i + 1 → Fine file j) → heads file (i + 1) n ≡ Failed f → HeadWord file f) → HeadWord file f
+    wrong : (v : ℕ) → faultAt file i ≡ v → 4 * i + 4 ≤ length file → judge v (4 * i) (heads file (i + 1) n) ≡ Failed f
+        → (((j : ℕ) → j < i + 1 → Fine file j) → heads file (i + 1) n ≡ Failed f → HeadWord file f) → HeadWord file f
     wrong zero q l x k = k (fine-more file i b (l, q)) x
     wrong (suc v) q l x k =
         record { word = i; within = w i (omega arith) (omega arith); before = b; cause = inr (l, (λ z. omega (arith, q, z)), failed-same _ f x ∙ ap (λ u. refusal u (4 * i)) (sym q)) }
 
-    long : (t : Bool) → ltb (length file) (4 * i + 4) ≡ t → pick t (Failed (refusal 31 (length file))) (judge (faultAt file i) (4 * i) (heads file (i + 1) n)) ≡ Failed f → (((j : ℕ) → j < i + 1 → Fine file j) → heads file (i + 1) n ≡ Failed f → HeadWord file f) → HeadWord file f
+    long : (t : Bool) → ltb (length file) (4 * i + 4) ≡ t
+        → pick t (Failed (refusal 31 (length file))) (judge (faultAt file i) (4 * i) (heads file (i + 1) n)) ≡ Failed f
+        → (((j : ℕ) → j < i + 1 → Fine file j) → heads file (i + 1) n ≡ Failed f → HeadWord file f) → HeadWord file f
     long true q x k = record { word = i; within = w i (omega arith) (omega arith); before = b; cause = inl (ltb-true _ _ q, failed-same _ f x) }
     long false q x k = wrong _ refl (ltb-false _ _ q) x k
 
@@ -104,7 +108,8 @@ module _ (file : List ℕ) (f : Refusal) where
   unfolding checkOf pick
   check-why e = empty (eqb (length file) 0) refl (eqb (length file % 4) 0) refl e
     where
-      empty : (x : Bool) → eqb (length file) 0 ≡ x → (y : Bool) → eqb (length file % 4) 0 ≡ y → pick x (refuse 30 0) (pick y (and (heads file 0 5) (and (heads file 5 (totalOf file)) (walkOf file))) (refuse 30 0)) ≡ Refused f → Because file f
+      empty : (x : Bool) → eqb (length file) 0 ≡ x → (y : Bool) → eqb (length file % 4) 0 ≡ y
+          → pick x (refuse 30 0) (pick y (and (heads file 0 5) (and (heads file 5 (totalOf file)) (walkOf file))) (refuse 30 0)) ≡ Refused f → Because file f
       empty true p y q e = inl (inl (eqb-true _ _ p), refused-same _ f e)
       empty false p false q e = inl (inr (eqb-false _ _ q), refused-same _ f e)
       empty false p true q e = all-why (eqb-false _ _ p, eqb-true _ _ q) (heads file 0 5) (heads file 5 (totalOf file)) refl refl e
@@ -174,7 +179,8 @@ module _ (file : List ℕ) (f : Refusal) where
       short (inl h) = rw (eq-eqb _ _ h)
       short (inr h) = go (eqb (length file) 0)
         where
-          go : (b : Bool) → pick b (refuse 30 0) (pick (eqb (length file % 4) 0) (and (heads file 0 5) (and (heads file 5 (totalOf file)) (walkOf file))) (refuse 30 0)) ≡ refuse 30 0
+          go : (b : Bool)
+              → pick b (refuse 30 0) (pick (eqb (length file % 4) 0) (and (heads file 0 5) (and (heads file 5 (totalOf file)) (walkOf file))) (refuse 30 0)) ≡ refuse 30 0
           go true = refl
           go false = rw (ne-eqb _ _ h)
   why-check (inr (inl c)) = whole-check (c .0) ∙ head-refuses (c .1)
@@ -242,7 +248,8 @@ module _ (t : ℕ) (size : ℕ → ℕ) (c : Cursor) (w v : ℕ) where
   why-turn (Number n) h = rw (le-ltb _ _ (h .1), h .0)
   why-turn (Offset n k) h = go (eqb (w % 2) 0) refl (h .1)
     where
-      go : (b : Bool) → eqb (w % 2) 0 ≡ b → (w % 2 ≢ 0) ⊎ (4 * c .stored < w + 4) → pick b (pick (ltb (4 * c .stored) (w + 4)) (Bad 38) (pick (eqb n 0) (on c Count) (on c (Offset (n - 1) k)))) (Bad 38) ≡ Bad v
+      go : (b : Bool) → eqb (w % 2) 0 ≡ b → (w % 2 ≢ 0) ⊎ (4 * c .stored < w + 4)
+          → pick b (pick (ltb (4 * c .stored) (w + 4)) (Bad 38) (pick (eqb n 0) (on c Count) (on c (Offset (n - 1) k)))) (Bad 38) ≡ Bad v
       go false q x = ap Bad (sym (h .0))
       go true q (inl x) = absurd (x (eqb-true _ _ q))
       go true q (inr x) = rw (lt-ltb _ _ x, h .0)
@@ -306,7 +313,16 @@ module _ (file : List ℕ) (even : length file % 4 ≡ 0) (s : Sound file) where
         go : Within file (r .cursor) (r .at) ⊎ Past file (r .cursor) (r .at) → WrongWord file f ⊎ MoreWords file f
         go (inl k) =
             let x = subst (λ (c : Cursor). Refuses (totalOf file) (sizeOf file) c (wordAt file (r .at)) (r .number) (c .mode)) (sym (k .is)) why in
-            inl (record { hunks = k .hunks; begun = k .begun; at = r .at; before = k .before; there = r .there; number = r .number; wrong = begun-wrong (totalOf file) (sizeOf file) (length (k .hunks)) (4 * total (k .hunks)) (wordAt file (r .at)) (r .number) (k .begun) .1 x; said = r .said })
+            inl (record {
+              hunks = k .hunks;
+              begun = k .begun;
+              at = r .at;
+              before = k .before;
+              there = r .there;
+              number = r .number;
+              wrong = begun-wrong (totalOf file) (sizeOf file) (length (k .hunks)) (4 * total (k .hunks)) (wordAt file (r .at)) (r .number) (k .begun) .1 x;
+              said = r .said;
+            })
         go (inr k) =
             let x : r .number ≡ 39 = subst (λ (c : Cursor). Refuses (totalOf file) (sizeOf file) c (wordAt file (r .at)) (r .number) (c .mode)) (sym (k .is)) why in
             inr (record { hunks = k .hunks; at = r .at; whole = k .whole; there = r .there; said = r .said ∙ ap (λ (n : ℕ). refusal n (r .at)) x })
@@ -314,10 +330,28 @@ module _ (file : List ℕ) (even : length file % 4 ≡ 0) (s : Sound file) where
     says-word : WrongWord file f ⊎ MoreWords file f → HunkWord file f
     says-word (inl r) =
         let c = cursorOf (r .hunks) (r .begun) in
-        record { cursor = c; at = r .at; comes = before-comes file (s .some) (r .hunks) (r .at) (r .begun) (r .before); there = r .there; number = r .number; refuses = step-why (totalOf file) (sizeOf file) c (wordAt file (r .at)) (r .number) .1 (begun-wrong (totalOf file) (sizeOf file) (length (r .hunks)) (4 * total (r .hunks)) (wordAt file (r .at)) (r .number) (r .begun) .0 (r .wrong)); said = r .said }
+        let w = wordAt file (r .at) in
+        let x = begun-wrong (totalOf file) (sizeOf file) (length (r .hunks)) (4 * total (r .hunks)) w (r .number) (r .begun) .0 (r .wrong) in
+        record {
+          cursor = c;
+          at = r .at;
+          comes = before-comes file (s .some) (r .hunks) (r .at) (r .begun) (r .before);
+          there = r .there;
+          number = r .number;
+          refuses = step-why (totalOf file) (sizeOf file) c w (r .number) .1 x;
+          said = r .said;
+        }
     says-word (inr r) =
         let c = cursorPast (r .hunks) in
-        record { cursor = c; at = r .at; comes = whole-comes file (s .some) (r .hunks) (r .at) (r .whole); there = r .there; number = 39; refuses = step-why (totalOf file) (sizeOf file) c (wordAt file (r .at)) 39 .1 refl; said = r .said }
+        record {
+          cursor = c;
+          at = r .at;
+          comes = whole-comes file (s .some) (r .hunks) (r .at) (r .whole);
+          there = r .there;
+          number = 39;
+          refuses = step-why (totalOf file) (sizeOf file) c (wordAt file (r .at)) 39 .1 refl;
+          said = r .said;
+        }
 
     missing-says : Missing file f → MissingWord file f
     missing-says r = go (comes-stands file even s (r .cursor) (length file) (r .comes))
@@ -328,7 +362,12 @@ module _ (file : List ℕ) (even : length file % 4 ≡ 0) (s : Sound file) where
 
     says-missing : MissingWord file f → Missing file f
     says-missing r =
-        record { cursor = cursorOf (r .hunks) (r .begun); comes = before-comes file (s .some) (r .hunks) (length file) (r .begun) (r .before); unended = unended (r .begun); said = r .said }
+        record {
+          cursor = cursorOf (r .hunks) (r .begun);
+          comes = before-comes file (s .some) (r .hunks) (length file) (r .begun) (r .before);
+          unended = unended (r .begun);
+          said = r .said;
+        }
 
 module _ (file : List ℕ) (f : Refusal) where
   because-says : Because file f → Says file f

@@ -65,7 +65,8 @@ module _ (file : List ℕ) (even : length file % 4 ≡ 0) where
       k : at % 4 ≡ 0
       k = omega arith
 
-      go : (x : Next) → stepOf (totalOf file) (sizeOf file) c (wordAt file at) ≡ x → ((d : Cursor) → length file ≡ at + 4 + 4 * n → Comes file d (at + 4) → Stops file (restOf file (at + 4) d)) → Stops file (restOf file at c)
+      go : (x : Next) → stepOf (totalOf file) (sizeOf file) c (wordAt file at) ≡ x
+          → ((d : Cursor) → length file ≡ at + 4 + 4 * n → Comes file d (at + 4) → Stops file (restOf file (at + 4) d)) → Stops file (restOf file at c)
       go (On d) q more = rw (walk-on file at c (wordAt file at) _ even k h refl refl d q) (more d (omega arith) (takes r h q))
       go (Bad v) q more =
           inr (refusal v at, record { cursor = c; at = at; comes = r; there = h; number = v; refuses = q; said = refl }, walk-bad file at c (wordAt file at) _ even k h refl refl v q)

@@ -68,14 +68,16 @@ module _ (t : ℕ) (size : ℕ → ℕ) (Taken : Cursor → List ℕ → Type 0)
         let z : suc (length us) - 1 ≡ length us = omega arith in
         rw (ne-eqb (suc (length us)) 0 (omega arith), z) (passed a rest us u g)
 
-    pub passing : (a : After) (rest us : List ℕ) (n : ℕ) → length us < n → Here (mode.Skip (n - suc (length us)) a) rest → Here (mode.Skip (n - 1) a) (us ++ rest)
+    pub passing : (a : After) (rest us : List ℕ) (n : ℕ) → length us < n → Here (mode.Skip (n - suc (length us)) a) rest
+        → Here (mode.Skip (n - 1) a) (us ++ rest)
     unfolding pick
     passing a rest [] n l g = g
     passing a rest (u ∷ us) n l g =
         let z : n - suc (suc (length us)) ≡ n - 1 - suc (length us) = omega arith in
         step _ u _ (rw (ne-eqb (n - 1) 0 (omega arith)) (passing a rest us (n - 1) (omega arith) (rw z at g)))
 
-    pub skipping : (m : Mode) (a : After) (rest us : List ℕ) (n : ℕ) → length us < n → Here (mode.Skip (n - suc (length us)) a) rest → Goes Taken (skip (cursor m h p s) n a) (us ++ rest)
+    pub skipping : (m : Mode) (a : After) (rest us : List ℕ) (n : ℕ) → length us < n → Here (mode.Skip (n - suc (length us)) a) rest
+        → Goes Taken (skip (cursor m h p s) n a) (us ++ rest)
     unfolding pick
     skipping m a rest us n l g = rw (ne-eqb n 0 (omega arith)) (passing a rest us n l g)
 
@@ -88,7 +90,8 @@ module _ (t : ℕ) (size : ℕ → ℕ) (Taken : Cursor → List ℕ → Type 0)
         step _ o _ (rw (eq-eqb (o % 2) 0 (f .0 .0), le-ltb (4 * s) (o + 4) (f .0 .1), ne-eqb (suc (length os)) 0 (omega arith), z) (offsets-on k rest os q (f .1) g))
 
     -- the first of n offsets
-    pub offsetting : (k : ℕ) (rest os : List ℕ) (n : ℕ) → length os < n → Each (OffsetFits s) os → Here (mode.Offset (n - suc (length os)) k) rest → Here (mode.Offset (n - 1) k) (os ++ rest)
+    pub offsetting : (k : ℕ) (rest os : List ℕ) (n : ℕ) → length os < n → Each (OffsetFits s) os → Here (mode.Offset (n - suc (length os)) k) rest
+        → Here (mode.Offset (n - 1) k) (os ++ rest)
     unfolding pick
     offsetting k rest [] n l f g = g
     offsetting k rest (o ∷ os) n l f g =
@@ -148,18 +151,21 @@ module _ (t : ℕ) (size : ℕ → ℕ) (Taken : Cursor → List ℕ → Type 0)
 
   module _ (h p : ℕ) where
     -- stored words, from the first
-    all-stored : (m : Mode) (rest us : List ℕ) → Taken (cursor mode.Part h p (length us)) rest → Goes Taken (storedFrom (cursor m h p (length us)) 0) (us ++ rest)
+    all-stored : (m : Mode) (rest us : List ℕ) → Taken (cursor mode.Part h p (length us)) rest
+        → Goes Taken (storedFrom (cursor m h p (length us)) 0) (us ++ rest)
     unfolding pick
     all-stored m rest [] g = g
     all-stored m rest (u ∷ us) g =
         rw (ne-eqb 0 (suc (length us)) (omega arith)) (stored-on h p (suc (length us)) rest us u 0 (omega arith) g)
 
-    full-on : (k : ℕ) (ws : List ℕ) (s : ℕ) (rest : List ℕ) → eqb k 0x3EB ≡ false → length ws ≤ size h → Taken (cursor mode.Part h p (length ws)) rest → Taken (cursor (mode.Length k) h p s) (length ws ∷ ws ++ rest)
+    full-on : (k : ℕ) (ws : List ℕ) (s : ℕ) (rest : List ℕ) → eqb k 0x3EB ≡ false → length ws ≤ size h → Taken (cursor mode.Part h p (length ws)) rest
+        → Taken (cursor (mode.Length k) h p s) (length ws ∷ ws ++ rest)
     unfolding pick
     full-on k ws s rest e l g = step _ _ _ (rw (le-ltb (size h) (length ws) l, e) (all-stored mode.Part rest ws g))
 
     -- a body's type, after a name or none
-    kind-goes : (m : Mode) (k s : ℕ) (rest : List ℕ) → (k ≡ 0x3E9) ⊎ (k ≡ 0x3EA) ⊎ (k ≡ 0x3EB) → Taken (cursor (mode.Length k) h p s) rest → Goes Taken (bodyOf (cursor m h p s) k) rest
+    kind-goes : (m : Mode) (k s : ℕ) (rest : List ℕ) → (k ≡ 0x3E9) ⊎ (k ≡ 0x3EA) ⊎ (k ≡ 0x3EB) → Taken (cursor (mode.Length k) h p s) rest
+        → Goes Taken (bodyOf (cursor m h p s) k) rest
     unfolding pick
     kind-goes m k s rest (inl e) g = rw (eq-eqb k 0x3E9 e) g
     kind-goes m k s rest (inr (inl e)) g = rw (ne-eqb k 0x3E9 (omega arith), eq-eqb k 0x3EA e) g
@@ -170,19 +176,22 @@ module _ (t : ℕ) (size : ℕ → ℕ) (Taken : Cursor → List ℕ → Type 0)
     no-name k (inr (inl e)) = omega arith
     no-name k (inr (inr e)) = omega arith
 
-    pub type-on : (x : Name) (k s : ℕ) (rest : List ℕ) → (k ≡ 0x3E9) ⊎ (k ≡ 0x3EA) ⊎ (k ≡ 0x3EB) → Taken (cursor (mode.Length k) h p s) rest → Taken (cursor mode.Begin h p s) (nameWords x ++ (k ∷ rest))
+    pub type-on : (x : Name) (k s : ℕ) (rest : List ℕ) → (k ≡ 0x3E9) ⊎ (k ≡ 0x3EA) ⊎ (k ≡ 0x3EB) → Taken (cursor (mode.Length k) h p s) rest
+        → Taken (cursor mode.Begin h p s) (nameWords x ++ (k ∷ rest))
     unfolding pick
     type-on none k s rest f g = step _ k _ (rw (ne-eqb k 0x3E8 (no-name k f)) (kind-goes mode.Begin k s rest f g))
     type-on (named us) k s rest f g =
         step _ _ _ (step _ _ _ (skipped h p s mode.NameLength after.Body (k ∷ rest) us (step _ k _ (kind-goes mode.Body k s rest f g))))
 
-    pub begin-on : (x : Name) (b : Body) (s : ℕ) (rest : List ℕ) → bodyCount b ≤ size h → Taken (cursor mode.Part h p (length (storedWords b))) rest → Taken (cursor mode.Begin h p s) (nameWords x ++ (bodyWords b ++ rest))
+    pub begin-on : (x : Name) (b : Body) (s : ℕ) (rest : List ℕ) → bodyCount b ≤ size h → Taken (cursor mode.Part h p (length (storedWords b))) rest
+        → Taken (cursor mode.Begin h p s) (nameWords x ++ (bodyWords b ++ rest))
     unfolding pick
     begin-on x (code ws) s rest l g = type-on x 0x3E9 s _ (inl refl) (full-on 0x3E9 ws s rest refl l g)
     begin-on x (stores ws) s rest l g = type-on x 0x3EA s _ (inr (inl refl)) (full-on 0x3EA ws s rest refl l g)
     begin-on x (bss m) s rest l g = type-on x 0x3EB s _ (inr (inr refl)) (step _ _ _ (rw (le-ltb (size h) m l) g))
 
-  hunk-on : (h p : ℕ) (x : Hunk) (rest : List ℕ) → x .size ≡ size h → HunkFits t x → Front Taken t (h + 1) (p + 4 * size h) rest → Taken (cursor mode.Begin h p 0) (hunkWords x ++ rest)
+  hunk-on : (h p : ℕ) (x : Hunk) (rest : List ℕ) → x .size ≡ size h → HunkFits t x → Front Taken t (h + 1) (p + 4 * size h) rest
+      → Taken (cursor mode.Begin h p 0) (hunkWords x ++ rest)
   unfolding pick
   hunk-on h p x rest e f g =
       let n : ℕ = length (storedWords (x .body)) in
@@ -190,7 +199,8 @@ module _ (t : ℕ) (size : ℕ → ℕ) (Taken : Cursor → List ℕ → Type 0)
       let y = parts-on h p n (x .parts) (0x3F2 ∷ rest) (f .parts) (step _ _ _ g) in
       simp append-assoc (begin-on h p (x .name) (x .body) 0 (joined partWords (x .parts) ++ (0x3F2 ∷ rest)) l y)
 
-  pub fronts-on : (hs : List Hunk) (h p i q : ℕ) (rest : List ℕ) → OfSizes t size h hs → h + length hs ≡ i → i ≤ t → p + 4 * total hs ≡ q → Front Taken t i q rest → Front Taken t h p (joined hunkWords hs ++ rest)
+  pub fronts-on : (hs : List Hunk) (h p i q : ℕ) (rest : List ℕ) → OfSizes t size h hs → h + length hs ≡ i → i ≤ t → p + 4 * total hs ≡ q
+      → Front Taken t i q rest → Front Taken t h p (joined hunkWords hs ++ rest)
   unfolding pick
   fronts-on [] h p i q rest f a l b g =
       let c : h ≡ i = omega arith in

@@ -59,14 +59,16 @@ symbol-same x y r s e =
     let v : x .value ≡ y .value = cc in
     (go (x .value) (y .value) (x .name) (y .name) v (p .0), cc)
   where
-    flat : (a : List ℕ) (v : ℕ) (r b : List ℕ) (w : ℕ) (s : List ℕ) → length a ∷ (a ++ (v ∷ [])) ++ r ≡ length b ∷ (b ++ (w ∷ [])) ++ s → length a ∷ a ++ (v ∷ r) ≡ length b ∷ b ++ (w ∷ s)
+    flat : (a : List ℕ) (v : ℕ) (r b : List ℕ) (w : ℕ) (s : List ℕ) → length a ∷ (a ++ (v ∷ [])) ++ r ≡ length b ∷ (b ++ (w ∷ [])) ++ s
+        → length a ∷ a ++ (v ∷ r) ≡ length b ∷ b ++ (w ∷ s)
     flat a v r b w s e = rw (append-assoc a (v ∷ []) r, append-assoc b (w ∷ []) s) at e
 
     go : (v w : ℕ) (a b : List ℕ) → v ≡ w → a ≡ b → _≡_ {A = Symbol} (record { name = a; value = v }) (record { name = b; value = w })
     go v w a b p q = cc
 
 module _ (t n : ℕ) where
-  groups-same : (x y : List Group) (r s : List ℕ) → Each (GroupFits t n) x → Each (GroupFits t n) y → (joined groupWords x ++ (0 ∷ [])) ++ r ≡ (joined groupWords y ++ (0 ∷ [])) ++ s → (x ≡ y) × (r ≡ s)
+  groups-same : (x y : List Group) (r s : List ℕ) → Each (GroupFits t n) x → Each (GroupFits t n) y
+      → (joined groupWords x ++ (0 ∷ [])) ++ r ≡ (joined groupWords y ++ (0 ∷ [])) ++ s → (x ≡ y) × (r ≡ s)
   groups-same x y r s p q e =
       joined-same groupWords (GroupFits t n) 0 (λ a b u v _ _. group-same a b u v) ends x y r s p q
       (rw (append-assoc (joined groupWords x) (0 ∷ []) r, append-assoc (joined groupWords y) (0 ∷ []) s) at e)
@@ -78,7 +80,8 @@ module _ (t n : ℕ) where
       ends : (x : Group) (r s : List ℕ) → GroupFits t n x → groupWords x ++ r ≡ 0 ∷ s → ⊥
       ends x r s f e = f .some (none-left (x .offsets) (cc))
 
-  symbols-same : (x y : List Symbol) (r s : List ℕ) → Each SymbolFits x → Each SymbolFits y → (joined symbolWords x ++ (0 ∷ [])) ++ r ≡ (joined symbolWords y ++ (0 ∷ [])) ++ s → (x ≡ y) × (r ≡ s)
+  symbols-same : (x y : List Symbol) (r s : List ℕ) → Each SymbolFits x → Each SymbolFits y
+      → (joined symbolWords x ++ (0 ∷ [])) ++ r ≡ (joined symbolWords y ++ (0 ∷ [])) ++ s → (x ≡ y) × (r ≡ s)
   symbols-same x y r s p q e =
       joined-same symbolWords SymbolFits 0 (λ a b u v _ _. symbol-same a b u v) ends x y r s p q
       (rw (append-assoc (joined symbolWords x) (0 ∷ []) r, append-assoc (joined symbolWords y) (0 ∷ []) s) at e)
@@ -119,7 +122,8 @@ unnamed (code a) r s e = differ 0x3E9 0x3E8 _ _ (omega arith) e
 unnamed (stores a) r s e = differ 0x3EA 0x3E8 _ _ (omega arith) e
 unnamed (bss a) r s e = differ 0x3EB 0x3E8 _ _ (omega arith) e
 
-name-same : (x y : Name) (b d : Body) (r s : List ℕ) → nameWords x ++ (bodyWords b ++ r) ≡ nameWords y ++ (bodyWords d ++ s) → (x ≡ y) × (bodyWords b ++ r ≡ bodyWords d ++ s)
+name-same : (x y : Name) (b d : Body) (r s : List ℕ) → nameWords x ++ (bodyWords b ++ r) ≡ nameWords y ++ (bodyWords d ++ s)
+    → (x ≡ y) × (bodyWords b ++ r ≡ bodyWords d ++ s)
 name-same none none b d r s e = (refl, e)
 name-same none (named y) b d r s e = unnamed b r _ e
 name-same (named x) none b d r s e = unnamed d s _ (sym e)
@@ -140,10 +144,12 @@ hunk-same t x y r s z p q e =
     let d = joined-same partWords (PartFits t n) 0x3F2 (part-same t n) (part-ends t n) (x .parts) (y .parts) r s (p .parts) f (b .1) in
     (go _ _ _ _ _ _ _ _ z (a .0) (b .0) (d .0), d .1)
   where
-    go : (k l : ℕ) (u v : Name) (b c : Body) (m n : List Part) → k ≡ l → u ≡ v → b ≡ c → m ≡ n → _≡_ {A = Hunk} (record { size = k; name = u; body = b; parts = m }) (record { size = l; name = v; body = c; parts = n })
+    go : (k l : ℕ) (u v : Name) (b c : Body) (m n : List Part) → k ≡ l → u ≡ v → b ≡ c → m ≡ n
+        → _≡_ {A = Hunk} (record { size = k; name = u; body = b; parts = m }) (record { size = l; name = v; body = c; parts = n })
     go k l u v b c m n e f g h = cc
 
-hunks-same : (t : ℕ) (xs ys : List Hunk) → map (λ h. h .size) xs ≡ map (λ h. h .size) ys → Each (HunkFits t) xs → Each (HunkFits t) ys → joined hunkWords xs ≡ joined hunkWords ys → xs ≡ ys
+hunks-same : (t : ℕ) (xs ys : List Hunk) → map (λ h. h .size) xs ≡ map (λ h. h .size) ys → Each (HunkFits t) xs → Each (HunkFits t) ys
+    → joined hunkWords xs ≡ joined hunkWords ys → xs ≡ ys
 hunks-same t [] [] z p q e = refl
 hunks-same t [] (y ∷ ys) z p q e = impossible cc
 hunks-same t (x ∷ xs) [] z p q e = impossible cc
