@@ -1,31 +1,14 @@
 -- Which numbers a list of tests gives: 0, or one of a list (`search given`). Assumes nothing.
 use Prim.Native.Nat.{ℕ, zero, suc}
-use mathlib.Core.Path.{_≡_, refl}
+use mathlib.Core.Path.{refl}
 use mathlib.Core.Logic.{_≢_, inl, inr}
 use mathlib.Core.Bool.{Bool, true, false}
 use mathlib.Core.List.{List, [], _∷_}
 use lib.Dec.{T}
 use Rattle.answers.specs.Tests.{pick, must, never, first, tests}
 use Rattle.answers.specs.Members.{_∈_}
-use Rattle.answers.specs.declared.Tested.{Tested}
-use Rattle.answers.specs.declared.Tested.the-variants.{Passed, Failed}
 use Rattle.answers.proofs.Members.{has, part, listed, in-part}
 
--- what holds of both values holds of a choice
-pub pick-case : {X : Type 0} (P : X → Type 0) (t : Bool) (x y : X) → (t ≡ true → P x) → (t ≡ false → P y) → P (pick t x y)
-unfolding pick
-pick-case P true x y p q = p refl
-pick-case P false x y p q = q refl
-
-pub pick-all : {X : Type 0} (P : X → Type 0) (t : Bool) (x y : X) → P x → P y → P (pick t x y)
-pick-all P t x y p q = pick-case P t x y (λ _. p) (λ _. q)
-
--- tests pass, or fail with a number of ns
-abbrev pub Fails : List ℕ → Tested → Type 0
-Fails ns Passed = Unit
-Fails ns (Failed r) = r .number ∈ ns
-
--- v is 0, or a number of ns
 pub record Given (ns : List ℕ) (v : ℕ) : Type 0 where
   pub member : v ≢ 0 → v ∈ ns
 
@@ -47,7 +30,9 @@ module _ {ns : List ℕ} where
   never-given v p false = none
 
   pub pick-given : (t : Bool) (x y : ℕ) → Given ns x → Given ns y → Given ns (pick t x y)
-  pick-given t x y p q = pick-all (Given ns) t x y p q
+  unfolding pick
+  pick-given true x y p q = p
+  pick-given false x y p q = q
 
   pub first-given : (x y : ℕ) → Given ns x → Given ns y → Given ns (first x y)
   unfolding first

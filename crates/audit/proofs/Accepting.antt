@@ -13,12 +13,12 @@ use Rattle.reach.specs.Walk.{Outcome, done, free, Accepted as Through}
 use Rattle.volume.specs.declared.disk.Disk.{Disk}
 use Rattle.volume.specs.Disks.{firstKey, bitSpan, claimBytes, rootOf}
 use Rattle.volume.specs.References.{to, root}
-use Rattle.volume.specs.Law.{Volume}
+use Rattle.volume.specs.Law.{bitmapKeyOf, Used, Volume}
 use Rattle.walk.specs.declared.Counts.{Counts}
 use Rattle.walk.specs.Nodes.{keyOf, walkOf}
-use Rattle.walk.specs.Reports.{Used, Walked}
+use Rattle.walk.specs.Reports.{Walked}
 use Rattle.walk.proofs.Passes.{key-passed}
-use Rattle.walk.proofs.Accepts.{accepted-lawful, node-reached, node-key}
+use Rattle.walk.proofs.Accepts.{fine-in-tree, accepted-lawful, node-reached, node-key}
 use Rattle.walk.proofs.Decides.{volume-decided}
 use Rattle.walk.proofs.Reports.{walked-report}
 use Rattle.audit.specs.declared.bitmap.Mapped.the-variants.{Right}
@@ -27,7 +27,7 @@ use Rattle.audit.specs.declared.audit.Audited.{Audited}
 use Rattle.audit.specs.declared.audit.Audited.the-variants.{Accepted, Refused}
 use Rattle.audit.specs.Bits.{bitsOf}
 use Rattle.audit.specs.Audits.{numbersOf, reportOf, claimsOf, leaves, auditOf, Audits}
-use Rattle.audit.specs.Verdicts.{bitmapKeyOf, freeFrom, Opened, Reported, Claimed}
+use Rattle.audit.specs.Verdicts.{freeFrom, Opened, Reported, Claimed}
 use Rattle.audit.proofs.Bitmaps.{claim-byte, right-exactly, bits-right, count-free}
 use Rattle.audit.proofs.Answers.{through, answers-exactly}
 
@@ -47,7 +47,7 @@ module _ (d : Disk) (s : List ℕ) where
     -- reached blocks lie behind the boot blocks, in the volume
     used-inside : (k : ℕ) → Used d s k → (firstKey ≤ k) × (k < d .blocks)
     used-inside k u =
-        let fine = accepted-lawful d s .0 (subst Through (sym e) tt) .0 in
+        let fine = fine-in-tree d s (accepted-lawful d s .0 (subst Through (sym e) tt) .0) in
         let n = node-reached d s fine (u .1) in
         subst (λ (j : ℕ). (firstKey ≤ j) × (j < d .blocks)) (node-key d s fine (u .1) ∙ u .2) (key-passed d (keyOf d (n .0)) (fine (n .0) (n .1) .0))
 

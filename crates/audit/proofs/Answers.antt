@@ -12,11 +12,12 @@ use Rattle.words.specs.Word.{wordAt}
 use Rattle.reach.specs.Walk.{Outcome, done, refused, Accepted as Through}
 use Rattle.volume.specs.declared.disk.Disk.{Disk}
 use Rattle.volume.specs.Disks.{imageBytes, claimBytes, tagOf}
+use Rattle.volume.specs.Law.{bitmapKeyOf}
 use Rattle.walk.specs.declared.Counts.{Counts}
 use Rattle.walk.specs.Nodes.{walkOf}
-use Rattle.walk.proofs.Accepts.{accepted-lawful}
+use Rattle.walk.proofs.Decides.{tree-decided}
 use Rattle.walk.proofs.Reports.{walked-report}
-use Rattle.walk.proofs.Refuses.{refused-first}
+use Rattle.walk.proofs.Refuses.{refused-first, refused-cause}
 use Rattle.audit.specs.declared.bitmap.Mapped.{Mapped}
 use Rattle.audit.specs.declared.bitmap.Mapped.the-variants.{Right, Wrong}
 use Rattle.audit.specs.declared.audit.Report.{Report}
@@ -24,7 +25,7 @@ use Rattle.audit.specs.declared.audit.Audited.{Audited}
 use Rattle.audit.specs.declared.audit.Audited.the-variants.{Accepted, Refused}
 use Rattle.audit.specs.Bits.{bitsOf}
 use Rattle.audit.specs.Audits.{refuse, reportOf, mapped, walked, auditOf}
-use Rattle.audit.specs.Verdicts.{bitmapKeyOf, Opened, Test, size, area, tag, walk, bits, testOf, Says}
+use Rattle.audit.specs.Verdicts.{Opened, Test, size, area, tag, walk, bits, testOf, Says}
 use Rattle.audit.proofs.Bitmaps.{bits-wrong}
 use Rattle.audit.proofs.Numbers.{Numbered, numbered, walk-number, by-walk}
 
@@ -59,13 +60,13 @@ module _ (d : Disk) (s : List ℕ) (n : ℕ) where
     where
       says : (c : List ℕ) (m : Counts) → walkOf d s ≡ done c m → (b : Mapped) → bitsOf d s (bitmapKeyOf d s) c ≡ b → Answers (mapped m b)
       says c m e (Right f) b = record { opened = o; claims = c; counts = m; free = f; walks = e; maps = b; told = refl }
-      says c m e (Wrong k) b = (o, accepted-lawful d s .0 (subst Through (sym e) tt), bits-wrong d s c m (walked-report d s c m e) k .0 b)
+      says c m e (Wrong k) b = let t = tree-decided d s .1 (subst Through (sym e) tt, o .long, o .tag) in (o .room, t .0, t .1, bits-wrong d s c m (walked-report d s c m e) k .0 b)
 
       go : (u : Outcome Counts) → walkOf d s ≡ u → Answers (walked d s u)
       go (done c m) e = says c m e (bitsOf d s (bitmapKeyOf d s) c) refl
       go (refused v k) e =
           let w = refused-first d s v k .0 e in
-          rw (by-walk v (walk-number d s v k w)) (o, w)
+          rw (by-walk v (walk-number d s v k (refused-cause d s v k e))) (o, w)
 
   answers : Answers (auditOf d s n)
   unfolding auditOf pick
@@ -90,9 +91,10 @@ module _ (d : Disk) (s : List ℕ) (n : ℕ) where
   refuses v k area e (q, l, h) = rw (eq-eqb (length s) (imageBytes d) l, lt-ltb n (claimBytes d) h) (ap₂ refuse (sym e) (sym q))
   refuses v k tag e (q, l, h, t) = rw (eq-eqb (length s) (imageBytes d) l, le-ltb n (claimBytes d) h, ne-eqb (wordAt s 0) (tagOf d) t) (ap₂ refuse (sym e) (sym q))
   refuses v k walk e (o, w) = opens o (refused v k) (refused-first d s v k .1 w)
-  refuses v k bits e (o, h, w) =
-      let t = through d s (accepted-lawful d s .1 h) in
-      opens o (done (t .0) (t .1)) (t .2) ∙ ap (mapped (t .1)) (bits-wrong d s (t .0) (t .1) (walked-report d s (t .0) (t .1) (t .2)) k .1 w) ∙ ap (λ (u : ℕ). refuse u k) (sym e)
+  refuses v k bits e (l, h, u, w) =
+      let p = tree-decided d s .0 (h, u) in
+      let t = through d s (p .0) in
+      opens (record { long = p .1; room = l; tag = p .2 }) (done (t .0) (t .1)) (t .2) ∙ ap (mapped (t .1)) (bits-wrong d s (t .0) (t .1) (walked-report d s (t .0) (t .1) (t .2)) k .1 w) ∙ ap (λ (u : ℕ). refuse u k) (sym e)
 
   back : (r : Audited) → Answers r → auditOf d s n ≡ r
   back (Accepted p) h = opens (h .opened) (done (h .claims) (h .counts)) (h .walks) ∙ ap (mapped (h .counts)) (h .maps) ∙ ap Accepted (sym (h .told))

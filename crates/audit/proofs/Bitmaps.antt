@@ -18,12 +18,12 @@ use Rattle.volume.specs.declared.disk.Disk.{Disk}
 use Rattle.volume.specs.Disks.{firstKey, bitSpan}
 use Rattle.volume.specs.Bitmap.{isFree}
 use Rattle.walk.specs.declared.Counts.{Counts}
-use Rattle.walk.specs.Reports.{Used, Walked}
-use Rattle.walk.proofs.Volumes.{Bits}
+use Rattle.volume.specs.Law.{bitmapKeyOf, Used, BitRight}
+use Rattle.walk.specs.Reports.{Walked}
 use Rattle.audit.specs.declared.bitmap.Mapped.{Mapped}
 use Rattle.audit.specs.declared.bitmap.Mapped.the-variants.{Right, Wrong}
 use Rattle.audit.specs.Bits.{bitWrong, bitsFrom, bitsOf}
-use Rattle.audit.specs.Verdicts.{bitmapKeyOf, freeFrom, BitRight, BitWrong, FirstWrong}
+use Rattle.audit.specs.Verdicts.{freeFrom, BitWrong, FirstWrong}
 
 -- ---- of any claims
 
@@ -133,7 +133,7 @@ module _ (d : Disk) (s c : List ℕ) (n : Counts) (w : Walked d s c n) where
       either-way (judged (isFree s (bitmapKeyOf d s) k) (getD c k 0) (Used d s k) (claim-byte k l)) (λ a b. clash s (bitmapKeyOf d s) c k b a)
       (fits-or-fails (isFree s (bitmapKeyOf d s) k) (Used d s k))
 
-  pub bits-right : (f : ℕ) → (bitsOf d s (bitmapKeyOf d s) c ≡ Right f) ↔ (Bits d s × (f ≡ freeFrom s (bitmapKeyOf d s) firstKey (bitSpan d)))
+  pub bits-right : (f : ℕ) → (bitsOf d s (bitmapKeyOf d s) c ≡ Right f) ↔ (((k : ℕ) → firstKey ≤ k → k < d .blocks → BitRight d s k) × (f ≡ freeFrom s (bitmapKeyOf d s) firstKey (bitSpan d)))
   bits-right f = (
     (λ e. let r = right-exactly s (bitmapKeyOf d s) c firstKey 0 (bitSpan d) f .0 e in ((λ k l u. bit k u .0 .0 (r .0 k l (omega arith))), r .1 ∙ zero-add _)),
     (λ h. right-exactly s (bitmapKeyOf d s) c firstKey 0 (bitSpan d) f .1 ((λ k l u. bit k (omega arith) .0 .1 (h .0 k l (omega arith))), h .1 ∙ sym (zero-add _))),

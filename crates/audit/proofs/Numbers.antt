@@ -1,48 +1,36 @@
 -- The numbers of refusals: the walk's are `walkRefusals` (`walk-number`), and each test knows its own (`numbered`, `by-walk`). Assumes nothing.
 use Prim.Native.Nat.{ℕ}
-use mathlib.Core.Path.{_≡_, refl, subst}
+use mathlib.Core.Path.{_≡_, refl}
 use mathlib.Core.Bool.{Bool, true, false}
 use mathlib.Core.List.{List}
 use lib.Dec.{eqb}
 use borrow.Author.Tests.{eqb-true, ne-eqb}
 use Rattle.answers.specs.Tests.{pick}
 use Rattle.answers.specs.Members.{_∈_}
-use Rattle.answers.proofs.Members.{unlisted}
-use Rattle.answers.proofs.Given.{Given, none, some, must-given, never-given, pick-given, first-given, more-given}
-use Rattle.reach.specs.Visits.{Judged, early, twice, late}
+use Rattle.answers.proofs.Members.{listed, unlisted}
 use Rattle.volume.specs.declared.disk.Disk.{Disk}
-use Rattle.volume.proofs.Given.{rootRefusals, mapRefusals, bitmapRefusals, entryRefusals, fileRefusals, listRefusals, dataRefusals, root-given, map-given, bitmap-given, entry-given, file-given, list-given, data-given}
-use Rattle.walk.specs.Nodes.{Node, root, bitmap, entry, list, datum, hangsFault, faultOf, graph}
-use Rattle.walk.specs.Refusals.{FirstRefusal}
+use Rattle.walk.specs.Refusals.{Cause, number-4, number-5, number-6, number-7, number-8, number-9, number-10, number-10-list, number-11, number-12, number-13, number-14, number-14-list, number-15, number-16}
 use Rattle.audit.specs.Audits.{walkRefusals}
 use Rattle.audit.specs.Verdicts.{Test, size, area, tag, walk, bits, testOf}
 
--- what a list of the walk's tests gives
-abbrev ByWalk : ℕ → Type 0
-ByWalk v = Given walkRefusals v
+-- ---- the walk's
 
-module _ (d : Disk) (s : List ℕ) where
-  hangs-given : (k t i p : ℕ) → ByWalk (hangsFault d s k t i p)
-  unfolding hangsFault
-  hangs-given k t i p =
-      first-given _ _ (more-given entryRefusals _ tt (entry-given d s k t i))
-      (first-given _ _ (never-given 13 tt _) (pick-given _ _ _ none (more-given fileRefusals _ tt (file-given d s k))))
-
-  fault-given : (n : Node) → ByWalk (faultOf d s n)
-  unfolding faultOf
-  fault-given root = first-given _ _ (more-given rootRefusals _ tt (root-given d s)) (more-given mapRefusals _ tt (map-given d s))
-  fault-given (bitmap k) = more-given bitmapRefusals _ tt (bitmap-given s k)
-  fault-given (entry k t i p) = hangs-given k t i p
-  fault-given (list k h m c) = more-given listRefusals _ tt (list-given s k h _)
-  fault-given (datum k h n c) = more-given dataRefusals _ tt (data-given d s k h _ n _)
-
-  pub walk-number : (v k : ℕ) → FirstRefusal d s v k → v ∈ walkRefusals
-  walk-number v k w = go (w .fails) .member (w .refuses)
-    where
-      go : Judged (graph d s) (w .seen) (w .node) v → ByWalk v
-      go (early b h) = subst ByWalk b (must-given 5 tt _)
-      go (twice b m t) = subst ByWalk t (some 6 tt)
-      go (late b m a) = subst ByWalk a (fault-given (w .node))
+pub walk-number : (d : Disk) (s : List ℕ) (v k : ℕ) → Cause d s v k → v ∈ walkRefusals
+walk-number d s v k (number-4 a b e) = rw e (listed walkRefusals 4 tt)
+walk-number d s v k (number-5 a b c e) = rw e (listed walkRefusals 5 tt)
+walk-number d s v k (number-6 a e) = rw e (listed walkRefusals 6 tt)
+walk-number d s v k (number-7 a b c e) = rw e (listed walkRefusals 7 tt)
+walk-number d s v k (number-8 a b c e) = rw e (listed walkRefusals 8 tt)
+walk-number d s v k (number-9 a b e) = rw e (listed walkRefusals 9 tt)
+walk-number d s v k (number-10 t i a b c e) = rw e (listed walkRefusals 10 tt)
+walk-number d s v k (number-10-list h i a b c f e) = rw e (listed walkRefusals 10 tt)
+walk-number d s v k (number-11 a b e) = rw e (listed walkRefusals 11 tt)
+walk-number d s v k (number-12 t i a b e) = rw e (listed walkRefusals 12 tt)
+walk-number d s v k (number-13 t i l a b c f e) = rw e (listed walkRefusals 13 tt)
+walk-number d s v k (number-14 a b e) = rw e (listed walkRefusals 14 tt)
+walk-number d s v k (number-14-list h i a b c e) = rw e (listed walkRefusals 14 tt)
+walk-number d s v k (number-15 h i c a b f g e) = rw e (listed walkRefusals 15 tt)
+walk-number d s v k (number-16 a b e) = rw e (listed walkRefusals 16 tt)
 
 -- ---- a test's number
 

@@ -11,12 +11,16 @@ use Rattle.answers.proofs.Members.{listed, in-part}
 use Rattle.words.specs.Word.{wordAt}
 use Rattle.volume.specs.declared.disk.Disk.{Disk}
 use Rattle.volume.specs.Disks.{imageBytes, claimBytes, tagOf}
-use Rattle.walk.specs.Refusals.{FirstRefusal, Refused}
-use Rattle.walk.proofs.Refuses.{refused-first, refused-why}
+use Rattle.volume.specs.Law.{Tree, Valid}
+use Rattle.walk.specs.Refusals.{FirstRefusal, Cause}
+use Rattle.walk.proofs.Refuses as walks
 use Rattle.audit.specs.Audits.{walkRefusals, auditRefusals, refuse, auditOf}
-use Rattle.audit.specs.Verdicts.{FirstWrong, Opened, Sound, Test, size, area, tag, walk, bits, testOf, Says}
+use Rattle.audit.specs.Verdicts.{FirstWrong, Opened, Test, size, area, tag, walk, bits, testOf, Says}
 use Rattle.audit.proofs.Answers.{answers-exactly}
 use Rattle.audit.proofs.Numbers.{Numbered, walk-number, numbered, by-walk}
+
+caused : (d : Disk) (s : List ℕ) (v k : ℕ) → FirstRefusal d s v k → Cause d s v k
+caused d s v k w = walks.refused-cause d s v k (walks.refused-first d s v k .1 w)
 
 module _ (d : Disk) (s : List ℕ) (n v k : ℕ) where
   pub refused-exactly : (auditOf d s n ≡ refuse v k) ↔ Says d s n v k (testOf v)
@@ -29,16 +33,16 @@ module _ (d : Disk) (s : List ℕ) (n v k : ℕ) where
       go size e c = rw e (listed auditRefusals 1 tt)
       go area e c = rw e (listed auditRefusals 2 tt)
       go tag e c = rw e (listed auditRefusals 3 tt)
-      go walk e c = in-part walkRefusals auditRefusals v tt (walk-number d s v k (c .1))
+      go walk e c = in-part walkRefusals auditRefusals v tt (walk-number d s v k (caused d s v k (c .1)))
       go bits e c = rw e (listed auditRefusals 17 tt)
 
-  -- the walk's have a cause
+  -- the walk's are given exactly at the first node that fails, and each names a field of the law that its block breaks
   module _ (h : v ∈ walkRefusals) where
     pub refused-walk : (auditOf d s n ≡ refuse v k) ↔ (Opened d s n × FirstRefusal d s v k)
     refused-walk = subst (λ (t : Test). (auditOf d s n ≡ refuse v k) ↔ Says d s n v k t) (by-walk v h) refused-exactly
 
-    pub refused-cause : auditOf d s n ≡ refuse v k → Refused d s v k
-    refused-cause r = refused-why d s v k (refused-first d s v k .1 (refused-walk .0 r .1))
+    pub refused-cause : auditOf d s n ≡ refuse v k → Cause d s v k
+    refused-cause r = caused d s v k (refused-walk .0 r .1)
 
 -- ---- each number by itself
 
@@ -55,6 +59,6 @@ module _ (d : Disk) (s : List ℕ) (n k : ℕ) where
   unfolding pick
   refused-3 = refused-exactly d s n 3 k
 
-  pub refused-17 : (auditOf d s n ≡ refuse 17 k) ↔ (Opened d s n × Sound d s × FirstWrong d s k)
+  pub refused-17 : (auditOf d s n ≡ refuse 17 k) ↔ ((claimBytes d ≤ n) × Tree d s × Valid d s × FirstWrong d s k)
   unfolding pick
   refused-17 = refused-exactly d s n 17 k

@@ -2,28 +2,22 @@
 -- report, the claim area after it, and the cause of each refusal.
 use Prim.Native.Nat.{ℕ, zero, suc, _+_, _≤_, _<_}
 use mathlib.Core.Path.{_≡_}
-use mathlib.Core.Logic.{_≢_, _⊎_, _↔_}
+use mathlib.Core.Logic.{_≢_, _⊎_}
 use mathlib.Core.Bool.{true, false}
 use mathlib.Core.List.{List, map}
 use lib.Dec.{eqb}
 use lib.ListN.{length, getD}
 use Rattle.answers.specs.Tests.{pick}
 use Rattle.words.specs.Word.{wordAt}
-use Rattle.reach.specs.References.{_∈_, Uniq, Reached, Owned}
-use Rattle.reach.specs.Law.{Fine}
+use Rattle.reach.specs.References.{_∈_, Uniq, Reached}
 use Rattle.volume.specs.declared.disk.Disk.{Disk}
-use Rattle.volume.specs.Disks.{firstKey, bitSpan, imageBytes, claimBytes, tagOf, rootOf}
-use Rattle.volume.specs.Blocks.{wordOf}
+use Rattle.volume.specs.Disks.{firstKey, bitSpan, imageBytes, claimBytes, tagOf}
 use Rattle.volume.specs.Bitmap.{isFree}
 use Rattle.volume.specs.References.{Ref, references}
-use Rattle.walk.specs.Nodes.{graph}
-use Rattle.walk.specs.Reports.{count, isDirectory, isFile, isList, isData, Used}
+use Rattle.volume.specs.Law.{Tree, Valid, bitmapKeyOf, Used, BitRight}
+use Rattle.walk.specs.Reports.{count, isDirectory, isFile, isList, isData}
 use Rattle.walk.specs.Refusals.{FirstRefusal}
 use Rattle.audit.specs.declared.audit.Report.{Report}
-
--- the key of the bitmap block
-abbrev pub bitmapKeyOf : Disk → List ℕ → ℕ
-bitmapKeyOf d s = wordOf s (rootOf d) 79
 
 -- how many of the n blocks from block k on the bitmap block `bitmapKey` calls free
 unfoldable pub freeFrom : List ℕ → ℕ → ℕ → ℕ → ℕ
@@ -56,10 +50,6 @@ pub record Claimed (d : Disk) (s : List ℕ) (n : ℕ) (claim : List ℕ) : Type
 
 -- ---- refused
 
--- the bit of block k is 0 exactly if k is reached
-abbrev pub BitRight : Disk → List ℕ → ℕ → Type 0
-BitRight d s k = (isFree s (bitmapKeyOf d s) k ≡ false) ↔ Used d s k
-
 -- k is called free though it is reached, or in use though it is not
 abbrev pub BitWrong : Disk → List ℕ → ℕ → Type 0
 BitWrong d s k = ((isFree s (bitmapKeyOf d s) k ≡ true) × Used d s k) ⊎ ((isFree s (bitmapKeyOf d s) k ≡ false) × (¬ Used d s k))
@@ -77,10 +67,6 @@ pub record Opened (d : Disk) (s : List ℕ) (n : ℕ) : Type 0 where
   pub room : claimBytes d ≤ n
   pub tag : wordAt s 0 ≡ tagOf d
 
--- what the walk tests: every reached node passes, and every block is owned once
-abbrev pub Sound : Disk → List ℕ → Type 0
-Sound d s = Fine (graph d s) × Owned (references d s)
-
 -- the five tests, in order, and which of them refuses with the number v
 pub data Test : Type 0 where
   size area tag walk bits : Test
@@ -94,4 +80,4 @@ Says d s n v k size = (k ≡ 0) × (length s ≢ imageBytes d)
 Says d s n v k area = (k ≡ 0) × (length s ≡ imageBytes d) × (n < claimBytes d)
 Says d s n v k tag = (k ≡ 0) × (length s ≡ imageBytes d) × (claimBytes d ≤ n) × (wordAt s 0 ≢ tagOf d)
 Says d s n v k walk = Opened d s n × FirstRefusal d s v k
-Says d s n v k bits = Opened d s n × Sound d s × FirstWrong d s k
+Says d s n v k bits = (claimBytes d ≤ n) × Tree d s × Valid d s × FirstWrong d s k

@@ -117,7 +117,7 @@ fn audit_tagged(disk: Disk, image: &[u8], area: &mut [u8]) -> Audited
 }
 
 // Audits the image of a disk. The whole claim area is written: 1 for each block that is reached, and 0 elsewhere; all 0 where it refuses.
-pub fn audit_on(disk: Disk, image: &[u8], claim: &mut [u8]) -> Audited
+fn audit_on(disk: Disk, image: &[u8], claim: &mut [u8]) -> Audited
     requires { ⌜ Sized disk ⌝ }
     ensures { λ r. ⌜ Audits disk (now (image .entry)) (length (now (claim .entry))) r (now (claim .exit)) ⌝ }
 {

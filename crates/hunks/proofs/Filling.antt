@@ -22,7 +22,7 @@ from-more ns i (suc n) =
     let e : i + 1 + n ≡ i + suc n = omega arith in
     ap (λ l. recordAt ns i ∷ l) (from-more ns (i + 1) n ∙ ap (λ k. recordsFrom ns (i + 1) n ++ recordAt ns k ∷ []) e)
 
--- numbers behind the records do not matter
+-- numbers after the records do not matter
 pub from-take : (ns : List ℕ) (k i n : ℕ) → 4 * (i + n) ≤ k → recordsFrom (take k ns) i n ≡ recordsFrom ns i n
 unfolding recordsFrom
 from-take ns k i zero h = refl

@@ -8,7 +8,7 @@ use Rattle.program.specs.declared.check.Answer.the-variants.{Accepted}
 use Rattle.program.specs.Page.{Holds}
 use Rattle.program.specs.Page as page
 use Rattle.loader.specs.Memory.{amountOf, moved}
-use Rattle.loader.specs.Pages.{imageOf, pageTargets, Adds, Outside, placedHunks}
+use Rattle.loader.specs.Pages.{imageOf, fileTargets, Adds, Outside, placedHunks}
 use Rattle.loader.proofs.PageCalls as numbers
 use Rattle.loader.proofs.Targets as targets
 use Rattle.hunks.specs.declared.Hunk.{Hunk}
@@ -38,11 +38,11 @@ module _ (file m : List ℕ) (t : List Hunk) (w : List ℕ) (x n : ℕ) (m′ : 
         (p .0, p .1, load-held (p .0) (p .1))
 
     -- at each target: the stored word and the base of its hunk
-    pub load-words : (hs : List page.Hunk) → Holds file hs → Adds (imageOf hs) m′ (pageTargets 0 hs) (amountOf bases)
+    pub load-words : (hs : List page.Hunk) → Holds file hs → Adds (imageOf hs) m′ (fileTargets hs) (amountOf bases)
     load-words hs h = targets.load-words file hs h m (numbersIn t) w x n m′ (numbersIn t′) w′ bases (load-numbers file bases m t w _ m′ t′ w′ l)
 
-    -- every other byte: the hunks', and behind them what stood there
-    pub load-others : (hs : List page.Hunk) → Holds file hs → (k : ℕ) → Outside k (pageTargets 0 hs) → getD m′ k 0 ≡ getD (placedHunks hs m) k 0
+    -- every other byte: the hunks', and after them what stood there
+    pub load-others : (hs : List page.Hunk) → Holds file hs → (k : ℕ) → Outside k (fileTargets hs) → getD m′ k 0 ≡ getD (placedHunks hs m) k 0
     load-others hs h = targets.load-others file hs h m (numbersIn t) w x n m′ (numbersIn t′) w′ bases (load-numbers file bases m t w _ m′ t′ w′ l)
 
   module _ (old new : List ℕ) (l : Moves file old new m t w (Accepted x n) m′ t′ w′) where
@@ -62,9 +62,9 @@ module _ (file m : List ℕ) (t : List Hunk) (w : List ℕ) (x n : ℕ) (m′ : 
         (p .0, p .1, move-held (p .0) (p .1))
 
     -- at each target: what stood there, and new minus old base
-    pub move-words : (hs : List page.Hunk) → Holds file hs → Adds m m′ (pageTargets 0 hs) (moved old new)
+    pub move-words : (hs : List page.Hunk) → Holds file hs → Adds m m′ (fileTargets hs) (moved old new)
     move-words hs h = targets.move-words file hs h m (numbersIn t) w x n m′ (numbersIn t′) w′ old new (move-numbers file old new m t w _ m′ t′ w′ l)
 
     -- every other byte is as it was
-    pub move-others-stay : (hs : List page.Hunk) → Holds file hs → (length m′ ≡ length m) × ((k : ℕ) → Outside k (pageTargets 0 hs) → getD m′ k 0 ≡ getD m k 0)
+    pub move-others-stay : (hs : List page.Hunk) → Holds file hs → (length m′ ≡ length m) × ((k : ℕ) → Outside k (fileTargets hs) → getD m′ k 0 ≡ getD m k 0)
     move-others-stay hs h = targets.move-others-stay file hs h m (numbersIn t) w x n m′ (numbersIn t′) w′ old new (move-numbers file old new m t w _ m′ t′ w′ l)

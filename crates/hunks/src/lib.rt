@@ -20,10 +20,10 @@ pub struct Hunk {
 }
 
 // An answer, how many records come with it, and their numbers, four a record.
-pub struct Counted {
-    pub answer: Answer,
-    pub count: usize,
-    pub numbers: [u32; 256],
+struct Counted {
+    answer: Answer,
+    count: usize,
+    numbers: [u32; 256],
 }
 
 // A refused outcome has no records.

@@ -1,17 +1,25 @@
 -- The headline theorems side by side, each cited from the crate that proves it. What the names in them mean is in the specs/ of that crate.
 -- Assumes nothing.
-use Prim.Native.Nat.{ℕ, _≤_, _<_}
+use Prim.Native.Nat.{ℕ, _+_, _*_, _≤_, _<_}
 use mathlib.Core.Path.{_≡_}
-use mathlib.Core.Logic.{_≢_, _↔_, _⊎_}
-use mathlib.Core.List.{List, _∷_, _++_}
+use mathlib.Core.Logic.{_≢_, _⊎_, _↔_}
+use mathlib.Core.Bool.{false}
+use mathlib.Core.List.{List, [], _∷_, _++_}
 use lib.ListN.{length, getD, drop, replicate}
 use Rattle.answers.specs.Members.{_∈_}
 use Rattle.answers.specs.declared.Refusal.{Refusal}
-use Rattle.answers.specs.declared.Tested.the-variants.{Failed}
+use Rattle.answers.specs.declared.Tested.the-variants.{Passed, Failed}
+use Rattle.answers.specs.Tests.{pick}
+use Rattle.reach.specs.References.{Reached}
 use Rattle.words.specs.Word.{Bytes}
 use Rattle.volume.specs.declared.disk.Disk.{Disk}
-use Rattle.volume.specs.Disks.{floppy, claimBytes}
-use Rattle.volume.specs.Law.{Volume}
+use Rattle.volume.specs.Disks.{floppy, rootOf, claimBytes, chainLimit}
+use Rattle.volume.specs.Blocks.{directory}
+use Rattle.volume.specs.Files.{sizeOf}
+use Rattle.volume.specs.References.{to, entry, references}
+use Rattle.volume.specs.Law.{Tree, Volume}
+use Rattle.volume.specs.Stars.{stars, Hold}
+use Rattle.volume.proofs.Stars as starred
 use Rattle.audit.specs.declared.audit.Report.{Report}
 use Rattle.audit.specs.declared.audit.Audited.{Audited}
 use Rattle.audit.specs.declared.audit.Audited.the-variants as audited
@@ -21,19 +29,25 @@ use Rattle.audit.proofs.Accepting as accepting
 use Rattle.audit.proofs.Refusing as refusing
 use Rattle.lookup.specs.declared.find.Found.{Found}
 use Rattle.lookup.specs.declared.find.Found.the-variants as found
+use Rattle.lookup.specs.Paths.{longestPath, components}
 use Rattle.lookup.specs.Lookup as lookup
+use Rattle.lookup.specs.Trails.{First, Trail, Lies, pathOf}
 use Rattle.lookup.specs.Verdicts as lookups
 use Rattle.lookup.proofs.Deciding as finding
 use Rattle.lookup.proofs.Refusing as missing
+use Rattle.lookup.proofs.Compared as counting
+use Rattle.lookup.proofs.Bridge as bridge
 use Rattle.reading.specs.declared.read.Reading.{Reading}
 use Rattle.reading.specs.declared.read.Reading.the-variants as reading
 use Rattle.reading.specs.Bytes.{fileBytes}
+use Rattle.reading.specs.FileTests.{blocksFault}
 use Rattle.reading.specs.Reads as read
 use Rattle.reading.specs.Outcomes as outcomes
+use Rattle.reading.proofs.Passing as passing
 use Rattle.reading.proofs.Answers as answers
 use Rattle.reading.proofs.Refusing as unread
 use Rattle.reading.proofs.Readings as readings
-use Rattle.reading.proofs.OnVolumes as reads
+use Rattle.reading.proofs.OnTrees as reads
 use Rattle.program.specs.declared.check.Answer.{Answer}
 use Rattle.program.specs.declared.check.Answer.the-variants.{Accepted, Refused}
 use Rattle.program.specs.Page as paper
@@ -43,13 +57,10 @@ use Rattle.program.proofs.Pages as pages
 use Rattle.program.proofs.Refusing as faults
 use Rattle.program.proofs.AsNumbers as checks
 use Rattle.loader.specs.Calls.{callRefusals, loadAnswer, moveAnswer}
-use Rattle.loader.specs.Memory.{targetsOf, amountOf, moved}
-use Rattle.loader.specs.Near.{clashOf}
-use Rattle.loader.specs.Pages.{imageOf, pageTargets, targetsIn, aimOf, Adds, Outside, placedHunks}
-use Rattle.loader.specs.Verdicts.{Accepts, LoadWhy, MoveWhy, Member, ClashWhy}
-use Rattle.loader.proofs.Refusing as unloaded
-use Rattle.loader.proofs.NearTargets as nearness
-use Rattle.loader.proofs.OneHunk as onehunk
+use Rattle.loader.specs.Memory.{amountOf, moved}
+use Rattle.loader.specs.Pages.{imageOf, fileTargets, Adds, Outside, placedHunks}
+use Rattle.loader.specs.Verdicts.{Accepts, Takes, CallWhy}
+use Rattle.loader.proofs.PageVerdicts as verdicts
 use Rattle.hunks.specs.declared.Hunk.{Hunk}
 use Rattle.hunks.specs.Calls.{Loads, Moves}
 use Rattle.hunks.specs.Moving.{SameRoom, LoadsAt}
@@ -93,6 +104,18 @@ module _ (d : Disk) (s : List ℕ) (n : ℕ) where
 -- ---- a path, and a read of it at offset o
 
 module _ (d : Disk) (s path : List ℕ) where
+  -- a directory is found exactly if each component is the first equal name of a directory, in the one before it; a file exactly if the last
+  -- component is one there
+  pub directory-exactly : (k n : ℕ) → (lookup.findOf d s path ≡ found.Directory k n) ↔ (lookups.Opened d s path × Trail d s (rootOf d) (components path) k n)
+  directory-exactly k n = missing.directory-exactly d s path k n
+
+  pub file-exactly : (k z n : ℕ) → (lookup.findOf d s path ≡ found.File k z n) ↔ lookups.IsFile d s path k z n
+  file-exactly k z n = missing.file-exactly d s path k z n
+
+  -- a path compares at most as many entries for each of its components as a chain may have
+  pub found-few : (k z n : ℕ) → (lookup.findOf d s path ≡ found.Directory k n) ⊎ (lookup.findOf d s path ≡ found.File k z n) → n ≤ length (components path) * chainLimit d
+  found-few k z n e = counting.found-few d s path k z n e
+
   -- 19 exactly if the chain has ended and no entry on it has the name; every other refusal exactly then
   pub missing-exactly : (i : ℕ) → (lookup.findOf d s path ≡ lookup.refuse 19 i) ↔ lookups.Missing d s path i
   missing-exactly i = missing.missing-exactly d s path i
@@ -103,9 +126,13 @@ module _ (d : Disk) (s path : List ℕ) where
   pub find-determined : (r r′ : Found) → lookup.Finds d s path r → lookup.Finds d s path r′ → (lookup.numbersOf r ≡ lookup.numbersOf r′) × (r ≡ r′)
   find-determined r r′ a a′ = finding.find-determined d s path r r′ a a′
 
-  -- bytes exactly if the path leads to a file whose blocks all pass; every refusal exactly then
+  -- bytes exactly if the path leads to a whole file; then the output holds its bytes from the offset on, and after them what it held; every
+  -- refusal exactly then
   pub read-exactly : (o n m : ℕ) → (read.readOf d s path o n ≡ reading.Bytes m) ↔ outcomes.Gives d s path o n m
   read-exactly o n m = answers.read-exactly d s path o n m
+
+  pub read-output : (o m k z c : ℕ) (output output′ : List ℕ) → read.Reads d s path o output (reading.Bytes m) output′ → lookup.findOf d s path ≡ found.File k z c → outcomes.Filled (fileBytes d s k) o output m output′
+  read-output o m k z c output output′ r e = answers.read-output d s path o m k z c output output′ r e
 
   pub read-refused-exactly : (o n v k : ℕ) → (read.readOf d s path o n ≡ read.refuse v k) ↔ outcomes.Refuses d s path v k
   read-refused-exactly o n v k = unread.refused-exactly d s path o n v k
@@ -113,10 +140,34 @@ module _ (d : Disk) (s path : List ℕ) where
   pub read-determined : (o : ℕ) (output : List ℕ) (r r′ : Reading) (a a′ : List ℕ) → read.Reads d s path o output r a → read.Reads d s path o output r′ a′ → (read.numbersOf r ≡ read.numbersOf r′) × (r ≡ r′) × (a ≡ a′)
   read-determined o output r r′ a a′ h h′ = readings.read-determined d s path o output r r′ a a′ h h′
 
-  -- on a volume: a found file is read whole
-  pub volume-read-whole : Volume d s → (k z c : ℕ) → lookup.findOf d s path ≡ found.File k z c → (output : List ℕ) → z ≤ length output → (r : Reading) (output′ : List ℕ) → read.Reads d s path 0 output r output′
+  -- in a tree a found file is read whole
+  pub tree-read-whole : Tree d s → (k z c : ℕ) → lookup.findOf d s path ≡ found.File k z c → (output : List ℕ) → z ≤ length output → (r : Reading) (output′ : List ℕ) → read.Reads d s path 0 output r output′
       → (r ≡ reading.Bytes z) × (length (fileBytes d s k) ≡ z) × (output′ ≡ fileBytes d s k ++ drop z output)
-  volume-read-whole v k z c e output h r output′ w = reads.volume-read-whole d s v path k z c e output output′ r h w
+  tree-read-whole v k z c e output h r output′ w = reads.tree-read-whole d s v path k z c e output output′ r h w
+
+module _ (d : Disk) (s : List ℕ) where
+  -- a component that leads to the entry at place p has compared p + 1, at most as many as a chain may have
+  pub compared-most : (t : ℕ) (name : List ℕ) (p : ℕ) → First d s t name p → p + 1 ≤ chainLimit d
+  compared-most t name p f = counting.first-few d s t name p f
+
+  -- the tests of a file's blocks pass exactly if it is whole: as the law says, with all of its blocks
+  pub tested-exactly : (h : ℕ) → (blocksFault d s h ≡ Passed) ↔ outcomes.Whole d s h
+  tested-exactly h = passing.tested-exactly d s h
+
+  -- in a tree every reached entry lies below the root by the names of directories; it is found by its path, and a file is read whole
+  pub reached-lies : Tree d s → (k : ℕ) → Reached (references d s) (to entry k) → Lies s (rootOf d) k
+  reached-lies v k r = bridge.reached-lies d s v k r
+
+  pub reached-found : Tree d s → (k : ℕ) (h : Lies s (rootOf d) k) → length (pathOf s (rootOf d) k h) ≤ longestPath → (n : ℕ) × (lookup.findOf d s (pathOf s (rootOf d) k h) ≡ pick (directory s k) (found.Directory k n) (found.File k (sizeOf s k) n))
+  reached-found v k h l = bridge.reached-found d s v k h l
+
+  pub reached-read : Tree d s → (k : ℕ) (h : Lies s (rootOf d) k) → directory s k ≡ false → length (pathOf s (rootOf d) k h) ≤ longestPath → (output output′ : List ℕ) (r : Reading) → sizeOf s k ≤ length output → read.Reads d s (pathOf s (rootOf d) k h) 0 output r output′
+      → (r ≡ reading.Bytes (sizeOf s k)) × (length (fileBytes d s k) ≡ sizeOf s k) × (output′ ≡ fileBytes d s k ++ drop (sizeOf s k) output)
+  reached-read v k h e l output output′ r m q = reads.reached-read d s v k h e l output output′ r m q
+
+-- the worked cases with a star
+pub stars-hold : Hold floppy stars
+stars-hold = starred.stars-hold
 
 -- ---- a program file
 
@@ -125,22 +176,23 @@ module _ (file : List ℕ) where
   pub page : ((t : ℕ) × (n : ℕ) × (checkOf file ≡ Accepted t n)) ↔ ((hs : List paper.Hunk) × paper.Holds file hs)
   page = pages.page file
 
-  -- each refusal exactly then: of the file, of a load, of a move
+  -- each refusal exactly then
   pub check-refused-exactly : (f : Refusal) → (checkOf file ≡ Refused f) ↔ Because file f
   check-refused-exactly f = (faults.check-why file f, faults.why-check file f)
 
-  pub load-refused-exactly : (bases : List ℕ) (m r w : ℕ) (f : Refusal) → (loadAnswer file bases m r w ≡ Refused f) ↔ LoadWhy file bases m r w f
-  load-refused-exactly bases m r w f = unloaded.load-why file m r w f bases
+  -- a load, which is lent one list of bases: accepted exactly then, and each refusal exactly then
+  pub load-accepted-exactly : (bases : List ℕ) (m r w t n : ℕ) → (loadAnswer file bases m r w ≡ Accepted t n) ↔ ((hs : List paper.Hunk) × paper.Holds file hs × Takes hs (bases ∷ []) m r w t n)
+  load-accepted-exactly bases m r w t n = verdicts.load-accepted file bases m r w t n
 
-  pub move-refused-exactly : (old new : List ℕ) (m r w : ℕ) (f : Refusal) → (moveAnswer file old new m r w ≡ Refused f) ↔ MoveWhy file old new m r w f
-  move-refused-exactly old new m r w f = unloaded.move-why file m r w f old new
+  pub load-refused-exactly : (bases : List ℕ) (m r w : ℕ) (f : Refusal) → (loadAnswer file bases m r w ≡ Refused f) ↔ CallWhy file (bases ∷ []) m r w f
+  load-refused-exactly bases m r w f = verdicts.load-refused file bases m r w f
 
-  -- 42 exactly at the first target that is too near one before it; both are of one hunk
-  pub clash-exactly : (f : Refusal) → (clashOf file ≡ Failed f) ↔ ClashWhy (targetsOf file) f
-  clash-exactly f = nearness.clash-why (targetsOf file) f
+  -- a move, which is lent the old list and the new
+  pub move-accepted-exactly : (old new : List ℕ) (m r w t n : ℕ) → (moveAnswer file old new m r w ≡ Accepted t n) ↔ ((hs : List paper.Hunk) × paper.Holds file hs × Takes hs (old ∷ new ∷ []) m r w t n)
+  move-accepted-exactly old new m r w t n = verdicts.move-accepted file old new m r w t n
 
-  pub clash-one-hunk : (hs : List paper.Hunk) → paper.Holds file hs → (f : Refusal) (r : ClashWhy (targetsOf file) f) → (i : ℕ) × (i < length hs) × Member (aimOf (r .target)) (targetsIn 0 hs i) × Member (aimOf (r .other)) (targetsIn 0 hs i)
-  clash-one-hunk hs h f r = onehunk.clash-one-hunk file hs h f r
+  pub move-refused-exactly : (old new : List ℕ) (m r w : ℕ) (f : Refusal) → (moveAnswer file old new m r w ≡ Refused f) ↔ CallWhy file (old ∷ new ∷ []) m r w f
+  move-refused-exactly old new m r w f = verdicts.move-refused file old new m r w f
 
 -- ---- loading and moving
 
@@ -154,17 +206,17 @@ module _ (file m : List ℕ) (t : List Hunk) (w : List ℕ) (x n : ℕ) (m1 : Li
   move-page = calls.move-page file m t w x n m1 t1 w1
 
   -- a load adds the base of its hunk to each target's stored word; a move adds new minus old base to what stood there
-  pub load-words : (bases : List ℕ) → Loads file bases m t w (Accepted x n) m1 t1 w1 → (hs : List paper.Hunk) → paper.Holds file hs → Adds (imageOf hs) m1 (pageTargets 0 hs) (amountOf bases)
+  pub load-words : (bases : List ℕ) → Loads file bases m t w (Accepted x n) m1 t1 w1 → (hs : List paper.Hunk) → paper.Holds file hs → Adds (imageOf hs) m1 (fileTargets hs) (amountOf bases)
   load-words = calls.load-words file m t w x n m1 t1 w1
 
-  pub move-words : (old new : List ℕ) → Moves file old new m t w (Accepted x n) m1 t1 w1 → (hs : List paper.Hunk) → paper.Holds file hs → Adds m m1 (pageTargets 0 hs) (moved old new)
+  pub move-words : (old new : List ℕ) → Moves file old new m t w (Accepted x n) m1 t1 w1 → (hs : List paper.Hunk) → paper.Holds file hs → Adds m m1 (fileTargets hs) (moved old new)
   move-words = calls.move-words file m t w x n m1 t1 w1
 
   -- outside the targets a load leaves the hunks' bytes, and behind them what stood there; a move leaves every byte as it was
-  pub load-others : (bases : List ℕ) → Loads file bases m t w (Accepted x n) m1 t1 w1 → (hs : List paper.Hunk) → paper.Holds file hs → (k : ℕ) → Outside k (pageTargets 0 hs) → getD m1 k 0 ≡ getD (placedHunks hs m) k 0
+  pub load-others : (bases : List ℕ) → Loads file bases m t w (Accepted x n) m1 t1 w1 → (hs : List paper.Hunk) → paper.Holds file hs → (k : ℕ) → Outside k (fileTargets hs) → getD m1 k 0 ≡ getD (placedHunks hs m) k 0
   load-others = calls.load-others file m t w x n m1 t1 w1
 
-  pub move-others-stay : (old new : List ℕ) → Moves file old new m t w (Accepted x n) m1 t1 w1 → (hs : List paper.Hunk) → paper.Holds file hs → (length m1 ≡ length m) × ((k : ℕ) → Outside k (pageTargets 0 hs) → getD m1 k 0 ≡ getD m k 0)
+  pub move-others-stay : (old new : List ℕ) → Moves file old new m t w (Accepted x n) m1 t1 w1 → (hs : List paper.Hunk) → paper.Holds file hs → (length m1 ≡ length m) × ((k : ℕ) → Outside k (fileTargets hs) → getD m1 k 0 ≡ getD m k 0)
   move-others-stay = calls.move-others-stay file m t w x n m1 t1 w1
 
 module _ (file m : List ℕ) (t : List Hunk) (w : List ℕ) where

@@ -37,7 +37,7 @@ use Rattle.loader.specs.Calls.{roomFault, also, lastTests, loadAnswer, m
 same-numbers : (a b t n : ℕ) → Accepted a b ≡ Accepted t n → (a ≡ t) × (b ≡ n)
 same-numbers a b t n h = ((cc), (cc))
 
--- ---- an accepted walk ends behind the last hunk
+-- ---- an accepted walk ends after the last hunk
 
 record Whole (file : List ℕ) (t n : ℕ) : Type 0 where
   hunks : t ≡ totalOf file
@@ -107,7 +107,7 @@ also-both a h t n e f = rw (e, f)
 pub also-failed : (a : Answer) (h : Tested) (t n : ℕ) (r : Refusal) → a ≡ Accepted t n → h ≡ Failed r → Refused r ≡ also a h
 also-failed a h t n r x y = rw (x, y)
 
-room-passed : (t n m tb w : ℕ) → roomFault t n m tb w ≡ Passed → (n ≤ m) × (t ≤ tb) × (n ≤ w)
+pub room-passed : (t n m tb w : ℕ) → roomFault t n m tb w ≡ Passed → (n ≤ m) × (t ≤ tb) × (n ≤ w)
 room-passed t n m tb w h =
     let a = pick-passed (ltb m n) (refusal 41 0) _ h in
     let b = pick-passed (ltb tb t) (refusal 41 0) _ (a .1) in

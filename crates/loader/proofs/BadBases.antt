@@ -1,9 +1,9 @@
 -- 40 is given exactly if a list of bases has another length, or at its first bad entry; and why an entry is bad. Assumes nothing.
-use Prim.Native.Nat.{ℕ, zero, suc, _+_, _%_, _^_, _<_, _≤_}
+use Prim.Native.Nat.{ℕ, zero, suc, _+_, _*_, _%_, _^_, _<_, _≤_}
 use mathlib.Core.Path.{_≡_, refl, sym, ap, subst, _∙_}
 use mathlib.Core.List.{List}
 use mathlib.Core.Bool.{Bool, true, false}
-use mathlib.Core.Logic.{_↔_, _⊎_, inl, inr}
+use mathlib.Core.Logic.{_↔_, _≢_, _⊎_, inl, inr}
 use native.Mathlib.Omega.{arith}
 use native.Mathlib.Decide.{decLt}
 use lib.Dec.{ltb, eqb}
@@ -15,15 +15,21 @@ use Rattle.answers.specs.declared.Refusal.{Refusal}
 use Rattle.answers.specs.declared.Tested.the-variants.{Passed, Failed}
 use Rattle.answers.proofs.Tests.{pick-passed}
 use Rattle.answers.proofs.Clashes.{impossible}
-use Rattle.program.specs.Header.{totalOf}
+use Rattle.program.specs.Header.{totalOf, sizeOf}
 use Rattle.program.proofs.Answers.{not-failed}
 use Rattle.loader.specs.Memory.{amountOf}
 use Rattle.loader.specs.Bases.{larger, smaller, topOf, overlap, shares, entryBad, basesFrom, basesFault}
-use Rattle.loader.specs.Verdicts.{Shared, EntryWhy, BasesWhy}
+use Rattle.loader.specs.Verdicts.{Shared, GoodEntry, BadEntry}
 use Rattle.loader.proofs.Marking.{no-bool}
 use Rattle.loader.proofs.Picks.{or-left, or-right, pick-else, pick-failed, pick-fails, pick-goes, pick-or}
 
 -- ---- which entry
+
+-- as it is tested: the list has another length; else entry i is bad, and none before it
+abbrev pub BasesWhy : List ℕ → List ℕ → ℕ → Refusal → Type 0
+BasesWhy file bases from f =
+    ((f ≡ refusal 40 from) × (length bases ≢ totalOf file))
+    ⊎ ((length bases ≡ totalOf file) × ((i : ℕ) × (i < totalOf file) × (f ≡ refusal 40 (from + i)) × (entryBad file bases i ≡ true) × ((j : ℕ) → j < i → entryBad file bases j ≡ false)))
 
 module _ (file bases : List ℕ) (from : ℕ) where
   -- the first bad one of n entries from i on is k
@@ -110,29 +116,29 @@ smaller-above a b c h k = go (ltb a b)
     go false = k
 
 module _ (file bases : List ℕ) where
-  overlap-there : (i j : ℕ) → overlap file bases i j ≡ true → Shared file bases i j
+  overlap-there : (i j : ℕ) → overlap file bases i j ≡ true → Shared (sizeOf file) bases i j
   overlap-there i j h =
       let l = ltb-true (larger (amountOf bases i) (amountOf bases j)) (smaller (topOf file bases i) (topOf file bases j)) h in
       let x = larger-most (amountOf bases i) (amountOf bases j) in
       let y = smaller-least (topOf file bases i) (topOf file bases j) in
-      (larger (amountOf bases i) (amountOf bases j), x .0, omega (arith, l, y .0), x .1, omega (arith, l, y .1))
+      (larger (amountOf bases i) (amountOf bases j), (x .0, omega (arith, l, y .0)), (x .1, omega (arith, l, y .1)))
 
-  overlap-back : (i j : ℕ) → Shared file bases i j → overlap file bases i j ≡ true
+  overlap-back : (i j : ℕ) → Shared (sizeOf file) bases i j → overlap file bases i j ≡ true
   overlap-back i j s =
-      let x = larger-below (amountOf bases i) (amountOf bases j) (s .0) (s .1) (s .3) in
-      let y = smaller-above (topOf file bases i) (topOf file bases j) (s .0) (s .2) (s .4) in
+      let x = larger-below (amountOf bases i) (amountOf bases j) (s .0) (s .1 .0) (s .2 .0) in
+      let y = smaller-above (topOf file bases i) (topOf file bases j) (s .0) (s .1 .1) (s .2 .1) in
       lt-ltb (larger (amountOf bases i) (amountOf bases j)) (smaller (topOf file bases i) (topOf file bases j)) (omega (arith, x, y))
 
-  shares-there : (i n : ℕ) → shares file bases i n ≡ true → (j : ℕ) × (j < n) × Shared file bases i j
+  shares-there : (i n : ℕ) → shares file bases i n ≡ true → (j : ℕ) × (j < n) × Shared (sizeOf file) bases i j
   unfolding shares
   shares-there i zero h = no-bool h
   shares-there i (suc n) h = go (pick-or (overlap file bases i n) (shares file bases i n) h) (shares-there i n)
     where
-      go : (overlap file bases i n ≡ true) ⊎ (shares file bases i n ≡ true) → (shares file bases i n ≡ true → (j : ℕ) × (j < n) × Shared file bases i j) → (j : ℕ) × (j < suc n) × Shared file bases i j
+      go : (overlap file bases i n ≡ true) ⊎ (shares file bases i n ≡ true) → (shares file bases i n ≡ true → (j : ℕ) × (j < n) × Shared (sizeOf file) bases i j) → (j : ℕ) × (j < suc n) × Shared (sizeOf file) bases i j
       go (inl x) g = (n, omega arith, overlap-there i n x)
       go (inr x) g = let r = g x in (r .0, omega (arith, r .1), r .2)
 
-  shares-back : (i n j : ℕ) → j < n → Shared file bases i j → shares file bases i n ≡ true
+  shares-back : (i n j : ℕ) → j < n → Shared (sizeOf file) bases i j → shares file bases i n ≡ true
   unfolding shares
   shares-back i zero j l s = absurd (omega arith)
   shares-back i (suc n) j l s = go (decLt j n) (λ k. shares-back i n j k s)
@@ -141,24 +147,24 @@ module _ (file bases : List ℕ) where
       go (yes k) g = or-right _ _ (g k)
       go (no k) g = let e : j ≡ n = omega arith in or-left _ _ (subst (λ (z : ℕ). overlap file bases i z ≡ true) e (overlap-back i j s))
 
-  entry-there : (i : ℕ) → entryBad file bases i ≡ true → EntryWhy file bases i
+  entry-there : (i : ℕ) → entryBad file bases i ≡ true → BadEntry (sizeOf file) bases i
   unfolding entryBad pick
   entry-there i h = go (eqb (amountOf bases i % 4) 0) refl h
     where
-      two : (ltb (2 ^ 32) (topOf file bases i) ≡ true) ⊎ (shares file bases i i ≡ true) → EntryWhy file bases i
+      two : (ltb (2 ^ 32) (topOf file bases i) ≡ true) ⊎ (shares file bases i i ≡ true) → BadEntry (sizeOf file) bases i
       two (inl x) = inr (inl (ltb-true _ _ x))
       two (inr x) = inr (inr (shares-there i i x))
 
-      go : (b : Bool) → eqb (amountOf bases i % 4) 0 ≡ b → pick b (pick (ltb (2 ^ 32) (topOf file bases i)) true (shares file bases i i)) true ≡ true → EntryWhy file bases i
+      go : (b : Bool) → eqb (amountOf bases i % 4) 0 ≡ b → pick b (pick (ltb (2 ^ 32) (topOf file bases i)) true (shares file bases i i)) true ≡ true → BadEntry (sizeOf file) bases i
       go true e q = two (pick-or (ltb (2 ^ 32) (topOf file bases i)) (shares file bases i i) q)
       go false e q = inl (eqb-false _ _ e)
 
-  entry-back : (i : ℕ) → EntryWhy file bases i → entryBad file bases i ≡ true
+  entry-back : (i : ℕ) → BadEntry (sizeOf file) bases i → entryBad file bases i ≡ true
   unfolding entryBad pick
   entry-back i (inl x) = rw (ne-eqb _ _ x)
   entry-back i (inr x) = go (eqb (amountOf bases i % 4) 0) (two x)
     where
-      two : (2 ^ 32 < topOf file bases i) ⊎ ((j : ℕ) × (j < i) × Shared file bases i j) → pick (ltb (2 ^ 32) (topOf file bases i)) true (shares file bases i i) ≡ true
+      two : (2 ^ 32 < topOf file bases i) ⊎ ((j : ℕ) × (j < i) × Shared (sizeOf file) bases i j) → pick (ltb (2 ^ 32) (topOf file bases i)) true (shares file bases i i) ≡ true
       two (inl y) = or-left (ltb (2 ^ 32) (topOf file bases i)) (shares file bases i i) (lt-ltb _ _ y)
       two (inr y) = or-right (ltb (2 ^ 32) (topOf file bases i)) (shares file bases i i) (shares-back i i (y .0) (y .1) (y .2))
 
@@ -166,12 +172,43 @@ module _ (file bases : List ℕ) where
       go true q = q
       go false q = refl
 
-  pub entry-why : (i : ℕ) → (entryBad file bases i ≡ true) ↔ EntryWhy file bases i
+  pub entry-why : (i : ℕ) → (entryBad file bases i ≡ true) ↔ BadEntry (sizeOf file) bases i
   entry-why i = (entry-there i, entry-back i)
 
-  -- an entry that is not bad
-  pub entry-fine : (i : ℕ) → entryBad file bases i ≡ false → EntryWhy file bases i → ⊥
-  entry-fine i h w = no-bool (sym h ∙ entry-back i w)
+  -- an entry that is not bad is good
+  fine-good : (i : ℕ) → entryBad file bases i ≡ false → GoodEntry (sizeOf file) bases i
+  fine-good i h =
+      record {
+        multiple = even (eqb (amountOf bases i % 4) 0) refl;
+        below = low (decLt (2 ^ 32) (amountOf bases i + 4 * sizeOf file i));
+        alone = λ j l s. fine (inr (inr (j, l, s)));
+      }
+    where
+      fine : BadEntry (sizeOf file) bases i → ⊥
+      fine w = no-bool (sym h ∙ entry-back i w)
+
+      even : (b : Bool) → eqb (amountOf bases i % 4) 0 ≡ b → amountOf bases i % 4 ≡ 0
+      even true e = eqb-true _ _ e
+      even false e = absurd (fine (inl (eqb-false _ _ e)))
+
+      low : Dec (2 ^ 32 < amountOf bases i + 4 * sizeOf file i) → amountOf bases i + 4 * sizeOf file i ≤ 2 ^ 32
+      low (yes a) = absurd (fine (inr (inl a)))
+      low (no a) = omega arith
+
+  good-fine : (i : ℕ) → GoodEntry (sizeOf file) bases i → entryBad file bases i ≡ false
+  good-fine i g = go (entryBad file bases i) (entry-there i)
+    where
+      none : BadEntry (sizeOf file) bases i → ⊥
+      none (inl x) = x (g .multiple)
+      none (inr (inl x)) = omega (arith, x, g .below)
+      none (inr (inr x)) = g .alone (x .0) (x .1) (x .2)
+
+      go : (b : Bool) → (b ≡ true → BadEntry (sizeOf file) bases i) → b ≡ false
+      go true f = absurd (none (f refl))
+      go false f = refl
+
+  pub entry-good : (i : ℕ) → (entryBad file bases i ≡ false) ↔ GoodEntry (sizeOf file) bases i
+  entry-good i = (fine-good i, good-fine i)
 
 -- ---- a list passes exactly if its count is right and no entry is bad, wherever it counts from
 
@@ -208,11 +245,7 @@ module _ (file bases : List ℕ) (from : ℕ) where
   low-bases h k = let g = bases-exactly .0 h in go (decLt k (totalOf file)) (g .0) (g .1)
     where
       go : Dec (k < totalOf file) → length bases ≡ totalOf file → ((j : ℕ) → j < totalOf file → entryBad file bases j ≡ false) → amountOf bases k ≤ 2 ^ 32
-      go (yes l) n g = low (decLt (2 ^ 32) (topOf file bases k))
-        where
-          low : Dec (2 ^ 32 < topOf file bases k) → amountOf bases k ≤ 2 ^ 32
-          low (yes a) = absurd (entry-fine file bases k (g k l) (inr (inl a)))
-          low (no a) = omega arith
+      go (yes l) n g = omega (arith, entry-good file bases k .0 (g k l) .below)
       go (no l) n g = rw (List·getD-eq-default bases 0 {n = k} (omega (arith, l, n))) (omega arith)
 
 -- ---- a list of bases is good wherever it counts from

@@ -51,16 +51,16 @@ move-keeps file old new m t w f m1 t1 w1 l = (l .shifted, l .recorded, l .clean)
 
 -- ---- accepted exactly if
 
-room-good : (file : List ℕ) (m r w : ℕ) → Room file m r w → roomFault (totalOf file) (loadedOf file) m r w ≡ Passed
+pub room-good : (t n m r w : ℕ) → Room t n m r w → roomFault t n m r w ≡ Passed
 unfolding pick
-room-good file m r w h = rw (le-ltb m _ (h .memory-fits), le-ltb r _ (h .records-fit), le-ltb w _ (h .work-fits))
+room-good t n m r w h = rw (le-ltb m n (h .memory-fits), le-ltb r t (h .records-fit), le-ltb w n (h .work-fits))
 
 module _ (file : List ℕ) (m r w t n : ℕ) where
-  pub load-exactly : (bases : List ℕ) → (loadAnswer file bases m r w ≡ Accepted t n) ↔ ((checkOf file ≡ Accepted t n) × (basesFault file bases 0 ≡ Passed) × Room file m r w × (clashOf file ≡ Passed))
+  pub load-exactly : (bases : List ℕ) → (loadAnswer file bases m r w ≡ Accepted t n) ↔ ((checkOf file ≡ Accepted t n) × (basesFault file bases 0 ≡ Passed) × Room (totalOf file) (loadedOf file) m r w × (clashOf file ≡ Passed))
   unfolding loadAnswer
   load-exactly bases = (there, back)
     where
-      there : lastTests file (also (checkOf file) (basesFault file bases 0)) m r w ≡ Accepted t n → (checkOf file ≡ Accepted t n) × (basesFault file bases 0 ≡ Passed) × Room file m r w × (clashOf file ≡ Passed)
+      there : lastTests file (also (checkOf file) (basesFault file bases 0)) m r w ≡ Accepted t n → (checkOf file ≡ Accepted t n) × (basesFault file bases 0 ≡ Passed) × Room (totalOf file) (loadedOf file) m r w × (clashOf file ≡ Passed)
       there h =
           let f = load-facts file bases m r w t n _ refl h in
           let a = also-so _ (clashOf file) t n h in
@@ -68,8 +68,8 @@ module _ (file : List ℕ) (m r w t n : ℕ) where
           let c = also-so (checkOf file) (basesFault file bases 0) t n (b .0) in
           (c .0, c .1, record { memory-fits = f .fits; records-fit = f .records; work-fits = f .works }, a .1)
 
-      back : (checkOf file ≡ Accepted t n) × (basesFault file bases 0 ≡ Passed) × Room file m r w × (clashOf file ≡ Passed) → lastTests file (also (checkOf file) (basesFault file bases 0)) m r w ≡ Accepted t n
-      back h = also-both _ _ t n (also-both _ _ t n (also-both _ _ t n (h .0) (h .1)) (room-good file m r w (h .2))) (h .3)
+      back : (checkOf file ≡ Accepted t n) × (basesFault file bases 0 ≡ Passed) × Room (totalOf file) (loadedOf file) m r w × (clashOf file ≡ Passed) → lastTests file (also (checkOf file) (basesFault file bases 0)) m r w ≡ Accepted t n
+      back h = also-both _ _ t n (also-both _ _ t n (also-both _ _ t n (h .0) (h .1)) (room-good _ _ m r w (h .2))) (h .3)
 
   pub move-exactly : (old new : List ℕ) → (moveAnswer file old new m r w ≡ Accepted t n) ↔ ((loadAnswer file old m r w ≡ Accepted t n) × (basesFault file new (totalOf file) ≡ Passed))
   unfolding moveAnswer loadAnswer

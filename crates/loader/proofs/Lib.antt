@@ -17,22 +17,29 @@ pub mod Calling
 pub mod Moving
 -- the contracts decide
 pub mod Deciding
--- which test refuses a call
+-- tests one after the other
 pub mod Refusing
+-- the tests of a call that is lent any number of lists of bases
+pub mod Lists
 -- choices between a fault and the next test
 pub mod Picks
 -- what 40, 41 and 42 say: bases, room, near targets
 pub mod BadBases
 pub mod Rooms
 pub mod NearTargets
--- each number by its own test
-pub mod Numbers
 -- what a file asks for, in the page's terms
 pub mod PageActs
 -- what a load and a move do, in the page's terms
 pub mod PageLoads
--- targets that are too near stand in one hunk
+-- each target at its offset in its hunk; targets that are near are of one hunk
 pub mod OneHunk
+-- 40 and 42 in the page's terms
+pub mod PageBases
+pub mod PageNear
+-- when a call is accepted, and when each of 40, 41 and 42 is given, in the page's terms
+pub mod PageVerdicts
+-- the answers as numbers: `load-number`, `load-zero-exactly` and the same of a move
+pub mod Numbers
 -- what becomes of each target and of every other byte
 pub mod Targets
 -- an accepted call in the page's terms

@@ -17,10 +17,23 @@ use Rattle.answers.specs.declared.Tested.the-variants.{Passed, Failed}
 use Rattle.answers.proofs.Tests.{pick-passed}
 use Rattle.program.proofs.Answers.{not-failed}
 use Rattle.loader.specs.Near.{near, nearAny, clash}
-use Rattle.loader.specs.Verdicts.{Member, ClashWhy}
+use Rattle.loader.specs.Verdicts.{Member}
 use Rattle.loader.proofs.Marking.{no-bool}
 use Rattle.loader.proofs.Moving.{Among, apart}
 use Rattle.loader.proofs.Picks.{or-left, or-right, pick-and, pick-failed, pick-fails, pick-goes, pick-or}
+
+-- as it is tested, over all of memory: a target is the first that has less than 4 bytes to one before it, the other
+pub record ClashWhy (ts : List Target) (f : Refusal) : Type 0 where
+  pub before : List Target
+  pub target : Target
+  pub after : List Target
+  pub split : ts ≡ before ++ (target ∷ after)
+  pub said : f ≡ refusal 42 (target .byte)
+  pub first : clash [] before ≡ Passed
+  pub other : Target
+  pub among : Member other before
+  pub below : target .place < other .place + 4
+  pub above : other .place < target .place + 4
 
 near-there : (p : ℕ) (seen : List ℕ) → nearAny p seen ≡ true → (q : ℕ) × Among q seen × (p < q + 4) × (q < p + 4)
 unfolding nearAny
@@ -94,12 +107,12 @@ module _ (ts : List Target) (f : Refusal) where
       go r (inl a) = absurd a
       go r (inr x) =
           let e = x .2 in
-          record { before = r .0; target = r .1; behind = r .2; split = r .3; said = r .4; first = r .5; other = x .0; among = x .1; below = omega (arith, r .8, e); above = omega (arith, r .9, e) }
+          record { before = r .0; target = r .1; after = r .2; split = r .3; said = r .4; first = r .5; other = x .0; among = x .1; below = omega (arith, r .8, e); above = omega (arith, r .9, e) }
 
   clash-back : ClashWhy ts f → clash [] ts ≡ Failed f
   clash-back r =
       ap (clash []) (r .split)
-      ∙ clash-then [] (r .before) (r .target) (r .behind) (r .other .place) (r .first) (inr (r .other, r .among, refl)) (r .below) (r .above)
+      ∙ clash-then [] (r .before) (r .target) (r .after) (r .other .place) (r .first) (inr (r .other, r .among, refl)) (r .below) (r .above)
       ∙ ap Failed (sym (r .said))
 
   pub clash-why : (clash [] ts ≡ Failed f) ↔ ClashWhy ts f

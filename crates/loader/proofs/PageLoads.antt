@@ -1,7 +1,7 @@
--- A load of a file that is hunks, written out, in the terms of the page: its records, its memory, its targets. Assumes nothing.
+-- A load of a file that is hunks, written out, in the terms of the page: its records, its memory, its targets with their bytes in the file. Assumes nothing.
 use Prim.Native.Nat.{ℕ, suc, _+_, _*_, _-_, _/_, _%_, _≤_}
 use mathlib.Core.Path.{_≡_, refl, sym, ap, _∙_}
-use mathlib.Core.List.{List, [], _∷_, _++_, map, append-assoc}
+use mathlib.Core.List.{List, [], _∷_, _++_, map, append-assoc, map-append}
 use native.Mathlib.Omega.{arith}
 use lib.ListN.{length, take, drop, set, replicate, length-append, length-replicate, replicate-append-replicate}
 use lib.Seq.{take-at}
@@ -9,7 +9,7 @@ use Rattle.words.specs.Word.{wordsAt, setWord, addAt}
 use Rattle.words.specs.Shift.{Target, shiftAll}
 use Rattle.program.specs.declared.act.Act.{Act}
 use Rattle.program.specs.declared.act.Act.the-variants.{Quiet, Body, Store, Add}
-use Rattle.program.specs.Page.{Hunk, code, stores, bss, joined, written, Each, bodyCount, storedWords, HunkFits, Program, total}
+use Rattle.program.specs.Page.{Hunk, code, stores, bss, joined, hunkWords, written, Each, bodyCount, storedWords, HunkFits, Program, total}
 use Rattle.program.specs.Page as page
 use Rattle.program.specs.Header.{totalOf, sizeOf}
 use Rattle.program.specs.Acts.{actsOf, pass}
@@ -18,30 +18,30 @@ use Rattle.program.proofs.Taken.{Sized}
 use Rattle.program.proofs.Pages.{is-total, all-sized}
 use Rattle.loader.specs.Memory.{loadedOf, place1, placed, targets, targetsOf, amountOf, bodiesOf, loadOf, moved, moveOf}
 use Rattle.loader.specs.Table.{entry1, listed, recordsOf}
-use Rattle.loader.specs.Pages.{kindOf, recordNumbers, wordBytes, hunkBytes, imageOf, partTargets, pageTargets, aimOf, relocated}
+use Rattle.loader.specs.Pages.{PageTarget, kindOf, recordNumbers, wordBytes, hunkBytes, imageOf, hunkAt, hunksAt, fileTargets, bare, relocated}
 use Rattle.loader.proofs.PageActs.{plain, storing, adding, pageActs, page-acts}
 
 -- ---- passes
 
 module _ {X : Type 0} (g : X → Act → X) where
-  -- quiet acts and the bytes of targets change nothing
-  pass-plain : ((x : X) → g x Quiet ≡ x) → ((x : X) (p k b : ℕ) → g x (Add p k b) ≡ g x (Add p k 0)) → (x : X) (us : List Act) → pass g x us ≡ pass g x (plain us)
+  -- quiet acts change nothing
+  pass-plain : ((x : X) → g x Quiet ≡ x) → (x : X) (us : List Act) → pass g x us ≡ pass g x (plain us)
   unfolding pass plain
-  pass-plain quiet blind x [] = refl
-  pass-plain quiet blind x (Quiet ∷ us) = rw (quiet x) (pass-plain quiet blind x us)
-  pass-plain quiet blind x (Body h p k ∷ us) = pass-plain quiet blind (g x (Body h p k)) us
-  pass-plain quiet blind x (Store p w ∷ us) = pass-plain quiet blind (g x (Store p w)) us
-  pass-plain quiet blind x (Add p k b ∷ us) = rw (blind x p k b) (pass-plain quiet blind (g x (Add p k 0)) us)
+  pass-plain quiet x [] = refl
+  pass-plain quiet x (Quiet ∷ us) = rw (quiet x) (pass-plain quiet x us)
+  pass-plain quiet x (Body h p k ∷ us) = pass-plain quiet (g x (Body h p k)) us
+  pass-plain quiet x (Store p w ∷ us) = pass-plain quiet (g x (Store p w)) us
+  pass-plain quiet x (Add p k b ∷ us) = pass-plain quiet (g x (Add p k b)) us
 
   pass-storing : ((x : X) (p w : ℕ) → g x (Store p w) ≡ x) → (x : X) (p i : ℕ) (ws : List ℕ) (l : List Act) → pass g x (storing p i ws l) ≡ pass g x l
   unfolding pass
   pass-storing still x p i [] l = refl
   pass-storing still x p i (w ∷ ws) l = ap (λ (y : X). pass g y (storing p (i + 1) ws l)) (still x (p + 4 * i) w) ∙ pass-storing still x p (i + 1) ws l
 
-  pass-adding : ((x : X) (p k : ℕ) → g x (Add p k 0) ≡ x) → (x : X) (xs : List (ℕ × ℕ)) (l : List Act) → pass g x (adding xs l) ≡ pass g x l
+  pass-adding : ((x : X) (p k b : ℕ) → g x (Add p k b) ≡ x) → (x : X) (xs : List PageTarget) (l : List Act) → pass g x (adding xs l) ≡ pass g x l
   unfolding pass
   pass-adding still x [] l = refl
-  pass-adding still x (y ∷ xs) l = ap (λ (z : X). pass g z (adding xs l)) (still x (y .0) (y .1)) ∙ pass-adding still x xs l
+  pass-adding still x (y ∷ xs) l = ap (λ (z : X). pass g z (adding xs l)) (still x (y .place) (y .named) (y .byte)) ∙ pass-adding still x xs l
 
 -- ---- four numbers in a row
 
@@ -65,18 +65,18 @@ zeros-three a b c n more e = rw (e, ← replicate-append-replicate {A = ℕ} a (
 -- ---- records
 
 module _ (file bases : List ℕ) (t : ℕ) where
-  records-on : (hs : List Hunk) (h p : ℕ) (done more : List ℕ) → Sized t (sizeOf file) h hs → length done ≡ 4 * h → listed file bases (done ++ (replicate (4 * length hs) 0 ++ more)) (pageActs h p hs) ≡ done ++ (recordNumbers p h hs bases ++ more)
+  records-on : (hs : List Hunk) (h p at : ℕ) (done more : List ℕ) → Sized t (sizeOf file) h hs → length done ≡ 4 * h → listed file bases (done ++ (replicate (4 * length hs) 0 ++ more)) (pageActs h p at hs) ≡ done ++ (recordNumbers p h hs bases ++ more)
   unfolding pass
-  records-on [] h p done more f e = refl
-  records-on (x ∷ xs) h p done more f e =
+  records-on [] h p at done more f e = refl
+  records-on (x ∷ xs) h p at done more f e =
       let four : List ℕ = kindOf (x .body) ∷ p ∷ x .size ∷ amountOf bases h ∷ [] in
       let k : length (done ++ four) ≡ 4 * (h + 1) = omega (arith, length-append done four) in
       let more′ : List ℕ = replicate (4 * length xs) 0 ++ more in
-      let q : List Act = pageActs (h + 1) (p + 4 * x .size) xs in
-      let r = records-on xs (h + 1) (p + 4 * x .size) (done ++ four) more (f .2) k in
-      ap (λ (u : List ℕ). listed file bases (done ++ u) (pageActs h p (x ∷ xs))) (four-more (length xs) more)
-      ∙ pass-storing (entry1 file bases) (λ u a b. refl) _ p 0 (storedWords (x .body)) (adding (partTargets p (x .parts)) q)
-      ∙ pass-adding (entry1 file bases) (λ u a b. refl) _ (partTargets p (x .parts)) q
+      let q : List Act = pageActs (h + 1) (p + 4 * x .size) (at + 4 * length (hunkWords x)) xs in
+      let r = records-on xs (h + 1) (p + 4 * x .size) (at + 4 * length (hunkWords x)) (done ++ four) more (f .2) k in
+      ap (λ (u : List ℕ). listed file bases (done ++ u) (pageActs h p at (x ∷ xs))) (four-more (length xs) more)
+      ∙ pass-storing (entry1 file bases) (λ u a b. refl) _ p 0 (storedWords (x .body)) (adding (hunkAt h p at x) q)
+      ∙ pass-adding (entry1 file bases) (λ u a b c. refl) _ (hunkAt h p at x) q
       ∙ ap (λ (u : List ℕ). listed file bases u q) (four-at done more′ 0 0 0 0 (kindOf (x .body)) p (sizeOf file h) (amountOf bases h) (4 * h) e)
       ∙ rw (← f .0) (rw (append-assoc done four more′, append-assoc done four) at r)
 
@@ -116,23 +116,23 @@ pub length-image : (t : ℕ) (hs : List Hunk) → Each (HunkFits t) hs → lengt
 length-image t [] f = refl
 length-image t (x ∷ xs) f = omega (arith, length-append (hunkBytes x) (imageOf xs), length-hunk t x (f .0), length-image t xs (f .1))
 
-bodies-on : (t : ℕ) (size : ℕ → ℕ) (hs : List Hunk) (h p : ℕ) (done more : List ℕ) → Sized t size h hs → length done ≡ p → placed (done ++ (replicate (4 * total hs) 0 ++ more)) (pageActs h p hs) ≡ done ++ (imageOf hs ++ more)
+bodies-on : (t : ℕ) (size : ℕ → ℕ) (hs : List Hunk) (h p at : ℕ) (done more : List ℕ) → Sized t size h hs → length done ≡ p → placed (done ++ (replicate (4 * total hs) 0 ++ more)) (pageActs h p at hs) ≡ done ++ (imageOf hs ++ more)
 unfolding pass
-bodies-on t size [] h p done more f e = refl
-bodies-on t size (x ∷ xs) h p done more f e =
+bodies-on t size [] h p at done more f e = refl
+bodies-on t size (x ∷ xs) h p at done more f e =
     let ws : List ℕ = storedWords (x .body) in
     let b : ℕ = x .size - length ws in
-    let q : List Act = pageActs (h + 1) (p + 4 * x .size) xs in
+    let q : List Act = pageActs (h + 1) (p + 4 * x .size) (at + 4 * length (hunkWords x)) xs in
     let more′ : List ℕ = replicate (4 * total xs) 0 ++ more in
     let fit = stored-fit (x .body) in
     let room = f .1 .body in
     let z : 4 * (x .size + total xs) ≡ 4 * length ws + (4 * b + 4 * total xs) = omega arith in
     let a : length done ≡ p + 4 * 0 = omega arith in
     let k : length (done ++ hunkBytes x) ≡ p + 4 * x .size = omega (arith, length-append done (hunkBytes x), length-hunk t x (f .1)) in
-    let r = bodies-on t size xs (h + 1) (p + 4 * x .size) (done ++ hunkBytes x) more (f .2) k in
-    ap (λ (u : List ℕ). placed (done ++ u) (pageActs h p (x ∷ xs))) (zeros-three (4 * length ws) (4 * b) (4 * total xs) _ more z)
-    ∙ stores-on p 0 ws done (replicate (4 * b) 0 ++ more′) (adding (partTargets p (x .parts)) q) a
-    ∙ pass-adding place1 (λ u c d. refl) _ (partTargets p (x .parts)) q
+    let r = bodies-on t size xs (h + 1) (p + 4 * x .size) (at + 4 * length (hunkWords x)) (done ++ hunkBytes x) more (f .2) k in
+    ap (λ (u : List ℕ). placed (done ++ u) (pageActs h p at (x ∷ xs))) (zeros-three (4 * length ws) (4 * b) (4 * total xs) _ more z)
+    ∙ stores-on p 0 ws done (replicate (4 * b) 0 ++ more′) (adding (hunkAt h p at x) q) a
+    ∙ pass-adding place1 (λ u c d b. refl) _ (hunkAt h p at x) q
     ∙ simp append-assoc (simp append-assoc at r)
 
 place-total : (t : ℕ) (size : ℕ → ℕ) (hs : List Hunk) (h : ℕ) → Sized t size h hs → placeOf size t ≡ placeOf size h + 4 * total hs
@@ -145,40 +145,39 @@ place-total t size (x ∷ xs) h f =
 
 -- ---- targets
 
-abbrev aims : List Act → List (ℕ × ℕ)
-aims us = map aimOf (targets us)
-
-aims-plain : (us : List Act) → aims us ≡ aims (plain us)
+targets-plain : (us : List Act) → targets us ≡ targets (plain us)
 unfolding targets plain
-aims-plain [] = refl
-aims-plain (Quiet ∷ us) = aims-plain us
-aims-plain (Body h p k ∷ us) = aims-plain us
-aims-plain (Store p w ∷ us) = aims-plain us
-aims-plain (Add p k b ∷ us) = ap (λ (l : List (ℕ × ℕ)). (p, k) ∷ l) (aims-plain us)
+targets-plain [] = refl
+targets-plain (Quiet ∷ us) = targets-plain us
+targets-plain (Body h p k ∷ us) = targets-plain us
+targets-plain (Store p w ∷ us) = targets-plain us
+targets-plain (Add p k b ∷ us) = ap (λ (l : List Target). record { place = p; key = k; byte = b } ∷ l) (targets-plain us)
 
-aims-storing : (p i : ℕ) (ws : List ℕ) (l : List Act) → aims (storing p i ws l) ≡ aims l
+targets-storing : (p i : ℕ) (ws : List ℕ) (l : List Act) → targets (storing p i ws l) ≡ targets l
 unfolding targets
-aims-storing p i [] l = refl
-aims-storing p i (w ∷ ws) l = aims-storing p (i + 1) ws l
+targets-storing p i [] l = refl
+targets-storing p i (w ∷ ws) l = targets-storing p (i + 1) ws l
 
-aims-adding : (xs : List (ℕ × ℕ)) (l : List Act) → aims (adding xs l) ≡ xs ++ aims l
+targets-adding : (xs : List PageTarget) (l : List Act) → targets (adding xs l) ≡ map bare xs ++ targets l
 unfolding targets
-aims-adding [] l = refl
-aims-adding (x ∷ xs) l = ap (λ (u : List (ℕ × ℕ)). x ∷ u) (aims-adding xs l)
+targets-adding [] l = refl
+targets-adding (x ∷ xs) l = ap (λ (u : List Target). bare x ∷ u) (targets-adding xs l)
 
-aims-page : (h p : ℕ) (hs : List Hunk) → aims (pageActs h p hs) ≡ pageTargets p hs
+targets-page : (h p at : ℕ) (hs : List Hunk) → targets (pageActs h p at hs) ≡ map bare (hunksAt h p at hs)
 unfolding targets
-aims-page h p [] = refl
-aims-page h p (x ∷ xs) =
-    let q : List Act = pageActs (h + 1) (p + 4 * x .size) xs in
-    aims-storing p 0 (storedWords (x .body)) (adding (partTargets p (x .parts)) q)
-    ∙ aims-adding (partTargets p (x .parts)) q
-    ∙ ap (λ (u : List (ℕ × ℕ)). partTargets p (x .parts) ++ u) (aims-page (h + 1) (p + 4 * x .size) xs)
+targets-page h p at [] = refl
+targets-page h p at (x ∷ xs) =
+    let to : ℕ = at + 4 * length (hunkWords x) in
+    let q : List Act = pageActs (h + 1) (p + 4 * x .size) to xs in
+    targets-storing p 0 (storedWords (x .body)) (adding (hunkAt h p at x) q)
+    ∙ targets-adding (hunkAt h p at x) q
+    ∙ ap (λ (u : List Target). map bare (hunkAt h p at x) ++ u) (targets-page (h + 1) (p + 4 * x .size) to xs)
+    ∙ sym (map-append bare (hunkAt h p at x) (hunksAt (h + 1) (p + 4 * x .size) to xs))
 
-relocated-aims : (m : List ℕ) (ts : List Target) (f : ℕ → ℕ) → shiftAll m ts f ≡ relocated m (map aimOf ts) f
+relocated-bare : (m : List ℕ) (ts : List PageTarget) (f : ℕ → ℕ) → shiftAll m (map bare ts) f ≡ relocated m ts f
 unfolding shiftAll relocated
-relocated-aims m [] f = refl
-relocated-aims m (t ∷ ts) f = relocated-aims (addAt m (t .place) (f (t .key))) ts f
+relocated-bare m [] f = refl
+relocated-bare m (t ∷ ts) f = relocated-bare (addAt m (t .place) (f (t .named))) ts f
 
 -- ---- of a file
 
@@ -195,10 +194,10 @@ module _ (file : List ℕ) (hs : List Hunk) (pr : Program hs) (even : length fil
       let u : replicate {A = ℕ} n 0 ≡ replicate k 0 ++ replicate (n - k) 0 = ap (λ (j : ℕ). replicate {A = ℕ} j 0) z ∙ sym (replicate-append-replicate {A = ℕ} k (n - k) 0) in
       let q : length (recordNumbers 0 0 hs bases) ≡ 4 * totalOf file = omega (arith, length-numbers 0 0 hs bases, is-total file hs pr even e) in
       ap (take (4 * totalOf file))
-      (pass-plain (entry1 file bases) (λ t. refl) (λ t a b c. refl) (replicate n 0) (actsOf file)
+      (pass-plain (entry1 file bases) (λ t. refl) (replicate n 0) (actsOf file)
       ∙ ap (listed file bases (replicate n 0)) (page-acts file hs pr even e)
-      ∙ ap (λ (t : List ℕ). listed file bases t (pageActs 0 0 hs)) u
-      ∙ records-on file bases (totalOf file) hs 0 0 [] (replicate (n - k) 0) (all-sized file hs pr even e) refl)
+      ∙ ap (λ (t : List ℕ). listed file bases t (pageActs 0 0 (20 + 4 * length hs) hs)) u
+      ∙ records-on file bases (totalOf file) hs 0 0 _ [] (replicate (n - k) 0) (all-sized file hs pr even e) refl)
       ∙ take-at (recordNumbers 0 0 hs bases) (replicate (n - k) 0) (4 * totalOf file) q
 
   -- the records
@@ -210,24 +209,24 @@ module _ (file : List ℕ) (hs : List Hunk) (pr : Program hs) (even : length fil
   pub page-bodies : (m : List ℕ) → bodiesOf file m ≡ imageOf hs ++ drop (4 * total hs) m
   page-bodies m =
       rw page-loaded
-      (pass-plain place1 (λ u. refl) (λ u a b c. refl) _ (actsOf file)
+      (pass-plain place1 (λ u. refl) _ (actsOf file)
       ∙ ap (placed (replicate (4 * total hs) 0 ++ drop (4 * total hs) m)) (page-acts file hs pr even e)
-      ∙ bodies-on (totalOf file) (sizeOf file) hs 0 0 [] (drop (4 * total hs) m) (all-sized file hs pr even e) refl)
+      ∙ bodies-on (totalOf file) (sizeOf file) hs 0 0 _ [] (drop (4 * total hs) m) (all-sized file hs pr even e) refl)
 
   -- loaded memory
   pub page-load : (bases m : List ℕ) → loadOf file bases m ≡ shiftAll (imageOf hs ++ drop (4 * total hs) m) (targetsOf file) (amountOf bases)
   page-load bases m = ap (λ (u : List ℕ). shiftAll u (targetsOf file) (amountOf bases)) (page-bodies m)
 
-  -- the targets
-  pub page-targets : map aimOf (targetsOf file) ≡ pageTargets 0 hs
-  page-targets = aims-plain (actsOf file) ∙ ap aims (page-acts file hs pr even e) ∙ aims-page 0 0 hs
+  -- the targets: place, hunk, and byte in the file
+  pub page-targets : targetsOf file ≡ map bare (fileTargets hs)
+  page-targets = targets-plain (actsOf file) ∙ ap targets (page-acts file hs pr even e) ∙ targets-page 0 0 (20 + 4 * length hs) hs
 
   -- a load and a move, by the page alone
-  page-relocated : (m : List ℕ) (f : ℕ → ℕ) → shiftAll m (targetsOf file) f ≡ relocated m (pageTargets 0 hs) f
-  page-relocated m f = relocated-aims m (targetsOf file) f ∙ ap (λ (ts : List (ℕ × ℕ)). relocated m ts f) page-targets
+  page-relocated : (m : List ℕ) (f : ℕ → ℕ) → shiftAll m (targetsOf file) f ≡ relocated m (fileTargets hs) f
+  page-relocated m f = ap (λ (ts : List Target). shiftAll m ts f) page-targets ∙ relocated-bare m (fileTargets hs) f
 
-  pub page-loads : (bases m : List ℕ) → loadOf file bases m ≡ relocated (imageOf hs ++ drop (4 * total hs) m) (pageTargets 0 hs) (amountOf bases)
+  pub page-loads : (bases m : List ℕ) → loadOf file bases m ≡ relocated (imageOf hs ++ drop (4 * total hs) m) (fileTargets hs) (amountOf bases)
   page-loads bases m = page-load bases m ∙ page-relocated (imageOf hs ++ drop (4 * total hs) m) (amountOf bases)
 
-  pub page-moves : (old new m : List ℕ) → moveOf file old new m ≡ relocated m (pageTargets 0 hs) (moved old new)
+  pub page-moves : (old new m : List ℕ) → moveOf file old new m ≡ relocated m (fileTargets hs) (moved old new)
   page-moves old new m = page-relocated m (moved old new)

@@ -1,4 +1,5 @@
--- What the contracts of `loader` cite. To read what a load and a move do: Memory, Table, Bases, Near, Calls.
+-- What the contracts of `loader` cite. To read what a load and a move do: Pages and Verdicts, in the terms of the page; Memory, Table, Bases,
+-- Near and Calls, as the contracts say it.
 -- loaded memory
 pub mod Memory
 -- the records of the hunks
@@ -11,7 +12,7 @@ pub mod Near
 pub mod Calls
 -- a load in the terms of the page
 pub mod Pages
--- which test refuses, and what it says
+-- when a call is accepted, and when 40, 41 and 42 are given
 pub mod Verdicts
 -- what the laws of moving speak of
 pub mod Moving

@@ -57,7 +57,7 @@ shift1 m f (Add p k b) = addAt m p (f k)
 abbrev pub amountOf : List ℕ → ℕ → ℕ
 amountOf l k = getD l k 0
 
--- hunks with no amount added yet: zeros where nothing is stored, and what stands behind the last hunk as it was
+-- hunks with no amount added yet: zeros where nothing is stored, and what stands after the last hunk as it was
 abbrev pub bodiesOf : List ℕ → List ℕ → List ℕ
 bodiesOf file m = placed (replicate (loadedOf file) 0 ++ drop (loadedOf file) m) (actsOf file)
 

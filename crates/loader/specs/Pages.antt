@@ -2,11 +2,11 @@
 use Prim.Native.Nat.{ℕ, zero, suc, _+_, _-_, _*_, _/_, _%_, _^_, _<_, _≤_}
 use mathlib.Core.Path.{_≡_}
 use mathlib.Core.Logic.{_⊎_}
-use mathlib.Core.List.{List, [], _∷_, _++_, map}
-use lib.ListN.{length, replicate, drop}
+use mathlib.Core.List.{List, [], _∷_, _++_}
+use lib.ListN.{length, replicate, take, drop}
 use Rattle.words.specs.Word.{wordAt, addAt}
 use Rattle.words.specs.Shift.{Target}
-use Rattle.program.specs.Page.{Body, Group, Part, Hunk, code, stores, bss, relocation, symbols, debug, joined, Each, storedWords, total}
+use Rattle.program.specs.Page.{Body, Group, Part, Hunk, code, stores, bss, relocation, symbols, debug, joined, nameWords, bodyWords, groupWords, partWords, hunkWords, Each, storedWords, total}
 use Rattle.loader.specs.Memory.{amountOf, moved}
 
 -- ---- records
@@ -35,46 +35,76 @@ hunkBytes h = joined wordBytes (storedWords (h .body)) ++ replicate (4 * (h .siz
 abbrev pub imageOf : List Hunk → List ℕ
 imageOf hs = joined hunkBytes hs
 
--- ---- targets: the place of a word in memory, and the hunk whose base it gets
+-- ---- targets
 
--- of a hunk at byte p
-abbrev pub groupTargets : ℕ → List Group → List (ℕ × ℕ)
-groupTargets p [] = []
-groupTargets p (g ∷ gs) = map (λ o. (p + o, g .hunk)) (g .offsets) ++ groupTargets p gs
+-- a target: the hunk that it stands in, its first byte in memory, the hunk whose base it gets, and the byte in the file of the offset that names it
+pub record PageTarget : Type 0 where
+  pub hunk : ℕ
+  pub place : ℕ
+  pub named : ℕ
+  pub byte : ℕ
 
-abbrev pub partTargets : ℕ → List Part → List (ℕ × ℕ)
-partTargets p [] = []
-partTargets p (relocation gs ∷ ps) = groupTargets p gs ++ partTargets p ps
-partTargets p (symbols us ∷ ps) = partTargets p ps
-partTargets p (debug ws ∷ ps) = partTargets p ps
+-- of hunk i, which stands at byte p of memory: the targets of offsets that get the base of hunk k; the first offset stands at byte `at` of the file
+abbrev pub offsetsAt : ℕ → ℕ → ℕ → ℕ → List ℕ → List PageTarget
+offsetsAt i p k at [] = []
+offsetsAt i p k at (o ∷ os) = record { hunk = i; place = p + o; named = k; byte = at } ∷ offsetsAt i p k (at + 4) os
 
--- of all hunks, in file order; the first stands at byte p
-abbrev pub pageTargets : ℕ → List Hunk → List (ℕ × ℕ)
-pageTargets p [] = []
-pageTargets p (h ∷ hs) = partTargets p (h .parts) ++ pageTargets (p + 4 * h .size) hs
+-- of groups from byte `at` on: in each, the offsets follow two words
+abbrev pub groupsAt : ℕ → ℕ → ℕ → List Group → List PageTarget
+groupsAt i p at [] = []
+groupsAt i p at (g ∷ gs) = offsetsAt i p (g .hunk) (at + 8) (g .offsets) ++ groupsAt i p (at + 4 * length (groupWords g)) gs
 
--- of hunk i alone
-abbrev pub targetsIn : ℕ → List Hunk → ℕ → List (ℕ × ℕ)
-targetsIn p [] i = []
-targetsIn p (h ∷ hs) zero = partTargets p (h .parts)
-targetsIn p (h ∷ hs) (suc i) = targetsIn (p + 4 * h .size) hs i
+-- of parts from byte `at` on: in a relocation the groups follow one word
+abbrev pub partsAt : ℕ → ℕ → ℕ → List Part → List PageTarget
+partsAt i p at [] = []
+partsAt i p at (relocation gs ∷ ps) = groupsAt i p (at + 4) gs ++ partsAt i p (at + 4 * length (partWords (relocation gs))) ps
+partsAt i p at (symbols us ∷ ps) = partsAt i p (at + 4 * length (partWords (symbols us))) ps
+partsAt i p at (debug ws ∷ ps) = partsAt i p (at + 4 * length (partWords (debug ws))) ps
 
--- place and hunk of a target that the file names
-abbrev pub aimOf : Target → ℕ × ℕ
-aimOf t = (t .place, t .key)
+-- of hunk i, from byte `at` of the file on: its parts follow its name and its body
+abbrev pub hunkAt : ℕ → ℕ → ℕ → Hunk → List PageTarget
+hunkAt i p at h = partsAt i p (at + 4 * length (nameWords (h .name) ++ bodyWords (h .body))) (h .parts)
+
+-- of hunks from number i on, the first at byte p of memory and at byte `at` of the file
+abbrev pub hunksAt : ℕ → ℕ → ℕ → List Hunk → List PageTarget
+hunksAt i p at [] = []
+hunksAt i p at (h ∷ hs) = hunkAt i p at h ++ hunksAt (i + 1) (p + 4 * h .size) (at + 4 * length (hunkWords h)) hs
+
+-- all targets in file order: the hunks follow five words and a size for each
+abbrev pub fileTargets : List Hunk → List PageTarget
+fileTargets hs = hunksAt 0 0 (20 + 4 * length hs) hs
+
+-- the same as three numbers, without the hunk that it stands in
+abbrev pub bare : PageTarget → Target
+bare t = record { place = t .place; key = t .named; byte = t .byte }
+
+-- hunk i's size in words
+abbrev pub sizeAt : List Hunk → ℕ → ℕ
+sizeAt [] i = 0
+sizeAt (h ∷ hs) zero = h .size
+sizeAt (h ∷ hs) (suc i) = sizeAt hs i
+
+-- hunk i's first byte in memory: the hunks before it stand end to end
+abbrev pub hunkPlace : List Hunk → ℕ → ℕ
+hunkPlace hs i = 4 * total (take i hs)
+
+-- the file's word at the target's byte is its offset: it is counted from the hunk's first byte, and four bytes from there on lie in the hunk
+pub record Named (file : List ℕ) (hs : List Hunk) (x : PageTarget) : Type 0 where
+  pub place : x .place ≡ hunkPlace hs (x .hunk) + wordAt file (x .byte)
+  pub within : wordAt file (x .byte) + 4 ≤ 4 * sizeAt hs (x .hunk)
 
 -- each target gets its amount, one after the other
-unfoldable pub relocated : List ℕ → List (ℕ × ℕ) → (ℕ → ℕ) → List ℕ
+unfoldable pub relocated : List ℕ → List PageTarget → (ℕ → ℕ) → List ℕ
 relocated m [] f = m
-relocated m (t ∷ ts) f = relocated (addAt m (t .0) (f (t .1))) ts f
+relocated m (t ∷ ts) f = relocated (addAt m (t .place) (f (t .named))) ts f
 
 -- the word at each target in m′ is that in m and the target's amount, modulo 2^32
-abbrev pub Adds : List ℕ → List ℕ → List (ℕ × ℕ) → (ℕ → ℕ) → Type 0
-Adds m m′ ts f = Each (λ t. wordAt m′ (t .0) ≡ (wordAt m (t .0) + f (t .1)) % 2 ^ 32) ts
+abbrev pub Adds : List ℕ → List ℕ → List PageTarget → (ℕ → ℕ) → Type 0
+Adds m m′ ts f = Each (λ t. wordAt m′ (t .place) ≡ (wordAt m (t .place) + f (t .named)) % 2 ^ 32) ts
 
 -- byte k is no byte of a target
-abbrev pub Outside : ℕ → List (ℕ × ℕ) → Type 0
-Outside k ts = Each (λ t. (k < t .0) ⊎ (t .0 + 4 ≤ k)) ts
+abbrev pub Outside : ℕ → List PageTarget → Type 0
+Outside k ts = Each (λ t. (k < t .place) ⊎ (t .place + 4 ≤ k)) ts
 
 -- ---- an accepted call: x hunks, n bytes
 
@@ -86,12 +116,12 @@ placedHunks hs m = imageOf hs ++ drop (4 * total hs) m
 pub record LoadedPage (hs : List Hunk) (bases m t : List ℕ) (x n : ℕ) (m′ t′ : List ℕ) : Type 0 where
   pub hunks : x ≡ length hs
   pub bytes : n ≡ 4 * total hs
-  pub memory : m′ ≡ relocated (placedHunks hs m) (pageTargets 0 hs) (amountOf bases)
+  pub memory : m′ ≡ relocated (placedHunks hs m) (fileTargets hs) (amountOf bases)
   pub table : t′ ≡ recordNumbers 0 0 hs bases ++ drop (4 * length hs) t
 
 -- a move leaves m′ and t′
 pub record MovedPage (hs : List Hunk) (old new m t : List ℕ) (x n : ℕ) (m′ t′ : List ℕ) : Type 0 where
   pub hunks : x ≡ length hs
   pub bytes : n ≡ 4 * total hs
-  pub memory : m′ ≡ relocated m (pageTargets 0 hs) (moved old new)
+  pub memory : m′ ≡ relocated m (fileTargets hs) (moved old new)
   pub table : t′ ≡ recordNumbers 0 0 hs new ++ drop (4 * length hs) t

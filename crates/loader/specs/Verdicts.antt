@@ -1,94 +1,124 @@
--- What the answers of a load and a move say: when a call is accepted, which test refuses it, and what 40, 41 and 42 say of bases, room and
--- targets (the build paper, "The program file" and "Numbers").
-use Prim.Native.Nat.{ℕ, _+_, _%_, _^_, _<_, _≤_}
+-- What the answers of a load and a move say, in the terms of the page: when a call is accepted, and when 40, 41 and 42 are given (the build
+-- paper, "The program file" and "Numbers").
+use Prim.Native.Nat.{ℕ, _+_, _*_, _%_, _^_, _<_, _≤_}
 use mathlib.Core.Path.{_≡_}
 use mathlib.Core.Logic.{_≢_, _⊎_}
 use mathlib.Core.List.{List, [], _∷_, _++_}
-use mathlib.Core.Bool.{true, false}
 use lib.ListN.{length}
-use Rattle.words.specs.Shift.{Target}
 use Rattle.answers.specs.Refusals.{refusal}
 use Rattle.answers.specs.declared.Refusal.{Refusal}
-use Rattle.answers.specs.declared.Tested.the-variants.{Passed, Failed}
 use Rattle.program.specs.declared.check.Answer.{Answer}
 use Rattle.program.specs.declared.check.Answer.the-variants.{Accepted, Refused}
-use Rattle.program.specs.Header.{totalOf}
+use Rattle.program.specs.Page.{Hunk, Each, Holds, total}
 use Rattle.program.specs.Check.{checkOf}
-use Rattle.loader.specs.Memory.{loadedOf, amountOf}
-use Rattle.loader.specs.Bases.{topOf, entryBad, basesFault}
-use Rattle.loader.specs.Near.{clash, clashOf}
-use Rattle.loader.specs.Calls.{roomFault}
+use Rattle.loader.specs.Memory.{amountOf}
+use Rattle.loader.specs.Pages.{PageTarget, fileTargets, sizeAt}
 
 -- an answer that accepts
 abbrev pub Accepts : Answer → Type 0
 Accepts a = (t : ℕ) × (n : ℕ) × (a ≡ Accepted t n)
 
--- a refusal with number v
-abbrev pub Gives : Answer → Refusal → ℕ → Type 0
-Gives a f v = (a ≡ Refused f) × (f .number ≡ v)
+-- ---- 40: bases, where hunk k takes `size k` words
 
--- memory and work area for every word of the header's sizes, and a record for each hunk
-pub record Room (file : List ℕ) (memory records work : ℕ) : Type 0 where
-  pub memory-fits : loadedOf file ≤ memory
-  pub records-fit : totalOf file ≤ records
-  pub work-fits : loadedOf file ≤ work
+-- address a is one of hunk i's
+abbrev pub Owns : (ℕ → ℕ) → List ℕ → ℕ → ℕ → Type 0
+Owns size bases i a = (amountOf bases i ≤ a) × (a < amountOf bases i + 4 * size i)
 
--- ---- the tests in their order
+-- hunks i and j share an address
+abbrev pub Shared : (ℕ → ℕ) → List ℕ → ℕ → ℕ → Type 0
+Shared size bases i j = (a : ℕ) × Owns size bases i a × Owns size bases j a
 
--- a load's refusal: of the file, else of the bases, else of the room, else of near targets
-abbrev pub LoadWhy : List ℕ → List ℕ → ℕ → ℕ → ℕ → Refusal → Type 0
-LoadWhy file bases m r w f =
-    (checkOf file ≡ Refused f)
-    ⊎ (Accepts (checkOf file) × (basesFault file bases 0 ≡ Failed f))
-    ⊎ (Accepts (checkOf file) × (basesFault file bases 0 ≡ Passed) × (roomFault (totalOf file) (loadedOf file) m r w ≡ Failed f))
-    ⊎ (Accepts (checkOf file) × (basesFault file bases 0 ≡ Passed) × (roomFault (totalOf file) (loadedOf file) m r w ≡ Passed) × (clashOf file ≡ Failed f))
+-- entry i is as it must be: a multiple of 4, base plus size in bytes at most 2^32, no address shared with an earlier entry
+pub record GoodEntry (size : ℕ → ℕ) (bases : List ℕ) (i : ℕ) : Type 0 where
+  pub multiple : amountOf bases i % 4 ≡ 0
+  pub below : amountOf bases i + 4 * size i ≤ 2 ^ 32
+  pub alone : (j : ℕ) → j < i → Shared size bases i j → ⊥
 
--- a move's: the old list, then the new one, which counts on from T
-abbrev pub MoveWhy : List ℕ → List ℕ → List ℕ → ℕ → ℕ → ℕ → Refusal → Type 0
-MoveWhy file old new m r w f =
-    (checkOf file ≡ Refused f)
-    ⊎ (Accepts (checkOf file) × (basesFault file old 0 ≡ Failed f))
-    ⊎ (Accepts (checkOf file) × (basesFault file old 0 ≡ Passed) × (basesFault file new (totalOf file) ≡ Failed f))
-    ⊎ (Accepts (checkOf file) × (basesFault file old 0 ≡ Passed) × (basesFault file new (totalOf file) ≡ Passed) × (roomFault (totalOf file) (loadedOf file) m r w ≡ Failed f))
-    ⊎ (Accepts (checkOf file) × (basesFault file old 0 ≡ Passed) × (basesFault file new (totalOf file) ≡ Passed) × (roomFault (totalOf file) (loadedOf file) m r w ≡ Passed) × (clashOf file ≡ Failed f))
+-- what is wrong with entry i
+abbrev pub BadEntry : (ℕ → ℕ) → List ℕ → ℕ → Type 0
+BadEntry size bases i =
+    (amountOf bases i % 4 ≢ 0) ⊎ (2 ^ 32 < amountOf bases i + 4 * size i) ⊎ ((j : ℕ) × (j < i) × Shared size bases i j)
 
--- ---- 40
+-- exactly a base for each hunk, and every entry is good
+pub record GoodBases (hs : List Hunk) (bases : List ℕ) : Type 0 where
+  pub count : length bases ≡ length hs
+  pub entries : (i : ℕ) → i < length hs → GoodEntry (sizeAt hs) bases i
 
--- some address lies in hunk i and in hunk j
-abbrev pub Shared : List ℕ → List ℕ → ℕ → ℕ → Type 0
-Shared file bases i j =
-    (a : ℕ)
-    × (amountOf bases i ≤ a)
-    × (a < topOf file bases i)
-    × (amountOf bases j ≤ a)
-    × (a < topOf file bases j)
+-- 40 at place p, of a list whose entries count from `from`: the count is wrong, at the list's entry 0; or the first bad entry
+abbrev pub BadBases : List Hunk → List ℕ → ℕ → ℕ → Type 0
+BadBases hs bases from p =
+    ((length bases ≢ length hs) × (p ≡ from))
+    ⊎ ((length bases ≡ length hs) × ((i : ℕ) × (i < length hs) × BadEntry (sizeAt hs) bases i × ((j : ℕ) → j < i → GoodEntry (sizeAt hs) bases j) × (p ≡ from + i)))
 
--- entry i is no multiple of 4; or the hunk ends above 2^32; or it shares an address with an earlier one
-abbrev pub EntryWhy : List ℕ → List ℕ → ℕ → Type 0
-EntryWhy file bases i =
-    (amountOf bases i % 4 ≢ 0) ⊎ (2 ^ 32 < topOf file bases i) ⊎ ((j : ℕ) × (j < i) × Shared file bases i j)
+-- of the lists that a call is lent, in order: the first that is bad; each counts on from the one before
+abbrev pub FirstBad : List Hunk → ℕ → List (List ℕ) → ℕ → Type 0
+FirstBad hs from [] p = ⊥
+FirstBad hs from (l ∷ ls) p = BadBases hs l from p ⊎ (GoodBases hs l × FirstBad hs (from + length hs) ls p)
 
--- the list has another length; else entry i is bad, and none before it
-abbrev pub BasesWhy : List ℕ → List ℕ → ℕ → Refusal → Type 0
-BasesWhy file bases from f =
-    ((f ≡ refusal 40 from) × (length bases ≢ totalOf file))
-    ⊎ ((length bases ≡ totalOf file) × ((i : ℕ) × (i < totalOf file) × (f ≡ refusal 40 (from + i)) × (entryBad file bases i ≡ true) × ((j : ℕ) → j < i → entryBad file bases j ≡ false)))
+-- ---- 41: room, where t hunks take n bytes
 
--- ---- 42
+-- memory and work area for every byte, and a record for each hunk
+pub record Room (t n memory records work : ℕ) : Type 0 where
+  pub memory-fits : n ≤ memory
+  pub records-fit : t ≤ records
+  pub work-fits : n ≤ work
 
+-- memory, records or work area is short
+abbrev pub Short : ℕ → ℕ → ℕ → ℕ → ℕ → Type 0
+Short t n memory records work = (memory < n) ⊎ (records < t) ⊎ (work < n)
+
+-- ---- 42: near targets
+
+-- two targets of one hunk, less than 4 bytes apart
+abbrev pub Near : PageTarget → PageTarget → Type 0
+Near x y = (x .hunk ≡ y .hunk) × (x .place < y .place + 4) × (y .place < x .place + 4)
+
+-- no target is near another of the list
+abbrev pub Spaced : List PageTarget → Type 0
+Spaced [] = Unit {0}
+Spaced (x ∷ xs) = Each (λ y. Near x y → ⊥) xs × Spaced xs
+
+-- u is one of the list
 abbrev pub Member : {A : Type 0} → A → List A → Type 0
 Member u [] = ⊥
 Member u (x ∷ xs) = (u ≡ x) ⊎ Member u xs
 
--- a target is the first that has less than 4 bytes to one before it, the other
-pub record ClashWhy (ts : List Target) (f : Refusal) : Type 0 where
-  pub before : List Target
-  pub target : Target
-  pub behind : List Target
-  pub split : ts ≡ before ++ (target ∷ behind)
-  pub said : f ≡ refusal 42 (target .byte)
-  pub first : clash [] before ≡ Passed
-  pub other : Target
-  pub among : Member other before
-  pub below : target .place < other .place + 4
-  pub above : other .place < target .place + 4
+-- the first target in file order that is near an earlier one: the file names it at byte p
+pub record FirstNear (hs : List Hunk) (p : ℕ) : Type 0 where
+  pub before : List PageTarget
+  pub target : PageTarget
+  pub after : List PageTarget
+  pub split : fileTargets hs ≡ before ++ (target ∷ after)
+  pub spaced : Spaced before
+  pub other : PageTarget
+  pub earlier : Member other before
+  pub near : Near target other
+  pub place : p ≡ target .byte
+
+-- ---- a call
+
+-- a call that is lent these lists of bases (a load one, a move the old and the new) is accepted, with t hunks and n bytes
+pub record Takes (hs : List Hunk) (lists : List (List ℕ)) (memory records work t n : ℕ) : Type 0 where
+  pub hunks : t ≡ length hs
+  pub bytes : n ≡ 4 * total hs
+  pub bases : Each (GoodBases hs) lists
+  pub room : Room (length hs) (4 * total hs) memory records work
+  pub spaced : Spaced (fileTargets hs)
+
+-- 40, 41 and 42 at place p, each where the tests before it pass
+abbrev pub Refuses40 : List Hunk → List (List ℕ) → ℕ → Type 0
+Refuses40 hs lists p = FirstBad hs 0 lists p
+
+abbrev pub Refuses41 : List Hunk → List (List ℕ) → ℕ → ℕ → ℕ → ℕ → Type 0
+Refuses41 hs lists memory records work p =
+    Each (GoodBases hs) lists × Short (length hs) (4 * total hs) memory records work × (p ≡ 0)
+
+abbrev pub Refuses42 : List Hunk → List (List ℕ) → ℕ → ℕ → ℕ → ℕ → Type 0
+Refuses42 hs lists memory records work p =
+    Each (GoodBases hs) lists × Room (length hs) (4 * total hs) memory records work × FirstNear hs p
+
+-- any refusal: of the file; else, of the hunks that it holds, 40, 41 or 42 at a place
+abbrev pub CallWhy : List ℕ → List (List ℕ) → ℕ → ℕ → ℕ → Refusal → Type 0
+CallWhy file lists memory records work f =
+    (checkOf file ≡ Refused f)
+    ⊎ ((hs : List Hunk) × Holds file hs × (p : ℕ) × (((f ≡ refusal 40 p) × Refuses40 hs lists p) ⊎ ((f ≡ refusal 41 p) × Refuses41 hs lists memory records work p) ⊎ ((f ≡ refusal 42 p) × Refuses42 hs lists memory records work p)))

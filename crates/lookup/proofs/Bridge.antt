@@ -1,4 +1,4 @@
--- Every reached entry of a volume has a path, and is found by it with its own key and kind (`reached-lies`, `reached-found`). Assumes
+-- Every reached entry of a tree has a path, and is found by it with its own key and kind (`reached-lies`, `reached-found`). Assumes
 -- nothing.
 use Prim.Native.Nat.{ℕ, suc, _+_, _-_, _≤_, _<_}
 use mathlib.Core.Path.{_≡_, refl, sym, ap, _∙_, subst}
@@ -17,15 +17,16 @@ use Rattle.volume.specs.Blocks.{slots, wordOf, slotWord, directory}
 use Rattle.volume.specs.Names.{folded, slotOf, nameOf}
 use Rattle.volume.specs.Files.{keysHere, sizeOf, blocksOf}
 use Rattle.volume.specs.References.{Kind, Ref, to, references}
-use Rattle.volume.specs.Law.{chainKey, Hangs, Volume}
+use Rattle.volume.specs.Law.{chainKey, Hangs, Tree}
 use Rattle.volume.proofs.Passes.{root-passes}
+use Rattle.volume.proofs.Breaks.{root-sound}
 use Rattle.walk.specs.Nodes.{Node, root, bitmap, entry, list, datum, bare, chained, slotNodes, before, keyNodes, listing, listed, contents, leadsTo, graph}
 use Rattle.walk.proofs.Nodes.{in-linked, in-slots, in-keys}
 use Rattle.walk.proofs.Accepts.{block-reached, node-reached}
 use Rattle.walk.proofs.Chains.{chain-some}
 use Rattle.walk.proofs.Places.{Holder, chain-apart}
 use Rattle.walk.proofs.Coherent.{Coherent, leads-coherent}
-use Rattle.walk.proofs.Lawful.{volume-fine}
+use Rattle.walk.proofs.Lawful.{held-by, tree-fine}
 use Rattle.lookup.specs.declared.find.Found.the-variants.{Directory, File}
 use Rattle.lookup.specs.Paths.{longestPath, components, isComponent}
 use Rattle.lookup.specs.Search.{placeKey}
@@ -33,7 +34,7 @@ use Rattle.lookup.specs.Lookup.{refuse, findOf}
 use Rattle.lookup.specs.Trails.{Tests, Equal, First, Trail, stay, down, Names, none, into, Lies, pathOf}
 use Rattle.lookup.specs.Verdicts.{long, Opened, number-18}
 use Rattle.lookup.proofs.Refusing.{refused-exactly, directory-exactly, file-exactly}
-use Rattle.lookup.proofs.OnVolumes.{held-by, place-tests, first-reached}
+use Rattle.lookup.proofs.OnTrees.{place-tests, first-reached}
 use Rattle.lookup.proofs.Joins.{Components, name-component, components-joined, joined-form}
 
 -- ---- the path of an entry
@@ -42,7 +43,7 @@ names-end : (s : List ℕ) {t b : ℕ} {cs : List (List ℕ)} → Names s t cs b
 names-end s none i k h e = into i h e none
 names-end s (into j g f r) i k h e = into j g f (names-end s r i k h e)
 
-module _ (d : Disk) (s : List ℕ) (v : Volume d s) where
+module _ (d : Disk) (s : List ℕ) (v : Tree d s) where
   -- ---- every reached entry has one
 
   -- the directory on whose chain an entry hangs has its names
@@ -91,11 +92,11 @@ module _ (d : Disk) (s : List ℕ) (v : Volume d s) where
       go : Coherent d s m × Led m → Coherent d s n × Led n
       go w =
           let a = at-in n i (leadsTo d s m) h in
-          (leads-coherent d s m (block-reached d s (volume-fine d s v) r) (v .files) (w .0) n a, leads-led m (w .0) (w .1) n a)
+          (leads-coherent d s m (block-reached d s (tree-fine d s v) r) (v .files) (w .0) n a, leads-led m (w .0) (w .1) n a)
 
   -- Every reached entry hangs below the root by the names of directories.
   pub reached-lies : (k : ℕ) → Reached (references d s) (to Kind.entry k) → Lies s (rootOf d) k
-  reached-lies k r = let w = node-reached d s (volume-fine d s v) r in go (w .0) (led (w .1)) (w .2)
+  reached-lies k r = let w = node-reached d s (tree-fine d s v) r in go (w .0) (led (w .1)) (w .2)
     where
       go : (n : Node) → Coherent d s n × Led n → to Kind.entry k ≡ bare d n → Lies s (rootOf d) k
       go root w e = let f : Kind.entry ≡ Kind.root = ap (λ (r : Ref). r .kind) e in impossible cc
@@ -180,7 +181,7 @@ module _ (d : Disk) (s : List ℕ) (v : Volume d s) where
         go (inr (inr a)) = absurd a
 
     opens : length (pathOf s (rootOf d) k h) ≤ longestPath → Opened d s (pathOf s (rootOf d) k h)
-    opens l = record { long = v .long; form = joined-form names good l; tag = v .tag; root = root-passes d s (v .sums (to Kind.root (rootOf d)) (top refl)) (v .top) .0 }
+    opens l = record { long = v .long; form = joined-form names good l; tag = v .tag; root = root-sound d s .0 (root-passes d s (v .sums (to Kind.root (rootOf d)) (top refl)) (v .top)) }
 
     parts : components (pathOf s (rootOf d) k h) ≡ names
     parts = components-joined names good

@@ -1,6 +1,7 @@
 -- Laws of the search of one chain. Assumes nothing.
 use Prim.Native.Nat.{ℕ, zero, suc, _+_, _-_, _≤_, _<_}
 use mathlib.Core.Path.{_≡_, refl, sym, ap, _∙_}
+use mathlib.Core.Logic.{_≢_}
 use mathlib.Core.Bool.{Bool, true, false}
 use mathlib.Core.List.{List}
 use native.Mathlib.Omega.{arith}
@@ -21,9 +22,11 @@ use Rattle.volume.specs.Law.{after, chainKey}
 use Rattle.volume.proofs.Sizes.{range-is}
 use Rattle.volume.proofs.Names.{name-short}
 use Rattle.volume.proofs.Passes.{entry-passed}
+use Rattle.volume.proofs.Breaks.{key-inside, entry-sound}
 use Rattle.lookup.specs.declared.chain.Step.{Step}
 use Rattle.lookup.specs.declared.chain.Step.the-variants.{At, Ended, Fault}
 use Rattle.lookup.specs.Search.{placeKey, placeFault, visit, searchFrom, searchOf}
+use Rattle.lookup.specs.Trails.{Tests}
 use Rattle.lookup.proofs.Splits.{whole}
 
 -- ---- the tests of a key: t is whether it is in range, l the chain limit
@@ -64,6 +67,23 @@ key-passed d s t i p k e =
     record { ranged = must-passed _ 4 (a .0); near = ltb-true _ _ (must-passed _ 5 (b .0)); fine = first-zero _ _ (b .1) .0 }
 
 -- ---- place by place
+
+-- what the tests of place p say
+abbrev pub faultAt : Disk → List ℕ → ℕ → List ℕ → ℕ → ℕ
+faultAt d s t name p = placeFault d s t (slotOf d name) p (placeKey d s t name p)
+
+-- they pass exactly if it has an entry as the law asks
+module _ (d : Disk) (s : List ℕ) (t : ℕ) (name : List ℕ) (p : ℕ) where
+  pub tests-pass : Tests d s t name p → faultAt d s t name p ≡ 0
+  tests-pass h =
+      let k = placeKey d s t name p in
+      sym (key-own d s t (slotOf d name) p k true (sym (key-inside d k .1 (h .inside))) refl (chainLimit d) refl (h .near) 0 (sym (entry-sound d s k t (slotOf d name) .1 (h .placed))))
+
+  pub pass-tests : placeKey d s t name p ≢ 0 → faultAt d s t name p ≡ 0 → Tests d s t name p
+  pass-tests z e =
+      let k = placeKey d s t name p in
+      let h = key-passed d s t (slotOf d name) p k e in
+      record { some = z; inside = key-inside d k .0 (h .ranged); near = h .near; placed = entry-sound d s k t (slotOf d name) .0 (h .fine) }
 
 pub slot-below : (d : Disk) (xs : List ℕ) (i : ℕ) → i ≡ slotOf d xs → i < slots
 unfolding slotOf

@@ -19,11 +19,12 @@ use Rattle.words.specs.Word.{wordAt}
 use Rattle.volume.specs.declared.disk.Disk.{Disk}
 use Rattle.volume.specs.Disks.{imageBytes, tagOf, rootOf}
 use Rattle.volume.specs.Rules.{rootFault}
+use Rattle.volume.proofs.Breaks.{root-sound}
 use Rattle.lookup.specs.declared.find.Found.{Found}
 use Rattle.lookup.specs.declared.find.Found.the-variants.{Refused}
 use Rattle.lookup.specs.Paths.{longestPath, components, isComponent, componentsFault, pathFault}
 use Rattle.lookup.specs.Lookup.{numbersOf, refuse, lookupFrom, fromRoot, and, findOf, Finds}
-use Rattle.lookup.specs.Verdicts.{BadComponent, BadForm, long, component, Opened}
+use Rattle.lookup.specs.Verdicts.{GoodForm, BadComponent, BadForm, long, component, Opened}
 use Rattle.lookup.proofs.Trails.{Leads, leads, leads-only}
 
 -- ---- the form of a path
@@ -74,6 +75,30 @@ form-exactly path v i = (there (ltb longestPath (length path)) refl, λ h. back 
     back x (long l e) = rw (lt-ltb _ _ l, x, e)
     back x (component l w) = rw (le-ltb longestPath (length path) l, x) (ap (componentsFault 0) (w .parts) ∙ bad-found 0 i (w .front) (w .name) (w .back) (w .good) (w .bad) (w .number))
 
+good-passed : (n : ℕ) (cs : List (List ℕ)) → componentsFault n cs ≡ Passed → (c : List ℕ) → c ∈ cs → isComponent c ≡ true
+unfolding componentsFault pick
+good-passed n [] e c m = absurd m
+good-passed n (b ∷ cs) e c m = go (isComponent b) refl e m (good-passed (n + 1) cs)
+  where
+    go : (t : Bool) → isComponent b ≡ t → pick t (componentsFault (n + 1) cs) (Failed (refusal 18 n)) ≡ Passed → c ∈ (b ∷ cs) → (componentsFault (n + 1) cs ≡ Passed → (c : List ℕ) → c ∈ cs → isComponent c ≡ true) → isComponent c ≡ true
+    go true q e (inl y) ih = rw y q
+    go true q e (inr y) ih = ih e c y
+    go false q e m ih = impossible cc
+
+good-passes : (n : ℕ) (cs : List (List ℕ)) → ((c : List ℕ) → c ∈ cs → isComponent c ≡ true) → componentsFault n cs ≡ Passed
+unfolding componentsFault pick
+good-passes n [] h = refl
+good-passes n (c ∷ cs) h = rw (h c (inl refl)) (good-passes (n + 1) cs (λ x m. h x (inr m)))
+
+-- and the form passes exactly if it is good
+pub form-good : (path : List ℕ) → (pathFault path ≡ Passed) ↔ GoodForm path
+unfolding pathFault pick
+form-good path = (there (ltb longestPath (length path)) refl, λ h. rw (le-ltb longestPath (length path) (h .short)) (good-passes 0 (components path) (h .good)))
+  where
+    there : (b : Bool) → ltb longestPath (length path) ≡ b → pick b (Failed (refusal 18 0)) (componentsFault 0 (components path)) ≡ Passed → GoodForm path
+    there true q e = impossible cc
+    there false q e = record { short = ltb-false _ _ q; good = good-passed 0 (components path) e }
+
 -- ---- the whole call
 
 -- what the answer r says
@@ -90,7 +115,7 @@ module _ (d : Disk) (s path : List ℕ) where
 
   opened : Opened d s path → findOf d s path ≡ looked
   unfolding findOf fromRoot pick
-  opened h = rw (eq-eqb _ _ (h .long), h .form, eq-eqb _ _ (h .tag), eq-eqb _ 0 (h .root))
+  opened h = rw (eq-eqb _ _ (h .long), form-good path .1 (h .form), eq-eqb _ _ (h .tag), eq-eqb _ 0 (root-sound d s .1 (h .root)))
 
   -- every answer has one of these reasons
   pub find-why : Why d s path (findOf d s path)
@@ -102,7 +127,7 @@ module _ (d : Disk) (s path : List ℕ) where
       go true p (Failed f) q b u c v = form (eqb-true _ _ p) f q refl
       go true p Passed q false u c v = tag (eqb-true _ _ p) q (eqb-false _ _ u) refl
       go true p Passed q true u false v = root (eqb-true _ _ p) q (eqb-true _ _ u) (eqb-false _ _ v) refl
-      go true p Passed q true u true v = leads-to (record { long = eqb-true _ _ p; form = q; tag = eqb-true _ _ u; root = eqb-true _ _ v }) (leads d s (rootOf d) 0 0 (components path))
+      go true p Passed q true u true v = leads-to (record { long = eqb-true _ _ p; form = form-good path .0 q; tag = eqb-true _ _ u; root = root-sound d s .0 (eqb-true _ _ v) }) (leads d s (rootOf d) 0 0 (components path))
 
   -- and no answer but the call's own has any
   pub why-find : (r : Found) → Why d s path r → r ≡ findOf d s path

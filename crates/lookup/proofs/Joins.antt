@@ -8,14 +8,14 @@ use native.Mathlib.Omega.{arith}
 use lib.Dec.{leb, eqb}
 use lib.ListN.{length, length-append}
 use lib.Seq.{length-slice}
-use borrow.Author.Tests.{eqb-true, le-ltb, leb-true}
+use borrow.Author.Tests.{eqb-true, leb-true}
 use Rattle.answers.specs.Tests.{pick}
-use Rattle.answers.specs.declared.Tested.the-variants.{Passed}
 use Rattle.answers.proofs.Clashes.{impossible}
 use Rattle.reach.specs.References.{_∈_}
 use Rattle.volume.specs.Blocks.{Holds}
 use Rattle.volume.specs.Names.{allowed, longest, nameLength, nameFrom, nameOf, nameGood}
-use Rattle.lookup.specs.Paths.{longestPath, slash, onto, split, components, joined, isComponent, componentsFault, pathFault}
+use Rattle.lookup.specs.Paths.{longestPath, slash, onto, split, components, joined, isComponent}
+use Rattle.lookup.specs.Verdicts.{GoodForm}
 use Rattle.lookup.proofs.Splits.{path-components}
 
 -- the components of a path, joined again, are the path
@@ -113,11 +113,5 @@ components-joined (c ∷ cs) h = sym (path-components (joined (c ∷ cs)) (λ e.
 
 -- ---- the form of what was joined
 
-form-good : (i : ℕ) (cs : List (List ℕ)) → Components cs → componentsFault i cs ≡ Passed
-unfolding componentsFault pick
-form-good i [] h = refl
-form-good i (c ∷ cs) h = rw (h c (inl refl)) (form-good (i + 1) cs (λ x m. h x (inr m)))
-
-pub joined-form : (cs : List (List ℕ)) → Components cs → length (joined cs) ≤ longestPath → pathFault (joined cs) ≡ Passed
-unfolding pathFault pick
-joined-form cs h l = rw (le-ltb longestPath (length (joined cs)) l, components-joined cs h) (form-good 0 cs h)
+pub joined-form : (cs : List (List ℕ)) → Components cs → length (joined cs) ≤ longestPath → GoodForm (joined cs)
+joined-form cs h l = record { short = l; good = rw (components-joined cs h) h }

@@ -13,13 +13,15 @@ pub mod Trails
 pub mod Deciding
 -- each number exactly then
 pub mod Refusing
--- `chain-few`: no chain of a volume is longer than the limit
+-- `found-few`: a lookup compares at most as many entries for each component as a chain may have
+pub mod Compared
+-- `chain-few`: no chain of a tree is longer than the limit
 pub mod Rooms
--- `volume-answers`: on a volume a lookup gives an answer, 18, 19 or 20
-pub mod OnVolumes
+-- `tree-answers`: in a tree a lookup gives an answer, 18, 19 or 20
+pub mod OnTrees
 -- names joined by '/'
 pub mod Joins
--- `reached-lies`, `reached-found`: every reached entry of a volume is found by its path
+-- `reached-lies`, `reached-found`: every reached entry of a tree is found by its path
 pub mod Bridge
 -- the answer as numbers: `number-listed`, `zero-exactly`
 pub mod AsNumbers

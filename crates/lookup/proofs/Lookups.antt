@@ -17,9 +17,9 @@ use Rattle.volume.specs.declared.disk.Disk.{Disk}
 use Rattle.volume.proofs.Sizes.{floppy-sized as sized}
 use Rattle.volume.specs.Disks.{Sized, floppy, imageBytes, tagOf, rootOf, chainLimit}
 use Rattle.volume.specs.Blocks.{Holds, directory}
-use Rattle.volume.specs.Names.{slotOf}
 use Rattle.volume.specs.Files.{sizeOf}
 use Rattle.volume.specs.Rules.{rootFault}
+use Rattle.volume.proofs.Breaks.{key-inside}
 use Rattle.lookup.specs.declared.chain.Step.{Step}
 use Rattle.lookup.specs.declared.chain.Step.the-variants.{At, Ended, Fault}
 use Rattle.lookup.specs.declared.find.Found.{Found}
@@ -29,7 +29,7 @@ use Rattle.lookup.specs.Parts.{FirstSlash, Searches, Looks}
 use Rattle.lookup.specs.Search.{searchOf}
 use Rattle.lookup.specs.Lookup.{numbersOf, refuse, fileAt, stepped, lookupFrom, fromRoot, and, findOf, Finds}
 use Rattle.lookup.proofs.Splits.{split-more, split-end, path-components}
-use Rattle.lookup.proofs.Chains.{key-passed, range-holds}
+use Rattle.lookup.proofs.Chains.{range-holds}
 use Rattle.lookup.proofs.Places.{first-equal-name, compared-most}
 
 -- ---- an entry that a search came to
@@ -41,8 +41,7 @@ pub record Came (d : Disk) (s : List ℕ) (k m : ℕ) : Type 0 where
 pub came : (d : Disk) (s : List ℕ) (t : ℕ) (name : List ℕ) (step : Step) (k m : ℕ) → step ≡ searchOf d s t name → step ≡ At k m → Came d s k m
 came d s t name step k m e f =
     let h = first-equal-name d s t name k m .0 (sym e ∙ f) in
-    let p = key-passed d s t (slotOf d name) (h .0) _ (h .1 .tests .fine) in
-    record { few = compared-most d s t name k m (sym e ∙ f); holds = λ w. rw (h .2) (range-holds d s _ true w (sym (p .ranged)) refl) }
+    record { few = compared-most d s t name k m (sym e ∙ f); holds = λ w. rw (h .2) (range-holds d s _ true w (sym (key-inside d _ .1 (h .1 .tests .inside))) refl) }
 
 -- ---- the first component of xs ends at k, and `step` is what its search came to
 

@@ -13,13 +13,13 @@ use Rattle.answers.specs.Refusals.{refusal}
 use Rattle.answers.proofs.Clashes.{impossible}
 use Rattle.volume.specs.declared.disk.Disk.{Disk}
 use Rattle.volume.specs.Disks.{chainLimit}
-use Rattle.volume.specs.Names.{slotOf, same, nameOf}
+use Rattle.volume.specs.Names.{same, nameOf}
 use Rattle.volume.proofs.Names.{same-map, map-same}
 use Rattle.lookup.specs.declared.chain.Step.{Step}
 use Rattle.lookup.specs.declared.chain.Step.the-variants.{At, Ended, Fault}
 use Rattle.lookup.specs.Search.{placeKey, visit, searchFrom, searchOf}
-use Rattle.lookup.specs.Trails.{faultAt, Tests, Equal, Others, First, Over}
-use Rattle.lookup.proofs.Chains.{key-passed}
+use Rattle.lookup.specs.Trails.{Tests, Equal, Others, First, Over}
+use Rattle.lookup.proofs.Chains.{faultAt, tests-pass, pass-tests}
 
 -- place p ends the search: it has the name, or none, or an entry that fails its tests
 pub data Decides (d : Disk) (s : List ℕ) (t : ℕ) (name : List ℕ) (p : ℕ) (r : Step) : Type 0 where
@@ -65,11 +65,11 @@ module _ (d : Disk) (s : List ℕ) (t : ℕ) (name : List ℕ) where
       go : (a : Bool) → eqb (key f) 0 ≡ a → (b : Bool) → eqb (faultAt d s t name f) 0 ≡ b → (c : Bool) → same d (nameOf s (key f)) name ≡ c → (f + 1 + n ≡ chainLimit d + 1 → f + 1 ≤ chainLimit d → Searched d s t name (f + 1) (searchFrom d s t name n (f + 1))) → Searched d s t name f (pick a Ended (pick b (pick c (At (key f) (f + 1)) (searchFrom d s t name n (f + 1))) (Fault (refusal (faultAt d s t name f) (key f)))))
       go true p b q c u ih = record { place = f; from = omega arith; others = none; decides = over (eqb-true _ _ p) refl }
       go false p false q c u ih = record { place = f; from = omega arith; others = none; decides = fails (eqb-false _ _ p) (eqb-false _ _ q) refl }
-      go false p true q true u ih = record { place = f; from = omega arith; others = none; decides = equal (record { some = eqb-false _ _ p; fine = eqb-true _ _ q }) (same-map d _ _ u) refl }
+      go false p true q true u ih = record { place = f; from = omega arith; others = none; decides = equal (pass-tests d s t name f (eqb-false _ _ p) (eqb-true _ _ q)) (same-map d _ _ u) refl }
       go false p true q false u ih =
-          let z : faultAt d s t name f ≡ 0 = eqb-true _ _ q in
-          let m = key-passed d s t (slotOf d name) f (key f) z .near in
-          later f _ (record { some = eqb-false _ _ p; fine = z }) differ (ih (omega arith) (omega arith))
+          let z = pass-tests d s t name f (eqb-false _ _ p) (eqb-true _ _ q) in
+          let m = z .near in
+          later f _ z differ (ih (omega arith) (omega arith))
         where
           differ : Equal d s t name f → ⊥
           differ h = let w : same d (nameOf s (key f)) name ≡ true = map-same d _ _ h in let y : _≡_ {A = ℕ} 0 1 = cc in omega arith
@@ -89,7 +89,7 @@ module _ (d : Disk) (s : List ℕ) (t : ℕ) (name : List ℕ) where
 
       -- f is an entry with another name
       skip : Tests d s t name f → (Equal d s t name f → ⊥) → searchFrom d s t name n (f + 1) ≡ all
-      skip a b = rw (ne-eqb _ 0 (a .some), eq-eqb _ 0 (a .fine), differs (same d (nameOf s (key f)) name) refl)
+      skip a b = rw (ne-eqb _ 0 (a .some), eq-eqb _ 0 (tests-pass d s t name f a), differs (same d (nameOf s (key f)) name) refl)
         where
           differs : (c : Bool) → same d (nameOf s (key f)) name ≡ c → same d (nameOf s (key f)) name ≡ false
           differs true q = absurd (b (same-map d _ _ q))
@@ -97,14 +97,14 @@ module _ (d : Disk) (s : List ℕ) (t : ℕ) (name : List ℕ) where
 
       -- or it decides
       here : Decides d s t name f r → r ≡ all
-      here (equal a b q) = q ∙ (rw (ne-eqb _ 0 (a .some), eq-eqb _ 0 (a .fine), map-same d _ _ b))
+      here (equal a b q) = q ∙ (rw (ne-eqb _ 0 (a .some), eq-eqb _ 0 (tests-pass d s t name f a), map-same d _ _ b))
       here (over a q) = q ∙ (rw (eq-eqb _ 0 a))
       here (fails a b q) = q ∙ (rw (ne-eqb _ 0 a, ne-eqb _ 0 b))
 
       go : Dec (f < h .place) → (f + 1 + n ≡ chainLimit d + 1 → f + 1 ≤ chainLimit d → Searched d s t name (f + 1) r → r ≡ searchFrom d s t name n (f + 1)) → r ≡ all
       go (yes w) ih =
           let o = h .others f (omega arith) w in
-          let m = key-passed d s t (slotOf d name) f (key f) (o .0 .fine) .near in
+          let m = o .0 .near in
           ih (omega arith) (omega arith) (record { place = h .place; from = omega arith; others = λ q u v. h .others q (omega arith) v; decides = h .decides }) ∙ skip (o .0) (o .1)
       go (no w) ih = let l′ = h .from in let x : h .place ≡ f = omega arith in here (rw x at (h .decides))
 
@@ -159,11 +159,11 @@ module _ (d : Disk) (s : List ℕ) (t : ℕ) (name : List ℕ) where
   pub compared-most : (k m : ℕ) → searchOf d s t name ≡ At k m → m ≤ chainLimit d
   compared-most k m e =
       let h = first-equal-name k m .0 e in
-      let n = key-passed d s t (slotOf d name) (h .0) _ (h .1 .tests .fine) .near in
+      let n = h .1 .tests .near in
       let c = h .3 in
       omega arith
 
   -- a chain that is searched through has no more entries than the limit
   pub places-few : (p : ℕ) → Others d s t name 0 p → p ≤ chainLimit d
   places-few zero o = omega arith
-  places-few (suc p) o = let h = key-passed d s t (slotOf d name) p _ (o p (omega arith) (omega arith) .0 .fine) .near in omega arith
+  places-few (suc p) o = let h = o p (omega arith) (omega arith) .0 .near in omega arith

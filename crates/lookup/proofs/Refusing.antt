@@ -12,30 +12,23 @@ use Rattle.answers.specs.Tests.{must, first}
 use Rattle.answers.specs.Refusals.{refusal}
 use Rattle.answers.specs.declared.Tested.the-variants.{Failed}
 use Rattle.answers.proofs.Clashes.{impossible}
-use Rattle.answers.specs.Members.{_∈_}
 use Rattle.answers.proofs.Members.{unlisted}
 use Rattle.volume.specs.declared.disk.Disk.{Disk}
 use Rattle.volume.specs.Disks.{rootOf, inRange, chainLimit}
 use Rattle.volume.specs.Names.{slotOf}
 use Rattle.volume.specs.Rules.{rootFault, entryFault}
-use Rattle.volume.proofs.Given.{rootRefusals, entryRefusals, root-given, entry-given}
+use Rattle.volume.proofs.Breaks.{root-breaks, entry-breaks, key-inside, key-outside}
+use Rattle.volume.proofs.Given.{rootRefusals, entryRefusals, root-number, entry-number}
 use Rattle.lookup.specs.declared.find.Found.the-variants.{Directory, File}
 use Rattle.lookup.specs.Paths.{components}
 use Rattle.lookup.specs.Search.{placeFault}
 use Rattle.lookup.specs.Lookup.{refuse, findOf}
-use Rattle.lookup.specs.Trails.{faultAt, Trail}
+use Rattle.lookup.specs.Trails.{Trail}
 use Rattle.lookup.specs.Verdicts.{Opened, keyIn, IsFile, Stands, Missing, Used, Refuses, number-1, number-18, number-3, of-root, number-5, number-6, of-entry, number-19, number-20}
+use Rattle.lookup.proofs.Chains.{faultAt}
 use Rattle.lookup.proofs.Places.{places-few}
 use Rattle.lookup.proofs.Trails.{holds, file, used, missing, fault}
-use Rattle.lookup.proofs.Deciding.{form-exactly, number-is, place-is, Why, image, form, tag, root, leads-to, find-why, why-find}
-
--- ---- which numbers tests give
-
-pub root-number : (d : Disk) (s : List ℕ) (v : ℕ) → v ≢ 0 → rootFault d s ≡ v → v ∈ rootRefusals
-root-number d s v z e = rw e at (root-given d s) .member z
-
-pub entry-number : (d : Disk) (s : List ℕ) (k t i v : ℕ) → v ≢ 0 → entryFault d s k t i ≡ v → v ∈ entryRefusals
-entry-number d s k t i v z e = rw e at (entry-given d s k t i) .member z
+use Rattle.lookup.proofs.Deciding.{form-exactly, form-good, number-is, place-is, Why, image, form, tag, root, leads-to, find-why, why-find}
 
 -- ---- what a key's tests say: v is not 0
 
@@ -79,8 +72,8 @@ module _ (d : Disk) (s path : List ℕ) where
     refused-why : Why d s path (findOf d s path) → findOf d s path ≡ refuse v k → Refuses d s path v k
     refused-why (image h q) e = let x = same 1 0 q e in number-1 h (x .0) (x .1)
     refused-why (form h f p q) e = let x : f ≡ refusal v k = cc in let y = form-exactly path v k .0 (p ∙ ap Failed x) in number-18 h (y .1) (y .0)
-    refused-why (tag h p u q) e = let x = same 3 0 q e in number-3 h p u (x .0) (x .1)
-    refused-why (root h p u z q) e = let x = same (rootFault d s) (rootOf d) q e in of-root h p u (λ y. z (sym (x .0) ∙ y)) (sym (x .0)) (x .1)
+    refused-why (tag h p u q) e = let x = same 3 0 q e in number-3 h (form-good path .0 p) u (x .0) (x .1)
+    refused-why (root h p u z q) e = let x = same (rootFault d s) (rootOf d) q e in of-root h (form-good path .0 p) u (root-breaks d s v .0 (sym (x .0), λ y. z (sym (x .0) ∙ y))) (x .1)
     refused-why (leads-to o (holds k′ m h q)) e = impossible cc
     refused-why (leads-to o (file w p f u b q)) e = impossible cc
     refused-why (leads-to o (used w p f u b q)) e =
@@ -101,9 +94,9 @@ module _ (d : Disk) (s path : List ℕ) where
         ranged b y = rw (x .1) y
 
         go : Says d s (w .parent) (slotOf d (w .name)) p (keyIn d s path w p) (faultAt d s (w .parent) (w .name) p) → Refuses d s path v k
-        go (outside y z) = number-5 stands (ranged false y) (x .0 ∙ z)
-        go (beyond y l z) = let n = places-few d s (w .parent) (w .name) p (f .others) in number-6 stands (ranged true y) (omega arith) (x .0 ∙ z)
-        go (itself y l z) = of-entry stands (ranged true y) l (λ g. f .fault (sym (x .0) ∙ g)) (rw (x .1) (z ∙ sym (x .0)))
+        go (outside y z) = number-5 stands (key-outside d k .0 (ranged false y)) (x .0 ∙ z)
+        go (beyond y l z) = let n = places-few d s (w .parent) (w .name) p (f .others) in number-6 stands (key-inside d k .0 (ranged true y)) (omega arith) (x .0 ∙ z)
+        go (itself y l z) = of-entry stands (key-inside d k .0 (ranged true y)) l (entry-breaks d s k (w .parent) (slotOf d (w .name)) v .0 (rw (x .1) (z ∙ sym (x .0)), λ g. f .fault (sym (x .0) ∙ g)))
 
     why-refused : Refuses d s path v k → findOf d s path ≡ refuse v k
     why-refused h = sym (why-find d s path (refuse v k) (why h))
@@ -117,11 +110,15 @@ module _ (d : Disk) (s path : List ℕ) where
         why : Refuses d s path v k → Why d s path (refuse v k)
         why (number-1 h a b) = image h (rw (a, b))
         why (number-18 h f a) = form h (refusal v k) (form-exactly path v k .1 (a, f)) refl
-        why (number-3 h p u a b) = tag h p u (rw (a, b))
-        why (of-root h p u z a b) = root h p u (λ g. z (sym a ∙ g)) (rw (a, b))
-        why (number-5 h y a) = fails h (λ g. omega arith) (outside y a)
-        why (number-6 h y l a) = fails h (λ g. omega arith) (beyond y (omega arith) a)
-        why (of-entry h y l z a) = fails h z (itself y l a)
+        why (number-3 h p u a b) = tag h (form-good path .1 p) u (rw (a, b))
+        why (of-root h p u z b) =
+            let a = root-breaks d s v .1 z in
+            root h (form-good path .1 p) u (λ g. a .1 (sym (a .0) ∙ g)) (rw (a .0, b))
+        why (number-5 h y a) = fails h (λ g. omega arith) (outside (key-outside d k .1 y) a)
+        why (number-6 h y l a) = fails h (λ g. omega arith) (beyond (key-inside d k .1 y) (omega arith) a)
+        why (of-entry h y l z) =
+            let a = entry-breaks d s k (h .comes .parent) (slotOf d (h .comes .name)) v .1 z in
+            fails h (a .1) (itself (key-inside d k .1 y) l (a .0))
         why (number-19 h a) = leads-to (h .opened) (missing (h .comes) (h .place) (h .over) (rw (a, h .component, behind-none (length (h .comes .front)))))
         why (number-20 h a) = leads-to (h .opened) (used (h .comes) (h .place) (h .found) (h .kind) (h .more) (rw (a, h .component, behind-none (length (h .comes .front)))))
 
@@ -137,10 +134,10 @@ module _ (d : Disk) (s path : List ℕ) where
       go (number-1 h a b) = absurd (omega arith)
       go (number-18 h f a) = absurd (omega arith)
       go (number-3 h p u a b) = absurd (omega arith)
-      go (of-root h p u z a b) = unlisted rootRefusals 19 19 tt (root-number d s 19 z a) refl
+      go (of-root h p u z b) = unlisted rootRefusals 19 19 tt (root-number z) refl
       go (number-5 h y a) = absurd (omega arith)
       go (number-6 h y l a) = absurd (omega arith)
-      go (of-entry h y l z a) = unlisted entryRefusals 19 19 tt (entry-number d s i _ _ 19 z a) refl
+      go (of-entry h y l z) = unlisted entryRefusals 19 19 tt (entry-number z) refl
       go (number-19 h a) = h
       go (number-20 h a) = absurd (omega arith)
 
@@ -152,10 +149,10 @@ module _ (d : Disk) (s path : List ℕ) where
       go (number-1 h a b) = absurd (omega arith)
       go (number-18 h f a) = absurd (omega arith)
       go (number-3 h p u a b) = absurd (omega arith)
-      go (of-root h p u z a b) = unlisted rootRefusals 20 20 tt (root-number d s 20 z a) refl
+      go (of-root h p u z b) = unlisted rootRefusals 20 20 tt (root-number z) refl
       go (number-5 h y a) = absurd (omega arith)
       go (number-6 h y l a) = absurd (omega arith)
-      go (of-entry h y l z a) = unlisted entryRefusals 20 20 tt (entry-number d s i _ _ 20 z a) refl
+      go (of-entry h y l z) = unlisted entryRefusals 20 20 tt (entry-number z) refl
       go (number-19 h a) = absurd (omega arith)
       go (number-20 h a) = h
 

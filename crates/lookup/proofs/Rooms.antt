@@ -1,4 +1,4 @@
--- On a volume a chain never has more entries than the limit: its keys, the root's, the bitmap block's and the two boot blocks differ
+-- In a tree a chain never has more entries than the limit: its keys, the root's, the bitmap block's and the two boot blocks differ
 -- (`chain-few`). Assumes nothing.
 use Prim.Native.Nat.{ℕ, zero, suc, _≤_, _<_}
 use mathlib.Core.Path.{_≡_, refl, sym, ap, _∙_}
@@ -16,7 +16,7 @@ use Rattle.volume.specs.Disks.{firstKey, rootOf, chainLimit}
 use Rattle.volume.specs.Blocks.{slots, wordOf, slotWord}
 use Rattle.volume.specs.Files.{keysDown}
 use Rattle.volume.specs.References.{Kind, Ref, to, link, listed, refersTo, references}
-use Rattle.volume.specs.Law.{chainKey, Volume}
+use Rattle.volume.specs.Law.{chainKey, Tree}
 use Rattle.walk.proofs.Chains.{chain-some}
 use Rattle.walk.proofs.Places.{Holder, From, from-chain, referred, chain-apart}
 
@@ -49,7 +49,7 @@ listed-none s b k h = go (in-either (to Kind.entry k) (map (to Kind.datum) (keys
     go (inl m) = let a = map-in (to Kind.datum) (to Kind.entry k) (keysDown s b 0 (wordOf s b 2)) m in let f : Kind.entry ≡ Kind.datum = ap (λ (r : Ref). r .kind) (a .2) in impossible cc
     go (inr m) = last (wordOf s b 126) m
 
-module _ (d : Disk) (s : List ℕ) (v : Volume d s) where
+module _ (d : Disk) (s : List ℕ) (v : Tree d s) where
   abbrev B : Ref → Type 0
   B r = Reached (references d s) r
 

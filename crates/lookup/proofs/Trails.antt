@@ -14,7 +14,8 @@ use Rattle.lookup.specs.declared.find.Found.{Found}
 use Rattle.lookup.specs.declared.find.Found.the-variants.{Directory, File}
 use Rattle.lookup.specs.Search.{placeKey, searchOf}
 use Rattle.lookup.specs.Lookup.{refuse, fileAt, lookupFrom}
-use Rattle.lookup.specs.Trails.{faultAt, First, Over, Trail, stay, down, Comes}
+use Rattle.lookup.specs.Trails.{First, Over, Trail, stay, down, Comes}
+use Rattle.lookup.proofs.Chains.{faultAt}
 use Rattle.lookup.proofs.Places.{Fails, Outcome, at, ended, faulty, outcome, search-first, search-over, search-fails}
 
 -- what decides a lookup of the components cs from directory t on, the first of which is number i, n entries compared before

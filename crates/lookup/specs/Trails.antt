@@ -6,22 +6,23 @@ use mathlib.Core.Logic.{_≢_}
 use mathlib.Core.Bool.{true}
 use mathlib.Core.List.{List, [], _∷_, _++_}
 use Rattle.volume.specs.declared.disk.Disk.{Disk}
+use Rattle.volume.specs.Disks.{chainLimit}
 use Rattle.volume.specs.Blocks.{directory}
 use Rattle.volume.specs.Names.{folded, slotOf, nameOf}
 use Rattle.volume.specs.Law.{Hangs}
+use Rattle.volume.specs.Breaks.{Inside, Placed}
 use Rattle.lookup.specs.Paths.{joined}
-use Rattle.lookup.specs.Search.{placeKey, placeFault}
+use Rattle.lookup.specs.Search.{placeKey}
 
 -- ---- the places of one chain: that on which directory t would have a name
 
--- what the tests of place p say
-abbrev pub faultAt : Disk → List ℕ → ℕ → List ℕ → ℕ → ℕ
-faultAt d s t name p = placeFault d s t (slotOf d name) p (placeKey d s t name p)
-
--- place p has an entry that passes its tests
+-- place p has an entry that passes its tests: its key lies in the volume, no more entries come before it than a chain may have, and it is
+-- as the law asks of an entry on that chain of t
 pub record Tests (d : Disk) (s : List ℕ) (t : ℕ) (name : List ℕ) (p : ℕ) : Type 0 where
   pub some : placeKey d s t name p ≢ 0
-  pub fine : faultAt d s t name p ≡ 0
+  pub inside : Inside d (placeKey d s t name p)
+  pub near : p < chainLimit d
+  pub placed : Placed d s (placeKey d s t name p) t (slotOf d name)
 
 -- its folded name is the component's
 abbrev pub Equal : Disk → List ℕ → ℕ → List ℕ → ℕ → Type 0

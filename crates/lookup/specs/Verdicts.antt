@@ -6,19 +6,23 @@ use mathlib.Core.Bool.{true, false}
 use mathlib.Core.List.{List, [], _∷_, _++_}
 use lib.ListN.{length}
 use Rattle.reach.specs.References.{_∈_}
-use Rattle.answers.specs.declared.Tested.the-variants.{Passed}
 use Rattle.words.specs.Word.{wordAt}
 use Rattle.volume.specs.declared.disk.Disk.{Disk}
-use Rattle.volume.specs.Disks.{imageBytes, tagOf, rootOf, inRange, chainLimit}
+use Rattle.volume.specs.Disks.{imageBytes, tagOf, rootOf, chainLimit}
 use Rattle.volume.specs.Blocks.{directory}
 use Rattle.volume.specs.Names.{slotOf}
 use Rattle.volume.specs.Files.{sizeOf}
-use Rattle.volume.specs.Rules.{rootFault, entryFault}
-use Rattle.lookup.specs.Paths.{longestPath, components, isComponent, pathFault}
+use Rattle.volume.specs.Breaks.{Inside, RootSound, RootBreaks, EntryBreaks}
+use Rattle.lookup.specs.Paths.{longestPath, components, isComponent}
 use Rattle.lookup.specs.Search.{placeKey}
 use Rattle.lookup.specs.Trails.{Others, First, Over, Comes}
 
 -- ---- the form of a path
+
+-- it is short enough, and each of its components may be one
+pub record GoodForm (path : List ℕ) : Type 0 where
+  pub short : length path ≤ longestPath
+  pub good : (c : List ℕ) → c ∈ components path → isComponent c ≡ true
 
 -- the first component that may not be one, number i of cs, counted from n
 pub record BadComponent (n i : ℕ) (cs : List (List ℕ)) : Type 0 where
@@ -37,12 +41,12 @@ pub data BadForm (path : List ℕ) (i : ℕ) : Type 0 where
 
 -- ---- the way to a component
 
--- the tests before the components: image length, path, boot tag, the root up to its name
+-- what is tested before the components: image length, path, boot tag, the root up to its name
 pub record Opened (d : Disk) (s path : List ℕ) : Type 0 where
   pub long : length s ≡ imageBytes d
-  pub form : pathFault path ≡ Passed
+  pub form : GoodForm path
   pub tag : wordAt s 0 ≡ tagOf d
-  pub root : rootFault d s ≡ 0
+  pub root : RootSound s (rootOf d)
 
 -- one component of the path, looked for in the directory that those before it lead to from the root
 abbrev pub Reaches : Disk → List ℕ → List ℕ → Type 0
@@ -97,13 +101,13 @@ pub record Used (d : Disk) (s path : List ℕ) (i : ℕ) : Type 0 where
 pub data Refuses (d : Disk) (s path : List ℕ) (v k : ℕ) : Type 0 where
   number-1 : length s ≢ imageBytes d → v ≡ 1 → k ≡ 0 → Refuses d s path v k
   number-18 : length s ≡ imageBytes d → BadForm path k → v ≡ 18 → Refuses d s path v k
-  number-3 : length s ≡ imageBytes d → pathFault path ≡ Passed → wordAt s 0 ≢ tagOf d → v ≡ 3 → k ≡ 0 → Refuses d s path v k
-  -- 4, 7, 8 and 11
-  of-root : length s ≡ imageBytes d → pathFault path ≡ Passed → wordAt s 0 ≡ tagOf d → v ≢ 0 → rootFault d s ≡ v → k ≡ rootOf d → Refuses d s path v k
-  number-5 : Stands d s path k → inRange d k ≡ false → v ≡ 5 → Refuses d s path v k
+  number-3 : length s ≡ imageBytes d → GoodForm path → wordAt s 0 ≢ tagOf d → v ≡ 3 → k ≡ 0 → Refuses d s path v k
+  -- 7, 8, 4 and 11: the root breaks the law as that number says
+  of-root : length s ≡ imageBytes d → GoodForm path → wordAt s 0 ≡ tagOf d → RootBreaks s (rootOf d) v → k ≡ rootOf d → Refuses d s path v k
+  number-5 : Stands d s path k → (Inside d k → ⊥) → v ≡ 5 → Refuses d s path v k
   -- as many entries as a chain may have were compared
-  number-6 : (h : Stands d s path k) → inRange d k ≡ true → h .place ≡ chainLimit d → v ≡ 6 → Refuses d s path v k
-  -- 7 to 12
-  of-entry : (h : Stands d s path k) → inRange d k ≡ true → h .place < chainLimit d → v ≢ 0 → entryFault d s k (h .comes .parent) (slotOf d (h .comes .name)) ≡ v → Refuses d s path v k
+  number-6 : (h : Stands d s path k) → Inside d k → h .place ≡ chainLimit d → v ≡ 6 → Refuses d s path v k
+  -- 7 to 12: the entry breaks the law as that number says
+  of-entry : (h : Stands d s path k) → Inside d k → h .place < chainLimit d → EntryBreaks d s k (h .comes .parent) (slotOf d (h .comes .name)) v → Refuses d s path v k
   number-19 : Missing d s path k → v ≡ 19 → Refuses d s path v k
   number-20 : Used d s path k → v ≡ 20 → Refuses d s path v k

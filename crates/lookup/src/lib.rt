@@ -1,4 +1,4 @@
 // Paths to entries, on any image.
-pub mod chain;
+mod chain;
 pub mod find;
-pub mod path;
+mod path;

@@ -9,7 +9,7 @@ ghost use lib.ListN.{length};
 ghost use Rattle.lookup.specs.Paths.{split, isComponent, longestPath, componentsFault, pathFault};
 ghost use Rattle.lookup.specs.Parts.{FirstSlash};
 
-pub const LONGEST_PATH: usize = 255;
+const LONGEST_PATH: usize = 255;
 
 // The place of the first '/', or the path's end.
 pub fn first_slash(path: &[u8]) -> usize

@@ -2,17 +2,18 @@
 use Prim.Native.Nat.{ℕ, zero, suc, _+_, _*_}
 use mathlib.Core.Path.{_≡_, refl, sym, ap, subst, _∙_}
 use mathlib.Core.List.{List, [], _∷_}
-use mathlib.Core.Bool.{not}
+use mathlib.Core.Bool.{Bool, true, false, not}
 use mathlib.Core.Logic.{_↔_}
 use native.Mathlib.Omega.{arith}
 use lib.Dec.{T}
 use Rattle.words.specs.Word.{wordAt}
+use Rattle.answers.specs.Tests.{pick}
 use Rattle.answers.specs.Members.{_∈_}
 use Rattle.answers.specs.declared.Refusal.{Refusal}
 use Rattle.answers.specs.declared.Tested.{Tested}
 use Rattle.answers.specs.declared.Tested.the-variants.{Passed, Failed}
 use Rattle.answers.proofs.Members.{has, listed, unlisted}
-use Rattle.answers.proofs.Given.{pick-all, Fails, Given, given}
+use Rattle.answers.proofs.Given.{Given, given}
 use Rattle.answers.proofs.Clashes.{impossible}
 use Rattle.program.specs.declared.check.Answer.{Answer}
 use Rattle.program.specs.declared.check.Answer.the-variants.{Accepted, Refused}
@@ -37,6 +38,11 @@ abbrev pub Refuses : List ℕ → Answer → Type 0
 Refuses ns (Accepted t n) = Unit
 Refuses ns (Refused r) = r .number ∈ ns
 
+-- tests pass, or fail with one
+abbrev pub Fails : List ℕ → Tested → Type 0
+Fails ns Passed = Unit
+Fails ns (Failed r) = r .number ∈ ns
+
 abbrev Steps : Next → Type 0
 Steps (On d) = Unit
 Steps (Bad v) = v ∈ checkRefusals
@@ -50,23 +56,28 @@ Tests h = Fails checkRefusals h
 one : (v : ℕ) → T (has checkRefusals v) → v ∈ checkRefusals
 one v h = listed checkRefusals v h
 
+either : {X : Type 0} (P : X → Type 0) (b : Bool) (x y : X) → P x → P y → P (pick b x y)
+unfolding pick
+either P true x y p q = p
+either P false x y p q = q
+
 body-steps : (c : Cursor) (w : ℕ) → Steps (bodyOf c w)
-body-steps c w = pick-all Steps _ _ _ tt (pick-all Steps _ _ _ tt (pick-all Steps _ _ _ tt (one 35 tt)))
+body-steps c w = either Steps _ _ _ tt (either Steps _ _ _ tt (either Steps _ _ _ tt (one 35 tt)))
 
 module _ (t : ℕ) (size : ℕ → ℕ) where
   turn-steps : (c : Cursor) (w : ℕ) (m : Mode) → Steps (turn t size c w m)
-  turn-steps c w mode.Begin = pick-all Steps _ _ _ tt (body-steps c w)
-  turn-steps c w mode.NameLength = pick-all Steps _ _ _ tt tt
+  turn-steps c w mode.Begin = either Steps _ _ _ tt (body-steps c w)
+  turn-steps c w mode.NameLength = either Steps _ _ _ tt tt
   turn-steps c w mode.Body = body-steps c w
-  turn-steps c w (mode.Length kind) = pick-all Steps _ _ _ (one 36 tt) (pick-all Steps _ _ _ tt tt)
-  turn-steps c w (mode.Stored i) = pick-all Steps _ _ _ tt tt
-  turn-steps c w mode.Part = pick-all Steps _ _ _ tt (pick-all Steps _ _ _ tt (pick-all Steps _ _ _ tt (pick-all Steps _ _ _ tt (one 35 tt))))
-  turn-steps c w mode.Count = pick-all Steps _ _ _ tt tt
-  turn-steps c w (mode.Number n) = pick-all Steps _ _ _ tt (one 38 tt)
-  turn-steps c w (mode.Offset n k) = pick-all Steps _ _ _ (pick-all Steps _ _ _ (one 38 tt) (pick-all Steps _ _ _ tt tt)) (one 38 tt)
-  turn-steps c w mode.Symbol = pick-all Steps _ _ _ tt (pick-all Steps _ _ _ (one 37 tt) tt)
-  turn-steps c w mode.DebugLength = pick-all Steps _ _ _ tt tt
-  turn-steps c w (mode.Skip n a) = pick-all Steps _ _ _ tt tt
+  turn-steps c w (mode.Length kind) = either Steps _ _ _ (one 36 tt) (either Steps _ _ _ tt tt)
+  turn-steps c w (mode.Stored i) = either Steps _ _ _ tt tt
+  turn-steps c w mode.Part = either Steps _ _ _ tt (either Steps _ _ _ tt (either Steps _ _ _ tt (either Steps _ _ _ tt (one 35 tt))))
+  turn-steps c w mode.Count = either Steps _ _ _ tt tt
+  turn-steps c w (mode.Number n) = either Steps _ _ _ tt (one 38 tt)
+  turn-steps c w (mode.Offset n k) = either Steps _ _ _ (either Steps _ _ _ (one 38 tt) (either Steps _ _ _ tt tt)) (one 38 tt)
+  turn-steps c w mode.Symbol = either Steps _ _ _ tt (either Steps _ _ _ (one 37 tt) tt)
+  turn-steps c w mode.DebugLength = either Steps _ _ _ tt tt
+  turn-steps c w (mode.Skip n a) = either Steps _ _ _ tt tt
   turn-steps c w mode.End = one 39 tt
 
   ended-answers : (end : ℕ) (c : Cursor) (m : Mode) → Answers (endedOf end c m)
@@ -106,7 +117,7 @@ heads-tests : (file : List ℕ) (i n : ℕ) → Tests (heads file i n)
 unfolding heads
 heads-tests file i zero = tt
 heads-tests file i (suc n) =
-    pick-all Tests _ _ _ (one 31 tt) (judge-tests (headFault (totalOf file) i (wordAt file (4 * i))) (4 * i) _ (head-given (totalOf file) i (wordAt file (4 * i))) (heads-tests file (i + 1) n))
+    either Tests _ _ _ (one 31 tt) (judge-tests (headFault (totalOf file) i (wordAt file (4 * i))) (4 * i) _ (head-given (totalOf file) i (wordAt file (4 * i))) (heads-tests file (i + 1) n))
 
 and-answers : (h : Tested) (a : Answer) → Tests h → Answers a → Answers (and h a)
 and-answers Passed a p q = q
@@ -118,8 +129,8 @@ and-answers (Failed r) a p q = p
 pub check-refuses : (file : List ℕ) → Refuses checkRefusals (checkOf file)
 unfolding checkOf
 check-refuses file =
-    pick-all Answers _ _ _ (one 30 tt)
-    (pick-all Answers _ _ _
+    either Answers _ _ _ (one 30 tt)
+    (either Answers _ _ _
     (and-answers (heads file 0 5) _ (heads-tests file 0 5) (and-answers (heads file 5 (totalOf file)) _ (heads-tests file 5 (totalOf file)) (walk-answers _ _ _ _ _ _)))
     (one 30 tt))
 

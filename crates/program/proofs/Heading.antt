@@ -19,7 +19,7 @@ use Rattle.program.specs.Verdicts.{Fine}
 
 -- ---- words
 
--- m words, and n behind them
+-- m words, and n after them
 pub words-add : (s : List ℕ) (m at n : ℕ) → wordsAt s at (m + n) ≡ wordsAt s at m ++ wordsAt s (at + 4 * m) n
 unfolding wordsAt
 words-add s zero at n =
@@ -31,7 +31,7 @@ words-add s (suc m) at n =
     let b : at + 4 * suc m ≡ at + 4 + 4 * m = omega arith in
     rw (a, b, words-add s m (at + 4) n)
 
--- the first words are those of l, and the others come behind them
+-- the first words are those of l, and the others come after them
 pub record Split (s l rest : List ℕ) (at n : ℕ) : Type 0 where
   pub long : length l ≤ n
   pub others : wordsAt s (at + 4 * length l) (n - length l) ≡ rest

@@ -3,7 +3,7 @@
 pub mod Answers
 -- the header's words, and its tests both ways
 pub mod Heading
--- the header in code, and what holds behind it
+-- the header in code, and what holds after it
 pub mod Heads
 -- what holds while a file is read
 pub mod Sanes
@@ -13,15 +13,21 @@ pub mod Modes
 pub mod Walks
 -- passes over what a file asks for
 pub mod Passes
--- hunks written out are accepted
+-- hunks written out are taken, and accepted
 pub mod Taken
--- what is accepted is hunks written out
-pub mod Traced
+-- the reader comes to where a hunk is begun
+pub mod Beginnings
+-- what stands before a byte that the reader comes to
+pub mod Standing
+-- where the walk over the words stops
+pub mod Stops
 -- a program file is what the page says
 pub mod Pages
+-- words determine the hunks
+pub mod Unique
 -- what each refusal of the check says
 pub mod Refusing
--- words that a pass may go on behind
+-- words after which a pass may go on
 pub mod Runs
 -- the answer as numbers: `number-listed`, `zero-exactly`
 pub mod AsNumbers

@@ -2,7 +2,7 @@
 -- Assumes nothing.
 use Prim.Native.Nat.{ℕ, zero, suc, _+_, _*_, _-_, _/_, _%_, _<_, _≤_}
 use mathlib.Core.Path.{_≡_, refl, sym, ap, _∙_}
-use mathlib.Core.Logic.{_↔_}
+use mathlib.Core.Logic.{_⊎_, inl, inr, _↔_}
 use mathlib.Core.List.{List, [], _∷_, map}
 use mathlib.Core.Bool.{Bool, true, false}
 use native.Mathlib.Omega.{arith}
@@ -15,14 +15,19 @@ use Rattle.answers.specs.declared.Tested.{Tested}
 use Rattle.answers.specs.declared.Tested.the-variants.{Passed, Failed}
 use Rattle.program.specs.declared.check.Answer.{Answer}
 use Rattle.program.specs.declared.check.Answer.the-variants.{Accepted, Refused}
+use Rattle.program.specs.declared.reader.Cursor.{Cursor}
 use Rattle.program.specs.Page.{Hunk, joined, hunkWords, headWords, written, Each, HunkFits, Program, Holds, total}
 use Rattle.program.specs.Header.{totalOf, sizeOf, startAt, headFault, heads}
-use Rattle.program.specs.Reader.{start}
 use Rattle.program.specs.Check.{walkOf, and, checkOf}
+use Rattle.program.specs.Sane.{Sound}
+use Rattle.program.specs.Verdicts.{OfSizes, AllHunks}
 use Rattle.program.proofs.Answers.{not-accepted}
 use Rattle.program.proofs.Taken.{Sized, hunks-on}
-use Rattle.program.proofs.Traced.{cons, walk-back}
-use Rattle.program.proofs.Heading.{words-add, Split, split, heads-pass, fault-0, fault-1, fault-2, fault-3, fault-4, fault-size, is-0, is-1, is-2, is-3, is-4, is-size, each-fine}
+use Rattle.program.proofs.Beginnings.{unended}
+use Rattle.program.proofs.Standing.{cons, Within, Past, comes-stands}
+use Rattle.program.proofs.Stops.{Ends, ended, Stops, walk-stops}
+use Rattle.program.proofs.Heads.{sound-header}
+use Rattle.program.proofs.Heading.{words-add, Split, split, heads-pass, fault-0, fault-1, fault-2, fault-3, fault-4, fault-size, is-0, is-1, is-3, is-4, each-fine}
 
 -- ---- sizes
 
@@ -41,20 +46,16 @@ small-sizes t [] i f l = absurd (omega arith)
 small-sizes t (x ∷ xs) zero f l = f .0 .size
 small-sizes t (x ∷ xs) (suc i) f l = small-sizes t xs i (f .1) (omega arith)
 
-sized-fits : (t : ℕ) (size : ℕ → ℕ) (hs : List Hunk) (h : ℕ) → Sized t size h hs → Each (HunkFits t) hs
-sized-fits t size [] h f = tt
-sized-fits t size (x ∷ xs) h f = (f .1, sized-fits t size xs (h + 1) (f .2))
+sizes-fit : (t : ℕ) (size : ℕ → ℕ) (hs : List Hunk) (h : ℕ) → OfSizes t size h hs → Each (HunkFits t) hs
+sizes-fit t size [] h f = tt
+sizes-fit t size (x ∷ xs) h f = (f .1, sizes-fit t size xs (h + 1) (f .2))
 
-sized-length : (t : ℕ) (size : ℕ → ℕ) (hs : List Hunk) (h : ℕ) → Sized t size h hs → h + length hs ≡ t
-sized-length t size [] h f = let e : h ≡ t = f in omega arith
-sized-length t size (x ∷ xs) h f = omega (arith, sized-length t size xs (h + 1) (f .2))
-
-sized-words : (t : ℕ) (file : List ℕ) (hs : List Hunk) (h : ℕ) → Sized t (sizeOf file) h hs → wordsAt file (20 + 4 * h) (length hs) ≡ sizes hs
+sizes-words : (t : ℕ) (file : List ℕ) (hs : List Hunk) (h : ℕ) → OfSizes t (sizeOf file) h hs → wordsAt file (20 + 4 * h) (length hs) ≡ sizes hs
 unfolding wordsAt sizeOf
-sized-words t file [] h f = refl
-sized-words t file (x ∷ xs) h f =
+sizes-words t file [] h f = refl
+sizes-words t file (x ∷ xs) h f =
     let a : 20 + 4 * h + 4 ≡ 20 + 4 * (h + 1) = omega arith in
-    rw (a, sized-words t file xs (h + 1) (f .2), f .0)
+    rw (a, sizes-words t file xs (h + 1) (f .2), f .0)
 
 -- ---- what is written is accepted
 
@@ -161,20 +162,11 @@ accepted-read file t n e =
     record { even = eqb-true (length file % 4) 0 (b .0); five = c .0; sized = d .0; hunks = d .1 }
 
 module _ (file : List ℕ) (t n : ℕ) (r : Read file t n) where
-  small-size : (i : ℕ) → i < totalOf file → sizeOf file i ≤ 65536
-  unfolding sizeOf
-  small-size i l =
-      let a : 4 * (5 + i) ≡ 20 + 4 * i = omega arith in
-      is-size (totalOf file) (sizeOf file i) i (rw a at (each-fine file (totalOf file) 5 (r .sized) (5 + i) (omega arith) (omega arith) .1))
-
   word-0 : wordAt file 0 ≡ 0x3F3
   word-0 = is-0 (totalOf file) (wordAt file 0) (each-fine file 5 0 (r .five) 0 (omega arith) (omega arith) .1)
 
   word-1 : wordAt file 4 ≡ 0
   word-1 = is-1 (totalOf file) (wordAt file 4) (each-fine file 5 0 (r .five) 1 (omega arith) (omega arith) .1)
-
-  word-2 : (1 ≤ totalOf file) × (totalOf file ≤ 64)
-  word-2 = is-2 (totalOf file) (totalOf file) (each-fine file 5 0 (r .five) 2 (omega arith) (omega arith) .1)
 
   word-3 : wordAt file 12 ≡ 0
   word-3 = is-3 (totalOf file) (wordAt file 12) (each-fine file 5 0 (r .five) 3 (omega arith) (omega arith) .1)
@@ -182,33 +174,39 @@ module _ (file : List ℕ) (t n : ℕ) (r : Read file t n) where
   word-4 : wordAt file 16 + 1 ≡ totalOf file
   word-4 = is-4 (totalOf file) (wordAt file 16) (each-fine file 5 0 (r .five) 4 (omega arith) (omega arith) .1)
 
-  whole : startAt file ≤ length file
-  whole =
-      let l = each-fine file (totalOf file) 5 (r .sized) (4 + totalOf file) (omega (arith, word-2)) (omega arith) .0 in
-      omega arith
+  sound : Sound file
+  sound = sound-header file (r .five) (r .sized)
 
-  module _ (hs : List Hunk) (z : Sized (totalOf file) (sizeOf file) 0 hs) (e : wordsAt file (startAt file) ((length file - startAt file) / 4) ≡ joined hunkWords hs) where
-    many : length hs ≡ totalOf file
-    many = omega (arith, sized-length (totalOf file) (sizeOf file) hs 0 z)
+  -- the walk stops at the end, after all hunks
+  past : (hs : List Hunk) × AllHunks file hs (length file)
+  past = stop (walk-stops file (r .even) sound)
+    where
+      stop : Stops file (walkOf file) → (hs : List Hunk) × AllHunks file hs (length file)
+      stop (inr k) = not-accepted (sym (k .2) ∙ r .hunks)
+      stop (inl k) = over (ended (length file) (k .0) (k .0 .mode)) (comes-stands file (r .even) sound (k .0) (length file) (k .1))
+        where
+          over : Ends (length file) (k .0) (k .0 .mode) → Within file (k .0) (length file) ⊎ Past file (k .0) (length file) → (hs : List Hunk) × AllHunks file hs (length file)
+          over (inr x) y = not-accepted (sym (x .1) ∙ sym (k .2) ∙ r .hunks)
+          over (inl x) (inl y) = absurd (unended (y .begun) (ap (λ (c : Cursor). c .mode) (y .is) ∙ x .0))
+          over (inl x) (inr y) = (y .hunks, y .whole)
 
+  module _ (hs : List Hunk) (z : AllHunks file hs (length file)) where
     all-written : wordsAt file 0 (length file / 4) ≡ written hs
     unfolding wordsAt
     all-written =
-        let k : ℕ = (length file - startAt file) / 4 in
-        let q : length file / 4 ≡ suc (suc (suc (suc (suc (length hs + k))))) = omega (arith, many, whole, r .even) in
-        let s : 20 + 4 * length hs ≡ startAt file = omega (arith, many) in
+        let k : ℕ = length (joined hunkWords hs) in
+        let q : length file / 4 ≡ suc (suc (suc (suc (suc (length hs + k))))) = omega (arith, z .all, z .stand .place) in
+        let s : 20 + 4 * length hs ≡ startAt file = omega (arith, z .all) in
         ap (wordsAt file 0) q
-        ∙ cons word-0 (cons word-1 (cons (sym many) (cons word-3 (cons (omega (arith, word-4, many))
-        (words-add file (length hs) 20 k ∙ rw (s, e, sized-words (totalOf file) file hs 0 z))))))
+        ∙ cons word-0 (cons word-1 (cons (sym (z .all)) (cons word-3 (cons (omega (arith, word-4, z .all))
+        (words-add file (length hs) 20 k ∙ rw (s, z .stand .words, sizes-words (totalOf file) file hs 0 (z .hunks)))))))
 
     is-program : Program hs
     is-program =
-        record { least = omega (arith, many, word-2); most = omega (arith, many, word-2); hunks = rw many (sized-fits (totalOf file) (sizeOf file) hs 0 z) }
+        record { least = omega (arith, z .all, sound .some); most = omega (arith, z .all, sound .few); hunks = rw (z .all) (sizes-fit (totalOf file) (sizeOf file) hs 0 (z .hunks)) }
 
   read : (hs : List Hunk) × Holds file hs
-  read =
-      let g = walk-back (totalOf file) (sizeOf file) small-size (length file) t n _ start (startAt file) (r .hunks) in
-      (g .0, record { fits = is-program (g .0) (g .1) (g .2); even = r .even; words = all-written (g .0) (g .1) (g .2) })
+  read = (past .0, record { fits = is-program (past .0) (past .1); even = r .even; words = all-written (past .0) (past .1) })
 
 pub accepted-page : (file : List ℕ) (t n : ℕ) → checkOf file ≡ Accepted t n → (hs : List Hunk) × Holds file hs
 accepted-page file t n e = read file t n (accepted-read file t n e)

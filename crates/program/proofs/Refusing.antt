@@ -1,14 +1,15 @@
--- What each refusal of the check says of the file, and that it is given exactly then. Assumes nothing.
-use Prim.Native.Nat.{ℕ, zero, suc, _+_, _*_, _-_, _/_, _%_, _<_, _≤_}
+-- What each refusal of the check says of the file, and that it is given exactly then: `refused-exactly`. Before that the same by the reader's
+-- cursor (`check-why`, `why-check`). Assumes nothing.
+use Prim.Native.Nat.{ℕ, zero, suc, _+_, _*_, _-_, _%_, _<_, _≤_}
 use mathlib.Core.Path.{_≡_, refl, sym, ap, subst, _∙_}
-use mathlib.Core.Logic.{_≢_, _⊎_, inl, inr}
+use mathlib.Core.Logic.{_≢_, _⊎_, inl, inr, _↔_, Iff·rfl}
 use mathlib.Core.List.{List}
 use mathlib.Core.Bool.{Bool, true, false}
 use native.Mathlib.Omega.{arith}
 use native.Mathlib.Decide.{decLt}
 use lib.Dec.{ltb, leb, eqb}
 use lib.ListN.{length}
-use borrow.Author.Tests.{eqb-true, eqb-false, ltb-true, ltb-false, leb-true, lt-ltb, le-ltb, eq-eqb, ne-eqb}
+use borrow.Author.Tests.{eqb-true, eqb-false, ltb-true, ltb-false, leb-true, lt-ltb, le-ltb, le-leb, eq-eqb, ne-eqb}
 use Rattle.words.specs.Word.{wordAt}
 use Rattle.answers.specs.Tests.{pick}
 use Rattle.answers.specs.Refusals.{refusal}
@@ -16,22 +17,29 @@ use Rattle.answers.specs.declared.Refusal.{Refusal}
 use Rattle.answers.specs.declared.Tested.{Tested}
 use Rattle.answers.specs.declared.Tested.the-variants.{Passed, Failed}
 use Rattle.answers.proofs.Clashes.{impossible}
-use Rattle.program.specs.declared.check.Answer.the-variants.{Refused}
+use Rattle.program.specs.declared.check.Answer.{Answer}
+use Rattle.program.specs.declared.check.Answer.the-variants.{Accepted, Refused}
 use Rattle.program.specs.declared.reader.Cursor.{Cursor}
 use Rattle.program.specs.declared.reader.Mode.{Mode}
 use Rattle.program.specs.declared.reader.Mode.the-variants.{Begin, NameLength, Body, Length, Stored, Part, Count, Number, Offset, Symbol, DebugLength, Skip, End}
-use Rattle.program.specs.declared.reader.Next.{Next}
 use Rattle.program.specs.declared.reader.Next.the-variants.{On, Bad}
-use Rattle.program.specs.Header.{totalOf, sizeOf, startAt, judge, heads}
-use Rattle.program.specs.Reader.{start, on, bodyOf, endOf, turn, stepOf}
-use Rattle.program.specs.Check.{refuse, endedOf, restOf, walkOf, and, checkOf}
+use Rattle.program.specs.Header.{totalOf, sizeOf, judge, heads}
+use Rattle.program.specs.Reader.{on, bodyOf, endOf, turn, stepOf}
+use Rattle.program.specs.Check.{refuse, endedOf, walkOf, and, checkOf}
 use Rattle.program.specs.Sane.{Sound}
-use Rattle.program.specs.Verdicts.{Unwhole, Whole, OfHeader, Fine, faultAt, HeadFails, HeadWord, Headed, Comes, begins, takes, HunkWord, Missing, Refuses, Because}
+use Rattle.program.specs.Page.{Hunk, storedWords, OffsetFits, Holds, total}
+use Rattle.program.specs.Begun.{PartBegun, Begun, aPart, aCount, aNumber, anOffset, aSymbol, symbolWord, debugLength, debugWord, first, nameLength, nameWord, aBody, bodyLength, bodyWord, afterBody, PartWrong, Wrong}
+use Rattle.program.specs.Verdicts.{WrongWord, MoreWords, MissingWord, Says, Unwhole, Whole, OfHeader, Fine, faultAt, HeadFails, HeadWord, Headed, HunkWord, Missing, Refuses, Because}
 use Rattle.program.proofs.Answers.{not-refused, not-failed}
 use Rattle.program.proofs.Heading.{each-fine, heads-pass}
 use Rattle.program.proofs.Heads.{sound-header}
+use Rattle.program.proofs.Pages.{accepted-page, page-accepted}
 use Rattle.program.proofs.Sanes.{pick-on}
-use Rattle.program.proofs.Walks.{Reads, reads-start, reads-on, walk-on, walk-bad, walk-end}
+use Rattle.program.proofs.Taken.{cursor}
+use Rattle.program.proofs.Beginnings.{partMode, modeOf, unended, cursorIn, cursorOf, cursorPast, before-comes, whole-comes}
+use Rattle.program.proofs.Standing.{Within, Past, comes-stands}
+use Rattle.program.proofs.Stops.{Ends, ended, Stops, walk-stops, comes-reads}
+use Rattle.program.proofs.Walks.{walk-bad, walk-end}
 
 -- ---- the header
 
@@ -67,48 +75,13 @@ refused-same r f e = cc
 on-bad : {X : Type 0} (d : Cursor) (v : ℕ) → On d ≡ Bad v → X
 on-bad d v e = impossible cc
 
-ended-why : (file : List ℕ) (f : Refusal) (c : Cursor) (m : Mode) → endedOf (length file) c m ≡ Refused f → (m ≢ End) × (f ≡ refusal 31 (length file))
-ended-why file f c End e = not-refused e
-ended-why file f c Begin e = ((λ q. absurd (other q)), refused-same _ f e)
+walk-why : (file : List ℕ) (f : Refusal) (a : Answer) → Stops file a → a ≡ Refused f → HunkWord file f ⊎ Missing file f
+walk-why file f a (inr k) e = inl (rw (refused-same _ f (sym (k .2) ∙ e)) (k .1))
+walk-why file f a (inl k) e = go (ended (length file) (k .0) (k .0 .mode))
   where
-    other : Begin ≡ End → ⊥
-    other q = impossible cc
-ended-why file f c NameLength e = ((λ q. impossible cc), refused-same _ f e)
-ended-why file f c Body e = ((λ q. impossible cc), refused-same _ f e)
-ended-why file f c (Length k) e = ((λ q. impossible cc), refused-same _ f e)
-ended-why file f c (Stored i) e = ((λ q. impossible cc), refused-same _ f e)
-ended-why file f c Part e = ((λ q. impossible cc), refused-same _ f e)
-ended-why file f c Count e = ((λ q. impossible cc), refused-same _ f e)
-ended-why file f c (Number n) e = ((λ q. impossible cc), refused-same _ f e)
-ended-why file f c (Offset n k) e = ((λ q. impossible cc), refused-same _ f e)
-ended-why file f c Symbol e = ((λ q. impossible cc), refused-same _ f e)
-ended-why file f c DebugLength e = ((λ q. impossible cc), refused-same _ f e)
-ended-why file f c (Skip n a) e = ((λ q. impossible cc), refused-same _ f e)
-
-module _ (file : List ℕ) (even : length file % 4 ≡ 0) where
-  -- n words are left
-  walk-why : (f : Refusal) (n at : ℕ) (c : Cursor) → length file ≡ at + 4 * n → Comes file c at → restOf file at c ≡ Refused f → HunkWord file f ⊎ Missing file f
-  walk-why f zero at c l r e =
-      let q : at ≡ length file = omega arith in
-      let p = ended-why file f c (c .mode) (sym (walk-end file at c (omega arith)) ∙ e) in
-      inr (record { cursor = c; comes = subst (Comes file c) q r; unended = p .0; said = p .1 })
-  walk-why f (suc n) at c l r e = go (stepOf (totalOf file) (sizeOf file) c (wordAt file at)) refl (walk-why f n (at + 4))
-    where
-      h : at < length file
-      h = omega arith
-
-      k : at % 4 ≡ 0
-      k = omega arith
-
-      go : (x : Next) → stepOf (totalOf file) (sizeOf file) c (wordAt file at) ≡ x → ((d : Cursor) → length file ≡ at + 4 + 4 * n → Comes file d (at + 4) → restOf file (at + 4) d ≡ Refused f → HunkWord file f ⊎ Missing file f) → HunkWord file f ⊎ Missing file f
-      go (On d) q more = more d (omega arith) (takes r h q) (sym (walk-on file at c (wordAt file at) _ even k h refl refl d q) ∙ e)
-      go (Bad v) q more =
-          inl (record { cursor = c; at = at; comes = r; there = h; number = v; refuses = q; said = refused-same _ f (sym (walk-bad file at c (wordAt file at) _ even k h refl refl v q) ∙ e) })
-
-  -- where the reader comes to, the rest of the file gives the file's answer
-  pub comes-reads : Sound file → {c : Cursor} {at : ℕ} → Comes file c at → Reads file c at
-  comes-reads s begins = reads-start file start (startAt file) (totalOf file) s refl refl refl
-  comes-reads s (takes {c} {d} {at} r h q) = reads-on file c at (wordAt file at) _ d (comes-reads s r) even h refl refl q
+    go : Ends (length file) (k .0) (k .0 .mode) → HunkWord file f ⊎ Missing file f
+    go (inl x) = not-refused (sym (x .1) ∙ sym (k .2) ∙ e)
+    go (inr x) = inr (record { cursor = k .0; comes = k .1; unended = x .0; said = refused-same _ f (sym (x .1) ∙ sym (k .2) ∙ e) })
 
 -- ---- the whole check
 
@@ -124,10 +97,7 @@ module _ (file : List ℕ) (f : Refusal) where
   all-why w (Failed r) b p q e = inr (inl (w, heads-why file f 5 0 (λ j l h. omega arith) (λ j h. absurd (omega arith)) (p ∙ ap Failed (sym (refused-same r f e)))))
   all-why w Passed (Failed r) p q e = inr (inl (w, heads-why file f (totalOf file) 5 (λ j l h. h) (λ j h. each-fine file 5 0 p j (omega arith) h) (q ∙ ap Failed (sym (refused-same r f e)))))
   all-why w Passed Passed p q e =
-      let s = sound-header file p q in
-      let even = w .1 in
-      let n = (length file - startAt file) / 4 in
-      inr (inr (w, all-fine file p q, walk-why file even f n (startAt file) start (omega (arith, s .long, even)) begins e))
+      inr (inr (w, all-fine file p q, walk-why file f (walkOf file) (walk-stops file (w .1) (sound-header file p q)) e))
 
   -- the check refuses for one of these reasons
   pub check-why : checkOf file ≡ Refused f → Because file f
@@ -140,6 +110,18 @@ module _ (file : List ℕ) (f : Refusal) where
       empty false p true q e = all-why (eqb-false _ _ p, eqb-true _ _ q) (heads file 0 5) (heads file 5 (totalOf file)) refl refl e
 
 -- ---- and each of these reasons gives that refusal
+
+-- the five words, then the sizes
+module _ (file : List ℕ) where
+  pass-five : ((j : ℕ) → j < 5 → Fine file j) → heads file 0 5 ≡ Passed
+  pass-five g = heads-pass file 5 0 (omega (arith, g 4 (omega arith) .0)) (λ j l q. g j q .1)
+
+  pass-sizes : Headed file → heads file 5 (totalOf file) ≡ Passed
+  pass-sizes g =
+      heads-pass file (totalOf file) 5 (omega (arith, g (4 + totalOf file) (omega arith) .0)) (λ j l q. g j q .1)
+
+  headed-sound : Headed file → Sound file
+  headed-sound g = sound-header file (pass-five (λ j q. g j (omega arith))) (pass-sizes g)
 
 module _ (file : List ℕ) (f : Refusal) where
   heads-fail : (w : HeadWord file f) (n i : ℕ) → i ≤ w .word → w .word < i + n → heads file i n ≡ Failed f
@@ -166,41 +148,22 @@ module _ (file : List ℕ) (f : Refusal) where
       r .rest ∙ walk-bad file (c .at) (c .cursor) (wordAt file (c .at)) _ (w .1) (r .aligned) (c .there) refl refl (c .number) (c .refuses) ∙ ap Refused (sym (c .said))
   walk-refuses w s (inr c) =
       let r = comes-reads file (w .1) s (c .comes) in
-      r .rest ∙ walk-end file (length file) (c .cursor) (omega arith) ∙ unended (c .cursor .mode) (c .unended) ∙ ap Refused (sym (c .said))
+      r .rest ∙ walk-end file (length file) (c .cursor) (omega arith) ∙ go (ended (length file) (c .cursor) (c .cursor .mode)) ∙ ap Refused (sym (c .said))
     where
-      unended : (m : Mode) → m ≢ End → endedOf (length file) (c .cursor) m ≡ refuse 31 (length file)
-      unended End h = absurd (h refl)
-      unended Begin h = refl
-      unended NameLength h = refl
-      unended Body h = refl
-      unended (Length k) h = refl
-      unended (Stored i) h = refl
-      unended Part h = refl
-      unended Count h = refl
-      unended (Number n) h = refl
-      unended (Offset n k) h = refl
-      unended Symbol h = refl
-      unended DebugLength h = refl
-      unended (Skip n a) h = refl
+      go : Ends (length file) (c .cursor) (c .cursor .mode) → endedOf (length file) (c .cursor) (c .cursor .mode) ≡ refuse 31 (length file)
+      go (inl x) = absurd (c .unended (x .0))
+      go (inr x) = x .1
 
   whole-check : Whole file → checkOf file ≡ and (heads file 0 5) (and (heads file 5 (totalOf file)) (walkOf file))
   unfolding checkOf pick
   whole-check w = rw (ne-eqb _ _ (w .0), eq-eqb _ _ (w .1))
-
-  -- the five words, then the sizes
-  pass-five : ((j : ℕ) → j < 5 → Fine file j) → heads file 0 5 ≡ Passed
-  pass-five g = heads-pass file 5 0 (omega (arith, g 4 (omega arith) .0)) (λ j l q. g j q .1)
-
-  pass-sizes : Headed file → heads file 5 (totalOf file) ≡ Passed
-  pass-sizes g =
-      heads-pass file (totalOf file) 5 (omega (arith, g (4 + totalOf file) (omega arith) .0)) (λ j l q. g j q .1)
 
   head-refuses : HeadWord file f → and (heads file 0 5) (and (heads file 5 (totalOf file)) (walkOf file)) ≡ Refused f
   head-refuses w = go (decLt (w .word) 5)
     where
       go : Dec (w .word < 5) → and (heads file 0 5) (and (heads file 5 (totalOf file)) (walkOf file)) ≡ Refused f
       go (yes h) = rw (heads-fail w 5 0 (omega arith) (omega arith))
-      go (no h) = rw (pass-five (λ j q. w .before j (omega arith)), heads-fail w (totalOf file) 5 (omega arith) (w .within))
+      go (no h) = rw (pass-five file (λ j q. w .before j (omega arith)), heads-fail w (totalOf file) 5 (omega arith) (w .within))
 
   -- each is given exactly then
   pub why-check : Because file f → checkOf file ≡ Refused f
@@ -216,11 +179,9 @@ module _ (file : List ℕ) (f : Refusal) where
           go false = rw (ne-eqb _ _ h)
   why-check (inr (inl c)) = whole-check (c .0) ∙ head-refuses (c .1)
   why-check (inr (inr c)) =
-      let p = pass-five (λ j q. c .1 j (omega arith)) in
-      let q = pass-sizes (c .1) in
-      whole-check (c .0) ∙ rw (p, q) (walk-refuses (c .0) (sound-header file p q) (c .2))
+      whole-check (c .0) ∙ rw (pass-five file (λ j q. c .1 j (omega arith)), pass-sizes file (c .1)) (walk-refuses (c .0) (headed-sound file (c .1)) (c .2))
 
--- ---- which word is not taken, by what the reader expects
+-- ---- which word is not taken, by what the reader expects: both ways
 
 bad-same : (a v : ℕ) → Bad a ≡ Bad v → v ≡ a
 bad-same a v e = cc
@@ -267,6 +228,147 @@ module _ (t : ℕ) (size : ℕ → ℕ) (c : Cursor) (w v : ℕ) where
   turn-why (Skip n a) = λ e. both-on _ _ _ e
   turn-why End = λ e. bad-same 39 v e
 
-  pub step-why : stepOf t size c w ≡ Bad v → Refuses t size c w v (c .mode)
+  body-refused : v ≡ 35 → w ≢ 0x3E9 → w ≢ 0x3EA → w ≢ 0x3EB → bodyOf c w ≡ Bad v
+  unfolding pick
+  body-refused e p q r = rw (ne-eqb w 0x3E9 p, ne-eqb w 0x3EA q, ne-eqb w 0x3EB r, e)
+
+  -- the same from right to left
+  why-turn : (m : Mode) → Refuses t size c w v m → turn t size c w m ≡ Bad v
+  unfolding pick
+  why-turn Begin h = rw (ne-eqb w 0x3E8 (h .1)) (body-refused (h .0) (h .2) (h .3) (h .4))
+  why-turn Body h = body-refused (h .0) (h .1) (h .2) (h .3)
+  why-turn (Length k) h = rw (lt-ltb _ _ (h .1), h .0)
+  why-turn Part h = rw (ne-eqb w 0x3EC (h .1), ne-eqb w 0x3F0 (h .2), ne-eqb w 0x3F1 (h .3), ne-eqb w 0x3F2 (h .4), h .0)
+  why-turn (Number n) h = rw (le-ltb _ _ (h .1), h .0)
+  why-turn (Offset n k) h = go (eqb (w % 2) 0) refl (h .1)
+    where
+      go : (b : Bool) → eqb (w % 2) 0 ≡ b → (w % 2 ≢ 0) ⊎ (4 * c .stored < w + 4) → pick b (pick (ltb (4 * c .stored) (w + 4)) (Bad 38) (pick (eqb n 0) (on c Count) (on c (Offset (n - 1) k)))) (Bad 38) ≡ Bad v
+      go false q x = ap Bad (sym (h .0))
+      go true q (inl x) = absurd (x (eqb-true _ _ q))
+      go true q (inr x) = rw (lt-ltb _ _ x, h .0)
+  why-turn Symbol h = rw (ne-eqb w 0 (omega (arith, h .1)), le-leb _ _ (h .1), h .0)
+  why-turn End h = ap Bad (sym h)
+  why-turn NameLength h = absurd h
+  why-turn (Stored i) h = absurd h
+  why-turn Count h = absurd h
+  why-turn DebugLength h = absurd h
+  why-turn (Skip n a) h = absurd h
+
+  -- a word is not taken, with the number v, if and only if it may not stand there
+  pub step-why : (stepOf t size c w ≡ Bad v) ↔ Refuses t size c w v (c .mode)
   unfolding stepOf
-  step-why = turn-why (c .mode)
+  step-why = (turn-why (c .mode), why-turn (c .mode))
+
+-- ---- the same in the terms of the page
+
+offset-wrong : (n w : ℕ) → (OffsetFits n w → ⊥) ↔ ((w % 2 ≢ 0) ⊎ (4 * n < w + 4))
+offset-wrong n w = (there (decLt (4 * n) (w + 4)), back)
+  where
+    there : Dec (4 * n < w + 4) → (OffsetFits n w → ⊥) → (w % 2 ≢ 0) ⊎ (4 * n < w + 4)
+    there (yes q) h = inr q
+    there (no q) h = inl (λ e. h (e, omega arith))
+
+    back : (w % 2 ≢ 0) ⊎ (4 * n < w + 4) → OffsetFits n w → ⊥
+    back (inl e) h = e (h .0)
+    back (inr l) h = omega (arith, h .1)
+
+module _ (t : ℕ) (size : ℕ → ℕ) (h p w v : ℕ) where
+  part-wrong : (n : ℕ) (q : PartBegun) → PartWrong t n w v q ↔ Refuses t size (cursor (partMode q) h p n) w v (partMode q)
+  part-wrong n aPart = Iff·rfl
+  part-wrong n (aCount gs) = Iff·rfl
+  part-wrong n (aNumber gs k) = Iff·rfl
+  part-wrong n (anOffset gs k l os) =
+      let o = offset-wrong n w in
+      (λ x. (x .0, o .0 (x .1)), λ x. (x .0, o .1 (x .1)))
+  part-wrong n (aSymbol us) = Iff·rfl
+  part-wrong n (symbolWord us k ws) = Iff·rfl
+  part-wrong n debugLength = Iff·rfl
+  part-wrong n (debugWord k ws) = Iff·rfl
+
+  -- a word may not come next if and only if the reader does not take it
+  begun-wrong : (b : Begun) → Wrong t (size h) w v b ↔ Refuses t size (cursorIn b h p) w v (modeOf b)
+  begun-wrong first = Iff·rfl
+  begun-wrong nameLength = Iff·rfl
+  begun-wrong (nameWord n ws) = Iff·rfl
+  begun-wrong (aBody ws) = Iff·rfl
+  begun-wrong (bodyLength x k) = Iff·rfl
+  begun-wrong (bodyWord x k n ws) = Iff·rfl
+  begun-wrong (afterBody x b ps q) = part-wrong (length (storedWords b)) q
+
+module _ (file : List ℕ) (even : length file % 4 ≡ 0) (s : Sound file) where
+  module _ (f : Refusal) where
+    word-says : HunkWord file f → WrongWord file f ⊎ MoreWords file f
+    word-says r = go (comes-stands file even s (r .cursor) (r .at) (r .comes))
+      where
+        why : Refuses (totalOf file) (sizeOf file) (r .cursor) (wordAt file (r .at)) (r .number) (r .cursor .mode)
+        why = step-why (totalOf file) (sizeOf file) (r .cursor) (wordAt file (r .at)) (r .number) .0 (r .refuses)
+
+        go : Within file (r .cursor) (r .at) ⊎ Past file (r .cursor) (r .at) → WrongWord file f ⊎ MoreWords file f
+        go (inl k) =
+            let x = subst (λ (c : Cursor). Refuses (totalOf file) (sizeOf file) c (wordAt file (r .at)) (r .number) (c .mode)) (sym (k .is)) why in
+            inl (record { hunks = k .hunks; begun = k .begun; at = r .at; before = k .before; there = r .there; number = r .number; wrong = begun-wrong (totalOf file) (sizeOf file) (length (k .hunks)) (4 * total (k .hunks)) (wordAt file (r .at)) (r .number) (k .begun) .1 x; said = r .said })
+        go (inr k) =
+            let x : r .number ≡ 39 = subst (λ (c : Cursor). Refuses (totalOf file) (sizeOf file) c (wordAt file (r .at)) (r .number) (c .mode)) (sym (k .is)) why in
+            inr (record { hunks = k .hunks; at = r .at; whole = k .whole; there = r .there; said = r .said ∙ ap (λ (n : ℕ). refusal n (r .at)) x })
+
+    says-word : WrongWord file f ⊎ MoreWords file f → HunkWord file f
+    says-word (inl r) =
+        let c = cursorOf (r .hunks) (r .begun) in
+        record { cursor = c; at = r .at; comes = before-comes file (s .some) (r .hunks) (r .at) (r .begun) (r .before); there = r .there; number = r .number; refuses = step-why (totalOf file) (sizeOf file) c (wordAt file (r .at)) (r .number) .1 (begun-wrong (totalOf file) (sizeOf file) (length (r .hunks)) (4 * total (r .hunks)) (wordAt file (r .at)) (r .number) (r .begun) .0 (r .wrong)); said = r .said }
+    says-word (inr r) =
+        let c = cursorPast (r .hunks) in
+        record { cursor = c; at = r .at; comes = whole-comes file (s .some) (r .hunks) (r .at) (r .whole); there = r .there; number = 39; refuses = step-why (totalOf file) (sizeOf file) c (wordAt file (r .at)) 39 .1 refl; said = r .said }
+
+    missing-says : Missing file f → MissingWord file f
+    missing-says r = go (comes-stands file even s (r .cursor) (length file) (r .comes))
+      where
+        go : Within file (r .cursor) (length file) ⊎ Past file (r .cursor) (length file) → MissingWord file f
+        go (inl k) = record { hunks = k .hunks; begun = k .begun; before = k .before; said = r .said }
+        go (inr k) = absurd (r .unended (ap (λ (c : Cursor). c .mode) (sym (k .is))))
+
+    says-missing : MissingWord file f → Missing file f
+    says-missing r =
+        record { cursor = cursorOf (r .hunks) (r .begun); comes = before-comes file (s .some) (r .hunks) (length file) (r .begun) (r .before); unended = unended (r .begun); said = r .said }
+
+module _ (file : List ℕ) (f : Refusal) where
+  because-says : Because file f → Says file f
+  because-says (inl r) = inl r
+  because-says (inr (inl r)) = inr (inl r)
+  because-says (inr (inr r)) = inr (inr (r .0, r .1, go (headed-sound file (r .1)) (r .2)))
+    where
+      go : Sound file → HunkWord file f ⊎ Missing file f → WrongWord file f ⊎ MoreWords file f ⊎ MissingWord file f
+      go s (inl k) = found (word-says file (r .0 .1) s f k)
+        where
+          found : WrongWord file f ⊎ MoreWords file f → WrongWord file f ⊎ MoreWords file f ⊎ MissingWord file f
+          found (inl x) = inl x
+          found (inr x) = inr (inl x)
+      go s (inr k) = inr (inr (missing-says file (r .0 .1) s f k))
+
+  says-because : Says file f → Because file f
+  says-because (inl r) = inl r
+  says-because (inr (inl r)) = inr (inl r)
+  says-because (inr (inr r)) = inr (inr (r .0, r .1, go (headed-sound file (r .1)) (r .2)))
+    where
+      go : Sound file → WrongWord file f ⊎ MoreWords file f ⊎ MissingWord file f → HunkWord file f ⊎ Missing file f
+      go s (inl k) = inl (says-word file (r .0 .1) s f (inl k))
+      go s (inr (inl k)) = inl (says-word file (r .0 .1) s f (inr k))
+      go s (inr (inr k)) = inr (says-missing file (r .0 .1) s f k)
+
+  -- the check refuses a file, with a number and a place, if and only if `Says` says so
+  pub refused-exactly : (checkOf file ≡ Refused f) ↔ Says file f
+  refused-exactly = (λ e. because-says (check-why file f e), λ r. why-check file f (says-because r))
+
+-- a file holds hunks or has a refusal; never both, and no two refusals
+module _ (file : List ℕ) where
+  pub held-or-said : ((hs : List Hunk) × Holds file hs) ⊎ ((f : Refusal) × Says file f)
+  held-or-said = go (checkOf file) refl
+    where
+      go : (a : Answer) → checkOf file ≡ a → ((hs : List Hunk) × Holds file hs) ⊎ ((f : Refusal) × Says file f)
+      go (Accepted t n) e = inl (accepted-page file t n e)
+      go (Refused f) e = inr (f, refused-exactly file f .0 e)
+
+  pub held-not-said : (hs : List Hunk) (f : Refusal) → Holds file hs → Says file f → ⊥
+  held-not-said hs f h r = not-refused (sym (page-accepted file hs h) ∙ refused-exactly file f .1 r)
+
+  pub said-once : (f g : Refusal) → Says file f → Says file g → f ≡ g
+  said-once f g a b = refused-same g f (sym (refused-exactly file g .1 b) ∙ refused-exactly file f .1 a)

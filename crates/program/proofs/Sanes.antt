@@ -20,10 +20,10 @@ use Rattle.program.specs.Header.{totalOf, sizeOf}
 use Rattle.program.specs.Reader.{start, on, resume, skip, bodyOf, storedFrom, lengthOf, endOf, partOf, countOf, numberOf, offsetOf, symbolOf, turn, stepOf}
 use Rattle.program.specs.Sane.{Sound, placeOf, ModeFits, Sane}
 
-bad-on : {A : Type 0} (e : ℕ) (d : Cursor) → Bad e ≡ On d → A
+pub bad-on : {A : Type 0} (e : ℕ) (d : Cursor) → Bad e ≡ On d → A
 bad-on e d h = impossible cc
 
-on-on : (a d : Cursor) → On a ≡ On d → a ≡ d
+pub on-on : (a d : Cursor) → On a ≡ On d → a ≡ d
 on-on a d h = cc
 
 -- a choice that goes on went one of two ways

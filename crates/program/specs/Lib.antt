@@ -1,6 +1,8 @@
 -- What the contracts of `program` cite. To read what a program file is: Page.
 -- a program file as the page shows it: hunks, written out to words
 pub mod Page
+-- a hunk that is begun, and which word may not come next
+pub mod Begun
 -- the header's words
 pub mod Header
 -- the reader, a word at a time
@@ -11,7 +13,7 @@ pub mod Check
 pub mod Acts
 -- what holds while a file is read
 pub mod Sane
--- words that a pass may go on behind
+-- words after which a pass may go on
 pub mod Runs
 -- what a refusal of the check says
 pub mod Verdicts

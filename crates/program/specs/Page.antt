@@ -45,7 +45,7 @@ abbrev pub joined : {A : Type 0} → (A → List ℕ) → List A → List ℕ
 joined f [] = []
 joined f (x ∷ xs) = f x ++ joined f xs
 
--- a list of words behind their number
+-- a list of words after their number
 abbrev pub counted : List ℕ → List ℕ
 counted ws = length ws ∷ ws
 

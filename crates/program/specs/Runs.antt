@@ -1,4 +1,4 @@
--- Words that the reader takes and that ask for nothing but their own store: where they lead. Code that does not store may go on behind them.
+-- Words that the reader takes and that ask for nothing but their own store: where they lead. Code that does not store may go on after them.
 use Prim.Native.Nat.{ℕ, _+_, _-_, _<_}
 use mathlib.Core.Path.{_≡_}
 use mathlib.Core.List.{List}
@@ -27,7 +27,7 @@ modedOf c m = record { mode = m; hunk = c .hunk; place = c .place; stored = c .s
 abbrev pub skipAt : Cursor → ℕ → After → Cursor
 skipAt c n a = pick (eqb n 0) (modedOf c (resume a)) (modedOf c (Skip (n - 1) a))
 
--- before the stored word i, or behind the last
+-- before the stored word i, or after the last
 abbrev pub storedAt : Cursor → ℕ → Cursor
 storedAt c i = pick (eqb i (c .stored)) (modedOf c Part) (modedOf c (Stored i))
 

@@ -1,16 +1,18 @@
--- What a refusal of the check says of the file (the build paper, "Numbers").
+-- What a refusal of the check says of the file: `Says` (the build paper, "Numbers").
 use Prim.Native.Nat.{ℕ, _+_, _*_, _%_, _<_, _≤_}
 use mathlib.Core.Path.{_≡_}
 use mathlib.Core.Logic.{_≢_, _⊎_}
-use mathlib.Core.List.{List}
+use mathlib.Core.List.{List, [], _∷_, _++_}
 use lib.ListN.{length}
-use Rattle.words.specs.Word.{wordAt}
+use Rattle.words.specs.Word.{wordAt, wordsAt}
 use Rattle.answers.specs.Refusals.{refusal}
 use Rattle.answers.specs.declared.Refusal.{Refusal}
 use Rattle.program.specs.declared.reader.Cursor.{Cursor}
 use Rattle.program.specs.declared.reader.Mode.{Mode}
 use Rattle.program.specs.declared.reader.Mode.the-variants.{Begin, NameLength, Body, Length, Stored, Part, Count, Number, Offset, Symbol, DebugLength, Skip, End}
 use Rattle.program.specs.declared.reader.Next.the-variants.{On, Bad}
+use Rattle.program.specs.Page.{Hunk, joined, hunkWords, HunkFits}
+use Rattle.program.specs.Begun.{Begun, soFar, BegunFits, Wrong}
 use Rattle.program.specs.Header.{totalOf, sizeOf, startAt, headFault}
 use Rattle.program.specs.Reader.{start, stepOf}
 
@@ -52,7 +54,67 @@ pub record HeadWord (file : List ℕ) (f : Refusal) : Type 0 where
 abbrev pub Headed : List ℕ → Type 0
 Headed file = (j : ℕ) → OfHeader file j → Fine file j
 
--- ---- behind the header: word by word
+-- ---- 35 to 39, and 31 after the header: what stands before a byte of the file
+
+-- the words from the end of the header to byte `at` are these
+pub record Stand (file ws : List ℕ) (at : ℕ) : Type 0 where
+  pub place : at ≡ startAt file + 4 * length ws
+  pub within : at ≤ length file
+  pub words : wordsAt file (startAt file) (length ws) ≡ ws
+
+-- hunks from number i on, of t: each is within the limits, and has the size that the header gives
+abbrev pub OfSizes : ℕ → (ℕ → ℕ) → ℕ → List Hunk → Type 0
+OfSizes t size i [] = Unit {0}
+OfSizes t size i (h ∷ hs) = (h .size ≡ size i) × HunkFits t h × OfSizes t size (i + 1) hs
+
+-- before byte `at` stand whole hunks, and what is begun of the next
+pub record Before (file : List ℕ) (hs : List Hunk) (b : Begun) (at : ℕ) : Type 0 where
+  pub next : length hs < totalOf file
+  pub hunks : OfSizes (totalOf file) (sizeOf file) 0 hs
+  pub begun : BegunFits (totalOf file) (sizeOf file (length hs)) b
+  pub stand : Stand file (joined hunkWords hs ++ soFar b) at
+
+-- before byte `at` stand all hunks
+pub record AllHunks (file : List ℕ) (hs : List Hunk) (at : ℕ) : Type 0 where
+  pub all : length hs ≡ totalOf file
+  pub hunks : OfSizes (totalOf file) (sizeOf file) 0 hs
+  pub stand : Stand file (joined hunkWords hs) at
+
+-- 35 to 38: the word at `at` may not come there
+pub record WrongWord (file : List ℕ) (f : Refusal) : Type 0 where
+  pub hunks : List Hunk
+  pub begun : Begun
+  pub at : ℕ
+  pub before : Before file hunks begun at
+  pub there : at < length file
+  pub number : ℕ
+  pub wrong : Wrong (totalOf file) (sizeOf file (length hunks)) (wordAt file at) number begun
+  pub said : f ≡ refusal number at
+
+-- 39: there is a word after all hunks
+pub record MoreWords (file : List ℕ) (f : Refusal) : Type 0 where
+  pub hunks : List Hunk
+  pub at : ℕ
+  pub whole : AllHunks file hunks at
+  pub there : at < length file
+  pub said : f ≡ refusal 39 at
+
+-- 31: the file ends before the last hunk does
+pub record MissingWord (file : List ℕ) (f : Refusal) : Type 0 where
+  pub hunks : List Hunk
+  pub begun : Begun
+  pub before : Before file hunks begun (length file)
+  pub said : f ≡ refusal 31 (length file)
+
+-- ---- any refusal: one of these, in this order
+
+abbrev pub Says : List ℕ → Refusal → Type 0
+Says file f =
+    (Unwhole file × (f ≡ refusal 30 0))
+    ⊎ (Whole file × HeadWord file f)
+    ⊎ (Whole file × Headed file × (WrongWord file f ⊎ MoreWords file f ⊎ MissingWord file f))
+
+-- ---- a step in between, for the proofs: the same by the reader, word by word
 
 -- the reader comes to byte `at` with the cursor c: it has taken every word of the hunks before that byte
 pub data Comes (file : List ℕ) : Cursor → ℕ → Type 0 where
@@ -92,8 +154,7 @@ Refuses t size c w v Count = ⊥
 Refuses t size c w v DebugLength = ⊥
 Refuses t size c w v (Skip n a) = ⊥
 
--- ---- any refusal: one of these, in this order
-
+-- any refusal, by the reader; `Refusing.refused-exactly` turns it into `Says`
 abbrev pub Because : List ℕ → Refusal → Type 0
 Because file f =
     (Unwhole file × (f ≡ refusal 30 0))

@@ -23,7 +23,7 @@ pub enum Answer {
     Refused(Refusal),
 }
 
-pub fn refused(number: u32, place: usize) -> Answer
+fn refused(number: u32, place: usize) -> Answer
     ensures { λ r. ⌜ r ≡ refuse number place ⌝ }
 {
     Answer::Refused(Refusal {

@@ -6,14 +6,14 @@ ghost use Prim.Native.Nat.{_+_, _*_, _≤_};
 ghost use lib.ListN.{length};
 ghost use Rattle.program.specs.Header.{totalOf, sizeOf, headFault, heads};
 
-pub const HEADER: u32 = 0x3F3;
+const HEADER: u32 = 0x3F3;
 
 // The words before the sizes.
 pub const WORDS: usize = 5;
 
-pub const MOST_HUNKS: u32 = 64;
+const MOST_HUNKS: u32 = 64;
 
-pub const LARGEST: u32 = 65536;
+const LARGEST: u32 = 65536;
 
 // The number of hunks.
 pub fn total(file: &[u8]) -> u32
@@ -62,7 +62,7 @@ fn head_fault(file: &[u8], i: usize, w: u32) -> u32
 }
 
 // n words of the header from word `from` on.
-pub fn head_words(file: &[u8], from: usize, n: usize) -> Tested
+pub(crate) fn head_words(file: &[u8], from: usize, n: usize) -> Tested
     requires { ⌜ (from ≤ 5) × (n ≤ 4294967296) ⌝ }
     ensures { λ r. ⌜ r ≡ heads (now (file .entry)) from n ⌝ }
 {

@@ -12,21 +12,21 @@ ghost use Rattle.program.specs.Sane.{Sane};
 ghost use Rattle.program.specs.Runs.{modedOf, skipAt, storedAt, Leads};
 
 // Types of blocks.
-pub const NAME: u32 = 0x3E8;
+pub(crate) const NAME: u32 = 0x3E8;
 
-pub const CODE: u32 = 0x3E9;
+const CODE: u32 = 0x3E9;
 
-pub const DATA: u32 = 0x3EA;
+const DATA: u32 = 0x3EA;
 
-pub const BSS: u32 = 0x3EB;
+const BSS: u32 = 0x3EB;
 
-pub const RELOCATION: u32 = 0x3EC;
+const RELOCATION: u32 = 0x3EC;
 
-pub const SYMBOLS: u32 = 0x3F0;
+const SYMBOLS: u32 = 0x3F0;
 
-pub const DEBUG: u32 = 0x3F1;
+const DEBUG: u32 = 0x3F1;
 
-pub const END: u32 = 0x3F2;
+const END: u32 = 0x3F2;
 
 // What comes after words that are skipped.
 pub enum After {
@@ -48,13 +48,13 @@ pub enum Mode {
     Stored(u32),
     // The type of a further block, or the hunk's end.
     Part,
-    // How many offsets a group has, or 0 behind the last group.
+    // How many offsets a group has, or 0 after the last group.
     Count,
-    // The group's hunk number; so many offsets follow behind the first.
+    // The group's hunk number; so many offsets follow after the first.
     Number(u32),
     // An offset; so many follow it, all for this hunk.
     Offset(u32, u32),
-    // A symbol's type and length, or 0 behind the last symbol.
+    // A symbol's type and length, or 0 after the last symbol.
     Symbol,
     DebugLength,
     // A word that says nothing here; so many follow it, and then this.
@@ -71,7 +71,7 @@ pub struct Cursor {
     pub stored: u32,
 }
 
-// The cursor behind a word, or the number of the refusal that the word gives.
+// The cursor after a word, or the number of the refusal that the word gives.
 pub enum Next {
     On(Cursor),
     Bad(u32),
@@ -150,7 +150,7 @@ fn body(c: Cursor, w: u32) -> Next
     Next::Bad(35)
 }
 
-// Before the stored word i, or behind the last.
+// Before the stored word i, or after the last.
 fn stored_at(c: Cursor, i: u32) -> Cursor
     ensures { λ r. ⌜ r ≡ storedAt c i ⌝ }
 {
@@ -332,7 +332,7 @@ fn least(a: usize, b: usize) -> usize
     if a <= b { a } else { b }
 }
 
-// Behind the words from `at` on that the reader takes whatever they are: words that are stored or passed over, as many as there are.
+// After the words from `at` on that the reader takes whatever they are: words that are stored or passed over, as many as there are.
 pub fn past(file: &[u8], c: Cursor, at: usize) -> Spot
     requires { ⌜ (Sane (now file) c) × (length (now file) % 4 ≡ 0) × (at % 4 ≡ 0) ⌝ }
     ensures { λ r. ⌜ Leads (now (file .entry)) c at (r .cursor) (r .at) ⌝ }

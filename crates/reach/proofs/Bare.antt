@@ -1,5 +1,6 @@
 -- The theorem `law-bare`: a node may carry context that only its tests need; what is reached and what is owned can then be said of
--- bare nodes. `to-bare` and `from-bare` go between the two reached sets. Assumes nothing.
+-- bare nodes. `to-bare` and `from-bare` go between the two reached sets. They ask of a reached node only what makes it refer to what its
+-- bare node refers to (`Ok`). Assumes nothing.
 use mathlib.Core.Path.{_≡_, refl, sym, ap, _∙_, subst}
 use mathlib.Core.Logic.{_≢_, _↔_}
 use mathlib.Core.List.{map}
@@ -9,19 +10,19 @@ use Rattle.reach.specs.Walk.{Graph}
 use Rattle.reach.specs.Law.{Fine, Law}
 use Rattle.reach.proofs.Lists.{at-map, map-at}
 
--- a node that passes its tests refers to what its bare node refers to
-module _ {Node Bare S : Type 0} (G : Graph Node S) (B : References Bare) (bare : Node → Bare)
+-- a node that is Ok refers to what its bare node refers to
+module _ {Node Bare S : Type 0} (G : Graph Node S) (B : References Bare) (bare : Node → Bare) (Ok : Node → Type 0)
     (root≡ : bare (G .references .root) ≡ B .root)
     (key≡ : (n : Node) → B .key (bare n) ≡ G .references .key n)
-    (refs≡ : (n : Node) → G .before n ≡ 0 → G .after n ≡ 0 → map bare (G .references .refs n) ≡ B .refs (bare n)) where
+    (refs≡ : (n : Node) → Ok n → map bare (G .references .refs n) ≡ B .refs (bare n)) where
   open References (G .references) using (root, key, refs)
 
   abbrev R : Node → Type 0
   R n = Reached (G .references) n
 
-  module _ (fine : Fine G) where
+  module _ (fine : (n : Node) → R n → Ok n) where
     agrees : (m : Node) → R m → map bare (refs m) ≡ B .refs (bare m)
-    agrees m r = refs≡ m (fine m r .0) (fine m r .1)
+    agrees m r = refs≡ m (fine m r)
 
     at-bare : (m n : Node) (i : ℕ) → R m → At i n (refs m) → At i (bare n) (B .refs (bare m))
     at-bare m n i r h = subst (At i (bare n)) (agrees m r) (at-map bare i n (refs m) h)
@@ -67,5 +68,6 @@ module _ {Node Bare S : Type 0} (G : Graph Node S) (B : References Bare) (bare :
       none = λ m n i r h e. w .none (bare m) (bare n) i (to-bare r) (at-bare m n i r h) (key≡ n ∙ e ∙ sym (key-of (B .root) root (sym root≡)));
     }
 
-  pub law-bare : Law G ↔ (Fine G × Owned B)
-  law-bare = ((λ w. (w .fine, lowered (w .fine) (w .owned))), (λ p. record { fine = p .0; owned = raised (p .0) (p .1) }))
+  -- if passing its tests makes a node Ok
+  pub law-bare : (Fine G → (n : Node) → R n → Ok n) → Law G ↔ (Fine G × Owned B)
+  law-bare ok = ((λ w. (w .fine, lowered (ok (w .fine)) (w .owned))), (λ p. record { fine = p .0; owned = raised (ok (p .0)) (p .1) }))

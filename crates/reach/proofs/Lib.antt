@@ -24,3 +24,5 @@ pub mod Refuses
 pub mod Firsts
 -- `law-bare`: the same law, of nodes that carry less
 pub mod Bare
+-- `pruned-same`: what a node that fails refers to does not matter
+pub mod Pruned

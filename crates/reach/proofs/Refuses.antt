@@ -23,11 +23,11 @@ module _ {Node S : Type 0} (G : Graph Node S) where
 
   -- ---- where a key is referred to
 
-  abbrev place : (p m : Item Node) (j : ℕ) (k : ℕ) → InTree G m → At j p (kids m) → K p ≡ k → Place G k
+  abbrev place : (p m : Item Node) (j : ℕ) (k : ℕ) → InTree G m → At j p (kids m) → K p ≡ k → Place (G .references) k
   place p m j k r h e = record { from = m .1; to = p .1; nth = j; reached = down (G .references) r; stands = number-at 0 m (refs (m .1)) j p h .1; keyed = e }
 
   -- two items with one key, the one done and the other to do
-  twice : (N : ℕ) (c : List ℕ) (s : List (Item Node)) (p q : Item Node) (ps : List (Item Node)) → Fit G N c s (p ∷ ps) → InTree G p → InTree G q → q ∈ s → K q ≡ K p → Twice G (K p)
+  twice : (N : ℕ) (c : List ℕ) (s : List (Item Node)) (p q : Item Node) (ps : List (Item Node)) → Fit G N c s (p ∷ ps) → InTree G p → InTree G q → q ∈ s → K q ≡ K p → Twice (G .references) (K p)
   twice N c s p q ps i (top e) (top e′) m k = absurd (i .kept .apart p (inl refl) (subst (λ x. x ∈ s) (e′ ∙ sym e) m))
   twice N c s p q ps i (top e) (ref {m = m′} {n = q′} j′ d′ h′) m k = (place q m′ j′ (K p) d′ h′ k, inl (ap K e))
   twice N c s p q ps i (ref {m = m′} {n = p′} j d h) (top e) m k = (place p m′ j (K p) d h refl, inl (sym k ∙ ap K e))
@@ -63,12 +63,12 @@ module _ {Node S : Type 0} (G : Graph Node S) where
         r : InTree G p
         r = i .kept .todo p (inl refl)
 
-        claimed-by : Claim G c s (K p) → getD c (K p) 1 ≢ 0 → Twice G (K p)
+        claimed-by : Claim G c s (K p) → getD c (K p) 1 ≢ 0 → Twice (G .references) (K p)
         claimed-by (inl z) h = absurd (h z)
         claimed-by (inr o) h = let q = o .1 in twice N c s p (q .0) ps i r (i .kept .seen (q .0) (q .1)) (q .1) (q .2)
 
         go : (b : ℕ) → G .before (p .1) ≡ b → (m : ℕ) → getD c (K p) 1 ≡ m → first b (first (claimed (G .taken) m) (G .after (p .1))) ≡ suc v
-            → (G .before (p .1) ≡ suc v) ⊎ ((suc v ≡ G .taken) × Twice G (K p)) ⊎ (G .after (p .1) ≡ suc v)
+            → (G .before (p .1) ≡ suc v) ⊎ ((suc v ≡ G .taken) × Twice (G .references) (K p)) ⊎ (G .after (p .1) ≡ suc v)
         go (suc b) hb m hm e = inl (hb ∙ e)
         go zero hb zero hm e = inr (inr e)
         go zero hb (suc m) hm e = inr (inl (sym e ∙ first-refuses (G .taken) _ (G .taken-refuses), claimed-by (i .kept .bytes (K p) (subst (λ x. K p < x) (sym (i .size)) (room (p .1) hb))) (λ z. absurd (omega (arith, hm, z)))))

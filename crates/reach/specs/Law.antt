@@ -2,14 +2,48 @@
 -- reports when it accepts (`Report`), and what a refusal means (`Why`).
 use mathlib.Core.Path.{_≡_}
 use mathlib.Core.Logic.{_≢_, _⊎_}
-use mathlib.Core.List.{List, map, foldr}
+use mathlib.Core.List.{List, [], map, foldr}
 use Prim.Native.Nat.{ℕ, _+_, _<_}
+use lib.Dec.{eqb}
 use lib.ListN.{length, getD}
+use Rattle.answers.specs.Tests.{pick, first}
 use Rattle.reach.specs.References.{References, At, _∈_, Uniq, Reached, Owned}
 use Rattle.reach.specs.Walk.{Graph, free}
 
+-- ---- two places that refer to one key
+
+module _ {Node : Type 0} (R : References Node) where
+  open References R using (root, key, refs)
+
+  -- a place that refers to the key k
+  pub record Place (k : ℕ) : Type 0 where
+    pub from : Node
+    pub to : Node
+    pub nth : ℕ
+    pub reached : Reached R from
+    pub stands : At nth to (refs from)
+    pub keyed : key to ≡ k
+
+  -- two places refer to k, or one does and k is the root's key
+  abbrev pub Twice : ℕ → Type 0
+  Twice k = (p : Place k) × ((k ≡ key root) ⊎ ((q : Place k) × ((key (p .from) ≡ key (q .from)) × (p .nth ≡ q .nth) → ⊥)))
+
+-- ---- a graph
+
 module _ {Node S : Type 0} (G : Graph Node S) where
   open References (G .references) using (root, key, refs)
+
+  -- the graph in which a node that fails its tests refers to nothing
+  abbrev pub pruned : Graph Node S
+  pruned =
+      record {
+        references = record { root = root; key = key; refs = λ n. pick (eqb (first (G .before n) (G .after n)) 0) (refs n) [] };
+        before = G .before;
+        taken = G .taken;
+        taken-refuses = G .taken-refuses;
+        after = G .after;
+        note = G .note;
+      }
 
   -- every reached node passes its tests
   abbrev pub Fine : Type 0
@@ -31,22 +65,9 @@ module _ {Node S : Type 0} (G : Graph Node S) where
     pub noted : s ≡ foldr (G .note) s₀ nodes
     pub used : free c + length nodes ≡ N
 
-  -- a place that refers to the key k
-  pub record Place (k : ℕ) : Type 0 where
-    pub from : Node
-    pub to : Node
-    pub nth : ℕ
-    pub reached : Reached (G .references) from
-    pub stands : At nth to (refs from)
-    pub keyed : key to ≡ k
-
-  -- two places refer to k, or one does and k is the root's key
-  abbrev pub Twice : ℕ → Type 0
-  Twice k = (p : Place k) × ((k ≡ key root) ⊎ ((q : Place k) × ((key (p .from) ≡ key (q .from)) × (p .nth ≡ q .nth) → ⊥)))
-
   -- what the refusal v at k says: a reached node with that key fails with v a test of its own, or k is referred to twice
   pub record Why (v k : ℕ) : Type 0 where
     pub node : Node
     pub reached : Reached (G .references) node
     pub keyed : key node ≡ k
-    pub cause : (G .before node ≡ v) ⊎ ((v ≡ G .taken) × Twice k) ⊎ (G .after node ≡ v)
+    pub cause : (G .before node ≡ v) ⊎ ((v ≡ G .taken) × Twice (G .references) k) ⊎ (G .after node ≡ v)

@@ -22,6 +22,7 @@ use Rattle.reading.specs.Parts.{Copied}
 use Rattle.reading.specs.Reads.{tested, reads, readOf, Reads}
 use Rattle.reading.specs.Outcomes.{Gives, Filled}
 use Rattle.reading.proofs.Contents.{file-long, part-long}
+use Rattle.reading.proofs.Passing.{tested-exactly}
 use Rattle.reading.proofs.Readings.{followed, file-long as image-long, file-size}
 
 -- ---- a copy, byte by byte
@@ -87,7 +88,7 @@ module _ (d : Disk) (s path : List ℕ) where
 
   -- ---- the count
 
-  -- A read gives m bytes exactly if the path leads to a file whose blocks pass, and m is what there is to copy.
+  -- A read gives m bytes exactly if the path leads to a whole file, and m is what there is to copy.
   pub read-exactly : (o n m : ℕ) → (readOf d s path o n ≡ Bytes m) ↔ Gives d s path o n m
   unfolding readOf
   read-exactly o n m = (there (findOf d s path) refl, back)
@@ -98,11 +99,13 @@ module _ (d : Disk) (s path : List ℕ) where
       there (found.File k z c) e q = go (blocksFault d s k) refl q
         where
           go : (t : Tested) → blocksFault d s k ≡ t → tested d s k o n t ≡ Bytes m → Gives d s path o n m
-          go Passed p q = let x : m ≡ length (part (fileBytes d s k) o n) = cc in record { key = k; size = z; compared = c; found = e; passed = p; count = x ∙ count-found k z c e p o n }
+          go Passed p q = let x : m ≡ length (part (fileBytes d s k) o n) = cc in record { key = k; size = z; compared = c; found = e; whole = tested-exactly d s k .0 p; count = x ∙ count-found k z c e p o n }
           go (Failed r) p q = impossible cc
 
       back : Gives d s path o n m → readOf d s path o n ≡ Bytes m
-      back g = rw (g .found, g .passed) (ap Bytes (count-found (g .key) (g .size) (g .compared) (g .found) (g .passed) o n ∙ sym (g .count)))
+      back g =
+          let p = tested-exactly d s (g .key) .1 (g .whole) in
+          rw (g .found, p) (ap Bytes (count-found (g .key) (g .size) (g .compared) (g .found) p o n ∙ sym (g .count)))
 
   -- ---- the output
 
@@ -112,6 +115,6 @@ module _ (d : Disk) (s path : List ℕ) where
       let g = read-exactly o (length output) m .0 (sym (r .answer)) in
       let a : g .key ≡ k = cc in
       let b : g .size ≡ z = cc in
-      let p : blocksFault d s k ≡ Passed = rw a at (g .passed) in
+      let p : blocksFault d s k ≡ Passed = rw a at (tested-exactly d s (g .key) .1 (g .whole)) in
       let l : m ≡ length (part (fileBytes d s k) o (length output)) = g .count ∙ rw b (sym (count-found k z c e p o (length output))) in
       copied-filled (fileBytes d s k) o output m output′ (record { count = l; output = rw e at (r .left) })

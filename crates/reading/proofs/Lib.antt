@@ -15,9 +15,11 @@ pub mod Readings
 pub mod Answers
 -- `passes-tested`, `tested-exactly`: a file passes exactly if it is as the law says, its blocks in range with sum 0
 pub mod Passing
+-- where each block of a file stands in the order of its tests
+pub mod Order
 -- `refused-exactly`: each refusal exactly then
 pub mod Refusing
--- `volume-file-passes`, `volume-read-whole`, `volume-read-answers`: reads on a volume
-pub mod OnVolumes
+-- `tree-file-passes`, `tree-read-whole`, `tree-read-answers`: reads in a tree
+pub mod OnTrees
 -- the answer as numbers: `number-listed`, `zero-exactly`
 pub mod AsNumbers

@@ -18,13 +18,10 @@ use Rattle.answers.specs.declared.Tested.the-variants.{Passed, Failed}
 use Rattle.volume.specs.declared.disk.Disk.{Disk}
 use Rattle.volume.specs.Disks.{imageBytes}
 use Rattle.volume.specs.Files.{sizeOf}
-use Rattle.volume.proofs.Sizes.{range-is}
-use Rattle.answers.proofs.Tests.{first-zero, must-passed}
 use Rattle.lookup.specs.declared.find.Found.{Found}
 use Rattle.lookup.specs.declared.find.Found.the-variants as found
 use Rattle.lookup.specs.Paths.{slash, onto, split}
 use Rattle.lookup.specs.Lookup.{findOf}
-use Rattle.lookup.specs.Search.{placeFault}
 use Rattle.lookup.specs.Verdicts.{IsFile}
 use Rattle.lookup.proofs.Refusing.{file-exactly}
 use Rattle.reading.specs.declared.read.Reading.{Reading}
@@ -123,8 +120,7 @@ module _ (d : Disk) (s path : List ℕ) (o : ℕ) (output : List ℕ) (f : Found
     file-long = is .opened .long
 
     pub file-inside : k < d .blocks
-    unfolding placeFault
-    file-inside = rw (is .key) at (range-is d _ (must-passed _ 4 (first-zero _ _ (is .found .tests .fine) .0)) .1)
+    file-inside = rw (is .key) at (is .found .tests .inside .high)
 
     pub file-size : z ≡ sizeOf s k
     file-size = sym (is .size) ∙ ap (sizeOf s) (is .key)

@@ -1,57 +1,191 @@
 -- Each refusal of a read is given exactly then, with that number and place (`refused-exactly`). Assumes nothing.
-use Prim.Native.Nat.{ℕ}
+use Prim.Native.Nat.{ℕ, zero, suc, _+_, _-_, _*_, _/_, _<_}
 use mathlib.Core.Path.{_≡_, refl, sym, ap, _∙_}
-use mathlib.Core.Logic.{_≢_, inl, inr, _↔_}
+use mathlib.Core.Logic.{_≢_, _↔_}
 use mathlib.Core.Bool.{Bool, true, false}
-use mathlib.Core.List.{List, [], _∷_, _++_}
+use mathlib.Core.List.{List, [], _∷_}
+use native.Mathlib.Omega.{arith}
 use lib.Dec.{eqb}
 use borrow.Author.Tests.{eq-eqb, ne-eqb, eqb-true, eqb-false}
-use Rattle.answers.specs.Tests.{pick}
+use Rattle.answers.specs.Tests.{pick, must, first}
 use Rattle.answers.specs.Refusals.{refusal}
 use Rattle.answers.specs.declared.Tested.{Tested}
 use Rattle.answers.specs.declared.Tested.the-variants.{Passed, Failed}
+use Rattle.answers.proofs.Tests.{first-zero}
 use Rattle.answers.proofs.Clashes.{impossible}
-use Rattle.reach.specs.References.{_∈_}
+use Rattle.reach.specs.References.{At}
 use Rattle.volume.specs.declared.disk.Disk.{Disk}
-use Rattle.volume.specs.Rules.{fileFault}
-use Rattle.walk.specs.Nodes.{Node, keyOf}
+use Rattle.volume.specs.Disks.{inRange}
+use Rattle.volume.specs.Blocks.{slots, wordOf}
+use Rattle.volume.specs.Files.{sizeOf, blocksOf}
+use Rattle.volume.specs.Rules.{fileFault, listFault, dataFault}
+use Rattle.volume.specs.Breaks.{Inside}
+use Rattle.volume.proofs.Passes.{_&_}
+use Rattle.volume.proofs.Breaks.{header-breaks, header-sound, list-breaks, list-sound, data-breaks, data-sound, key-inside, key-outside}
+use Rattle.walk.specs.Nodes.{Node, list, datum, keyOf, keyFault, faultOf}
+use Rattle.walk.proofs.Passes.{key-passed, key-passes}
 use Rattle.lookup.specs.declared.find.Found.{Found}
 use Rattle.lookup.specs.declared.find.Found.the-variants as found
 use Rattle.lookup.specs.Lookup.{findOf}
 use Rattle.lookup.proofs.Deciding.{number-is, place-is}
 use Rattle.reading.specs.FileTests.{nodeFault, firstFault, fileNodes, blocksFault}
 use Rattle.reading.specs.Reads.{refuse, lastComponent, tested, reads, readOf}
-use Rattle.reading.specs.Outcomes.{Fails, Refuses, of-lookup, of-directory, of-header, of-block}
+use Rattle.reading.specs.Outcomes.{GoodData, BadData, data-key, data-itself, GoodList, BadList, list-key, list-itself, Good, Fails, at-data, at-list, Refuses, of-lookup, of-directory, of-header, of-block}
+use Rattle.reading.proofs.Order.{data-place, list-place, Stands, is-data, is-list, stands}
 
--- ---- blocks in order
+-- ---- a block's tests begin with its key's
+
+data KeyFirst (d : Disk) (k f v : ℕ) : Type 0 where
+  out : (Inside d k → ⊥) → v ≡ 5 → KeyFirst d k f v
+  own : Inside d k → f ≡ v → v ≢ 0 → KeyFirst d k f v
+
+module _ (d : Disk) (k f v : ℕ) where
+  key-first : v ≢ 0 → first (keyFault d k) f ≡ v → KeyFirst d k f v
+  unfolding first must
+  key-first z e = go (inRange d k) refl e
+    where
+      go : (b : Bool) → inRange d k ≡ b → first (must b 5) f ≡ v → KeyFirst d k f v
+      go true q e = own (key-inside d k .0 q) e z
+      go false q e = out (key-outside d k .0 q) (sym e)
+
+  first-key : KeyFirst d k f v → first (keyFault d k) f ≡ v
+  unfolding first must
+  first-key (out p e) = rw (key-outside d k .1 p, e) refl
+  first-key (own p e z) = rw (key-inside d k .1 p) e
+
+-- ---- what a block's tests say
+
+module _ (d : Disk) (s : List ℕ) (h : ℕ) where
+  module _ (i k c : ℕ) where
+    data-good : (nodeFault d s (datum k h (suc i) c) ≡ 0) ↔ GoodData d s h i k c
+    unfolding faultOf
+    data-good = (to, λ g. key-passes d k (g .inside .low, g .inside .high) & data-sound d s k h (suc i) (wordOf s c 4) .1 (g .sum, g .ties))
+      where
+        to : nodeFault d s (datum k h (suc i) c) ≡ 0 → GoodData d s h i k c
+        to e =
+            let f = first-zero _ _ e in
+            let r = key-passed d k (f .0) in
+            let p = data-sound d s k h (suc i) (wordOf s c 4) .0 (f .1) in
+            record { inside = record { low = r .0; high = r .1 }; sum = p .0; ties = p .1 }
+
+    data-bad : (v : ℕ) → ((nodeFault d s (datum k h (suc i) c) ≡ v) × (v ≢ 0)) ↔ BadData d s h i k c v
+    unfolding faultOf
+    data-bad v = (λ e. to (key-first d k _ v (e .1) (e .0)), from)
+      where
+        to : KeyFirst d k (dataFault d s k h (sizeOf s h) (suc i) (wordOf s c 4)) v → BadData d s h i k c v
+        to (out p e) = data-key p e
+        to (own p e z) = data-itself p (data-breaks d s k h (suc i) (wordOf s c 4) v .0 (e, z))
+
+        from : BadData d s h i k c v → (nodeFault d s (datum k h (suc i) c) ≡ v) × (v ≢ 0)
+        from (data-key p e) = (first-key d k _ v (out p e), λ z. omega arith)
+        from (data-itself p b) = let e = data-breaks d s k h (suc i) (wordOf s c 4) v .1 b in (first-key d k _ v (own p (e .0) (e .1)), e .1)
+
+  module _ (j k c : ℕ) where
+    abbrev left : ℕ
+    left = blocksOf d s h - slots * suc j
+
+    list-good : (nodeFault d s (list k h (slots * suc j) c) ≡ 0) ↔ GoodList d s h j k
+    unfolding faultOf
+    list-good = (to, λ g. key-passes d k (g .inside .low, g .inside .high) & list-sound s k h left .1 (g .sound))
+      where
+        to : nodeFault d s (list k h (slots * suc j) c) ≡ 0 → GoodList d s h j k
+        to e =
+            let f = first-zero _ _ e in
+            let r = key-passed d k (f .0) in
+            record { inside = record { low = r .0; high = r .1 }; sound = list-sound s k h left .0 (f .1) }
+
+    list-bad : (v : ℕ) → ((nodeFault d s (list k h (slots * suc j) c) ≡ v) × (v ≢ 0)) ↔ BadList d s h j k v
+    unfolding faultOf
+    list-bad v = (λ e. to (key-first d k _ v (e .1) (e .0)), from)
+      where
+        to : KeyFirst d k (listFault s k h left) v → BadList d s h j k v
+        to (out p e) = list-key p e
+        to (own p e z) = list-itself p (list-breaks s k h left v .0 (e, z))
+
+        from : BadList d s h j k v → (nodeFault d s (list k h (slots * suc j) c) ≡ v) × (v ≢ 0)
+        from (list-key p e) = (first-key d k _ v (out p e), λ z. omega arith)
+        from (list-itself p b) = let e = list-breaks s k h left v .1 b in (first-key d k _ v (own p (e .0) (e .1)), e .1)
+
+-- ---- blocks in order: the first that fails, by its place
+
+record FailsAt (d : Disk) (s : List ℕ) (blocks : List Node) (v k : ℕ) : Type 0 where
+  place : ℕ
+  node : Node
+  there : At place node blocks
+  before : (u : ℕ) (x : Node) → u < place → At u x blocks → nodeFault d s x ≡ 0
+  fault : (nodeFault d s node ≡ v) × (v ≢ 0)
+  key : keyOf d node ≡ k
 
 module _ (d : Disk) (s : List ℕ) (v k : ℕ) where
-  fails-there : (ns : List Node) → firstFault d s ns ≡ Failed (refusal v k) → Fails d s ns v k
+  fails-there : (ns : List Node) → firstFault d s ns ≡ Failed (refusal v k) → FailsAt d s ns v k
   unfolding firstFault pick
   fails-there [] e = impossible cc
   fails-there (n ∷ ns) e = go (eqb (nodeFault d s n) 0) refl e (fails-there ns)
     where
-      go : (b : Bool) → eqb (nodeFault d s n) 0 ≡ b → pick b (firstFault d s ns) (Failed (refusal (nodeFault d s n) (keyOf d n))) ≡ Failed (refusal v k) → (firstFault d s ns ≡ Failed (refusal v k) → Fails d s ns v k) → Fails d s (n ∷ ns) v k
+      go : (b : Bool) → eqb (nodeFault d s n) 0 ≡ b → pick b (firstFault d s ns) (Failed (refusal (nodeFault d s n) (keyOf d n))) ≡ Failed (refusal v k) → (firstFault d s ns ≡ Failed (refusal v k) → FailsAt d s ns v k) → FailsAt d s (n ∷ ns) v k
       go true q e later = further (later e)
         where
-          further : Fails d s ns v k → Fails d s (n ∷ ns) v k
-          further w = record { front = n ∷ w .front; node = w .node; back = w .back; parts = ap (λ l. n ∷ l) (w .parts); before = before′; fault = w .fault; some = w .some; key = w .key }
+          further : FailsAt d s ns v k → FailsAt d s (n ∷ ns) v k
+          further w = record { place = suc (w .place); node = w .node; there = w .there; before = before′; fault = w .fault; key = w .key }
             where
-              before′ : (x : Node) → x ∈ (n ∷ w .front) → nodeFault d s x ≡ 0
-              before′ x (inl a) = rw a (eqb-true _ 0 q)
-              before′ x (inr a) = w .before x a
+              before′ : (u : ℕ) (x : Node) → u < suc (w .place) → At u x (n ∷ ns) → nodeFault d s x ≡ 0
+              before′ zero x l a = rw a (eqb-true _ 0 q)
+              before′ (suc u) x l a = w .before u x (omega arith) a
       go false q e later =
           let x : refusal (nodeFault d s n) (keyOf d n) ≡ refusal v k = cc in
-          record { front = []; node = n; back = ns; parts = refl; before = λ x a. absurd a; fault = number-is x; some = λ z. eqb-false _ 0 q (number-is x ∙ z); key = place-is x }
+          record { place = 0; node = n; there = refl; before = λ u x l a. absurd (omega arith); fault = (number-is x, λ z. eqb-false _ 0 q (number-is x ∙ z)); key = place-is x }
 
-  fails-back : (front : List Node) (node : Node) (back : List Node) → ((x : Node) → x ∈ front → nodeFault d s x ≡ 0) → nodeFault d s node ≡ v → v ≢ 0 → keyOf d node ≡ k → firstFault d s (front ++ (node ∷ back)) ≡ Failed (refusal v k)
+  fails-back : (ns : List Node) (t : ℕ) (x : Node) → At t x ns → ((u : ℕ) (y : Node) → u < t → At u y ns → nodeFault d s y ≡ 0) → nodeFault d s x ≡ v → v ≢ 0 → keyOf d x ≡ k → firstFault d s ns ≡ Failed (refusal v k)
   unfolding firstFault pick
-  fails-back [] node back b f z e = rw (f, ne-eqb v 0 z, e) refl
-  fails-back (n ∷ front) node back b f z e = rw (eq-eqb _ 0 (b n (inl refl))) (fails-back front node back (λ x a. b x (inr a)) f z e)
+  fails-back [] t x a b f z e = absurd a
+  fails-back (n ∷ ns) zero x a b f z e =
+      let y : nodeFault d s n ≡ v = sym (ap (nodeFault d s) a) ∙ f in
+      let w : keyOf d n ≡ k = sym (ap (keyOf d) a) ∙ e in
+      rw (y, ne-eqb v 0 z, w) refl
+  fails-back (n ∷ ns) (suc t) x a b f z e = rw (eq-eqb _ 0 (b 0 n (omega arith) refl)) (fails-back ns t x a (λ u y l p. b (suc u) y (omega arith) p) f z e)
 
-  -- A refusal is that of the first block that fails.
-  pub first-exactly : (ns : List Node) → (firstFault d s ns ≡ Failed (refusal v k)) ↔ Fails d s ns v k
-  first-exactly ns = (fails-there ns, λ w. ap (firstFault d s) (w .parts) ∙ fails-back (w .front) (w .node) (w .back) (w .before) (w .fault) (w .some) (w .key))
+  -- of a file's blocks
+  module _ (h : ℕ) where
+    to-fails : FailsAt d s (fileNodes d s h) v k → Fails d s h v k
+    to-fails w = go (stands d s h (w .place) (w .node) (w .there))
+      where
+        good : (n m : ℕ) → ((i : ℕ) → i < n → i + i / slots < w .place) → ((j : ℕ) → j < m → slots * suc j + j < w .place) → Good d s h n m
+        good n m f g =
+            record {
+              keys = λ i b c l p. data-good d s h i b c .0 (w .before _ _ (f i l) (data-place d s h i b c p));
+              lists = λ j b l p. let q = list-place d s h j b p in list-good d s h j b (q .0) .0 (w .before _ _ (g j l) (q .1));
+            }
+
+        go : Stands d s h (w .place) (w .node) → Fails d s h v k
+        go (is-data i b c p e x) =
+            let y : b ≡ k = sym (ap (keyOf d) x) ∙ w .key in
+            let f = data-bad d s h i b c v .0 (sym (ap (nodeFault d s) x) ∙ w .fault .0, w .fault .1) in
+            rw y at (at-data i c p (good i (i / slots) (λ u l. omega (arith, e)) (λ u l. omega (arith, e))) f)
+        go (is-list j b c p e x) =
+            let y : b ≡ k = sym (ap (keyOf d) x) ∙ w .key in
+            let f = list-bad d s h j b c v .0 (sym (ap (nodeFault d s) x) ∙ w .fault .0, w .fault .1) in
+            rw y at (at-list j p (good (slots * suc j) j (λ u l. omega (arith, e)) (λ u l. omega (arith, e))) f)
+
+    -- what stands before a place is good
+    passes : (n m t : ℕ) → Good d s h n m → ((i : ℕ) → i + i / slots < t → i < n) → ((j : ℕ) → slots * suc j + j < t → j < m) → (u : ℕ) (y : Node) → u < t → At u y (fileNodes d s h) → nodeFault d s y ≡ 0
+    passes n m t g f f′ u y l a = go (stands d s h u y a)
+      where
+        go : Stands d s h u y → nodeFault d s y ≡ 0
+        go (is-data i b c p e x) = rw x (data-good d s h i b c .1 (g .keys i b c (f i (omega (arith, e))) p))
+        go (is-list j b c p e x) = rw x (list-good d s h j b c .1 (g .lists j b (f′ j (omega (arith, e))) p))
+
+    from-fails : Fails d s h v k → firstFault d s (fileNodes d s h) ≡ Failed (refusal v k)
+    from-fails (at-data i c p g b) =
+        let e = data-bad d s h i k c v .1 b in
+        fails-back (fileNodes d s h) (i + i / slots) _ (data-place d s h i k c p) (passes i (i / slots) (i + i / slots) g (λ u l. omega arith) (λ u l. omega arith)) (e .0) (e .1) refl
+    from-fails (at-list j p g b) =
+        let q = list-place d s h j k p in
+        let e = list-bad d s h j k (q .0) v .1 b in
+        fails-back (fileNodes d s h) (slots * suc j + j) _ (q .1) (passes (slots * suc j) j (slots * suc j + j) g (λ u l. omega arith) (λ u l. omega arith)) (e .0) (e .1) refl
+
+    -- A refusal is that of the first block that fails.
+    pub first-exactly : (firstFault d s (fileNodes d s h) ≡ Failed (refusal v k)) ↔ Fails d s h v k
+    first-exactly = (λ e. to-fails (fails-there (fileNodes d s h) e), from-fails)
 
 -- ---- the whole call
 
@@ -62,11 +196,11 @@ module _ (d : Disk) (s path : List ℕ) (o n v k : ℕ) where
   blocks-why h z c e q = go (eqb (fileFault d s h) 0) refl q
     where
       go : (b : Bool) → eqb (fileFault d s h) 0 ≡ b → pick b (firstFault d s (fileNodes d s h)) (Failed (refusal (fileFault d s h) h)) ≡ Failed (refusal v k) → Refuses d s path v k
-      go true p q = of-block h z c e (eqb-true _ 0 p) (first-exactly d s v k (fileNodes d s h) .0 q)
+      go true p q = of-block h z c e (header-sound d s h .0 (eqb-true _ 0 p)) (first-exactly d s v k h .0 q)
       go false p q =
           let x : refusal (fileFault d s h) h ≡ refusal v k = cc in
           let y : h ≡ k = place-is x in
-          of-header z c (rw y at e) (rw y at (number-is x)) (λ u. eqb-false _ 0 p (number-is x ∙ u))
+          of-header z c (rw y at e) (header-breaks d s k v .0 (rw y at (number-is x), λ u. eqb-false _ 0 p (number-is x ∙ u)))
 
   read-why : (f : Found) → findOf d s path ≡ f → reads d s path o n f ≡ refuse v k → Refuses d s path v k
   read-why (found.Directory t c) e q = let x : refusal 20 (lastComponent path) ≡ refusal v k = cc in of-directory t c e (sym (number-is x)) (sym (place-is x))
@@ -81,8 +215,8 @@ module _ (d : Disk) (s path : List ℕ) (o n v k : ℕ) where
   unfolding readOf blocksFault pick
   why-read (of-lookup e) = rw e refl
   why-read (of-directory t c e a b) = rw (e, a, b) refl
-  why-read (of-header z c e f u) = rw (e, f, ne-eqb v 0 u) refl
-  why-read (of-block h z c e f w) = rw (e, f, first-exactly d s v k (fileNodes d s h) .1 w) refl
+  why-read (of-header z c e b) = let f = header-breaks d s k v .1 b in rw (e, f .0, ne-eqb v 0 (f .1)) refl
+  why-read (of-block h z c e f w) = rw (e, header-sound d s h .1 f, first-exactly d s v k h .1 w) refl
 
   -- Every number is given exactly then, at that place.
   pub refused-exactly : (readOf d s path o n ≡ refuse v k) ↔ Refuses d s path v k

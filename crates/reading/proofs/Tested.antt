@@ -22,7 +22,7 @@ use Rattle.volume.specs.Law.{Lists, File}
 use Rattle.volume.specs.Rules.{fileFault}
 use Rattle.volume.proofs.Passes.{file-passed, list-passed, data-passed}
 use Rattle.walk.specs.Nodes.{Node, root, bitmap, entry, list, datum, before, keyNodes, keyOf, keyFault, faultOf}
-use Rattle.walk.proofs.Passes.{key-passed, sum-passed}
+use Rattle.walk.proofs.Passes.{key-passed, in-tree, sum-passed}
 use Rattle.walk.proofs.Spreads.{Run, Spread, here, file-spreads}
 use Rattle.walk.proofs.Listed.{Sound, run-listed}
 use Rattle.reading.specs.FileTests.{nodeFault, firstFault, blocksFrom, fileNodes, blocksFault}
@@ -48,7 +48,7 @@ module _ (d : Disk) (s : List ℕ) where
   intact : (x : Node) → nodeFault d s x ≡ 0 → Intact d s (keyOf d x)
   intact x e =
       let r = key-passed d (keyOf d x) (first-zero (keyFault d (keyOf d x)) _ e .0) in
-      record { low = r .0; inside = r .1; sum = sum-passed d s x (own x e) }
+      record { low = r .0; inside = r .1; sum = sum-passed d s x (in-tree d s x (own x e)) }
 
   -- a data block that passes is as the law says
   sound : (x : Node) → faultOf d s x ≡ 0 → Sound d s x

@@ -1,47 +1,24 @@
 -- What a read's answer says, with no order of tests in it: when bytes are given, and how many; what the output holds then; and why a read is
 -- refused (the build paper, "Paths and reads").
-use Prim.Native.Nat.{ℕ, _+_, _-_, _≤_, _<_, min}
+use Prim.Native.Nat.{ℕ, suc, _+_, _-_, _*_, _/_, _≤_, _<_, min}
 use mathlib.Core.Path.{_≡_}
-use mathlib.Core.Logic.{_≢_}
-use mathlib.Core.List.{List, _∷_, _++_}
+use mathlib.Core.List.{List, _∷_}
 use lib.ListN.{length, getD}
-use Rattle.reach.specs.References.{_∈_}
+use Rattle.reach.specs.References.{At, _∈_}
 use Rattle.answers.specs.Refusals.{refusal}
-use Rattle.answers.specs.declared.Tested.the-variants.{Passed}
 use Rattle.volume.specs.declared.disk.Disk.{Disk}
 use Rattle.volume.specs.Disks.{firstKey}
-use Rattle.volume.specs.Blocks.{sumOf}
-use Rattle.volume.specs.Files.{listsOf, keysOf}
-use Rattle.volume.specs.Rules.{fileFault}
+use Rattle.volume.specs.Blocks.{slots, wordOf, sumOf}
+use Rattle.volume.specs.Files.{blocksOf, listsOf, keysOf}
 use Rattle.volume.specs.Law.{File}
-use Rattle.walk.specs.Nodes.{Node, keyOf}
+use Rattle.volume.specs.Breaks.{Inside, HeaderSound, HeaderBreaks, ListSound, ListBreaks, DataTies, DataBreaks}
 use Rattle.lookup.specs.declared.find.Found.the-variants as found
 use Rattle.lookup.specs.Lookup.{findOf}
-use Rattle.reading.specs.FileTests.{nodeFault, fileNodes, blocksFault}
 use Rattle.reading.specs.Reads.{lastComponent}
 
--- ---- bytes are given
+-- ---- a file whose blocks pass their tests
 
--- into room for n bytes m are copied: the path leads to a file whose blocks all pass, and the room or the file ends there
-pub record Gives (d : Disk) (s path : List ℕ) (o n m : ℕ) : Type 0 where
-  pub key : ℕ
-  pub size : ℕ
-  pub compared : ℕ
-  pub found : findOf d s path ≡ found.File key size compared
-  pub passed : blocksFault d s key ≡ Passed
-  pub count : m ≡ min n (size - o)
-
--- the first m bytes of the output are those from o on, the rest are as before
-pub record Filled (bytes : List ℕ) (o : ℕ) (before : List ℕ) (m : ℕ) (after : List ℕ) : Type 0 where
-  pub kept : length after ≡ length before
-  pub room : m ≤ length before
-  pub there : (i : ℕ) → i < m → o + i < length bytes
-  pub copied : (i : ℕ) → i < m → getD after i 0 ≡ getD bytes (o + i) 0
-  pub rest : (i : ℕ) → m ≤ i → getD after i 0 ≡ getD before i 0
-
--- ---- a file whose blocks pass
-
--- a block that lies behind the boot blocks, in the volume, and whose sum is 0
+-- a block that lies after the boot blocks, in the volume, and whose sum is 0
 pub record Intact (d : Disk) (s : List ℕ) (k : ℕ) : Type 0 where
   pub low : firstKey ≤ k
   pub inside : k < d .blocks
@@ -53,22 +30,68 @@ pub record Whole (d : Disk) (s : List ℕ) (h : ℕ) : Type 0 where
   pub lists : (k : ℕ) → k ∈ listsOf d s h → Intact d s k
   pub keys : (k : ℕ) → k ∈ keysOf d s h → Intact d s k
 
+-- ---- bytes are given
+
+-- into room for n bytes m are copied: the path leads to a file that is whole, and the room or the file ends there
+pub record Gives (d : Disk) (s path : List ℕ) (o n m : ℕ) : Type 0 where
+  pub key : ℕ
+  pub size : ℕ
+  pub compared : ℕ
+  pub found : findOf d s path ≡ found.File key size compared
+  pub whole : Whole d s key
+  pub count : m ≡ min n (size - o)
+
+-- the first m bytes of the output are those from o on, the rest are as before
+pub record Filled (bytes : List ℕ) (o : ℕ) (before : List ℕ) (m : ℕ) (after : List ℕ) : Type 0 where
+  pub kept : length after ≡ length before
+  pub room : m ≤ length before
+  pub there : (i : ℕ) → i < m → o + i < length bytes
+  pub copied : (i : ℕ) → i < m → getD after i 0 ≡ getD bytes (o + i) 0
+  pub rest : (i : ℕ) → m ≤ i → getD after i 0 ≡ getD before i 0
+
+-- ---- the blocks of the file h
+
+-- data block i, from 0, is block k, and c is the data block before it; the header for the first
+pub record IsData (d : Disk) (s : List ℕ) (h i k c : ℕ) : Type 0 where
+  pub here : At i k (keysOf d s h)
+  pub before : At i c (h ∷ keysOf d s h)
+
+-- it is as the law says
+pub record GoodData (d : Disk) (s : List ℕ) (h i k c : ℕ) : Type 0 where
+  pub inside : Inside d k
+  pub sum : sumOf s k ≡ 0
+  pub ties : DataTies d s k h (suc i) (wordOf s c 4)
+
+-- or it is not: 5, or 7, 8, 15 as each of them says
+pub data BadData (d : Disk) (s : List ℕ) (h i k c v : ℕ) : Type 0 where
+  data-key : (Inside d k → ⊥) → v ≡ 5 → BadData d s h i k c v
+  data-itself : Inside d k → DataBreaks d s k h (suc i) (wordOf s c 4) v → BadData d s h i k c v
+
+-- list block j, from 0, is block k, and as the law says: the keys still to come are those after the header's and the earlier list blocks'
+pub record GoodList (d : Disk) (s : List ℕ) (h j k : ℕ) : Type 0 where
+  pub inside : Inside d k
+  pub sound : ListSound s k h (blocksOf d s h - slots * suc j)
+
+-- or it is not: 5, or 7, 8, 10, 14 as each of them says
+pub data BadList (d : Disk) (s : List ℕ) (h j k v : ℕ) : Type 0 where
+  list-key : (Inside d k → ⊥) → v ≡ 5 → BadList d s h j k v
+  list-itself : Inside d k → ListBreaks s k h (blocksOf d s h - slots * suc j) v → BadList d s h j k v
+
+-- its first n data blocks and its first m list blocks are good
+pub record Good (d : Disk) (s : List ℕ) (h n m : ℕ) : Type 0 where
+  pub keys : (i k c : ℕ) → i < n → IsData d s h i k c → GoodData d s h i k c
+  pub lists : (j k : ℕ) → j < m → At j k (listsOf d s h) → GoodList d s h j k
+
+-- Block k is its first bad one, by number v. A list block comes after all data blocks that those before it list, and before its own.
+pub data Fails (d : Disk) (s : List ℕ) (h v k : ℕ) : Type 0 where
+  at-data : (i c : ℕ) → IsData d s h i k c → Good d s h i (i / slots) → BadData d s h i k c v → Fails d s h v k
+  at-list : (j : ℕ) → At j k (listsOf d s h) → Good d s h (slots * suc j) j → BadList d s h j k v → Fails d s h v k
+
 -- ---- a refusal
 
--- of blocks in order, the first that fails: number v at k
-pub record Fails (d : Disk) (s : List ℕ) (blocks : List Node) (v k : ℕ) : Type 0 where
-  pub front : List Node
-  pub node : Node
-  pub back : List Node
-  pub parts : blocks ≡ front ++ (node ∷ back)
-  pub before : (x : Node) → x ∈ front → nodeFault d s x ≡ 0
-  pub fault : nodeFault d s node ≡ v
-  pub some : v ≢ 0
-  pub key : keyOf d node ≡ k
-
--- the path leads to no file; or the file's header or another of its blocks fails
+-- the path leads to no file; or the file's header breaks the law, 14; or its header is good and another of its blocks is not
 pub data Refuses (d : Disk) (s path : List ℕ) (v k : ℕ) : Type 0 where
   of-lookup : findOf d s path ≡ found.Refused (refusal v k) → Refuses d s path v k
   of-directory : (t c : ℕ) → findOf d s path ≡ found.Directory t c → v ≡ 20 → k ≡ lastComponent path → Refuses d s path v k
-  of-header : (z c : ℕ) → findOf d s path ≡ found.File k z c → fileFault d s k ≡ v → v ≢ 0 → Refuses d s path v k
-  of-block : (h z c : ℕ) → findOf d s path ≡ found.File h z c → fileFault d s h ≡ 0 → Fails d s (fileNodes d s h) v k → Refuses d s path v k
+  of-header : (z c : ℕ) → findOf d s path ≡ found.File k z c → HeaderBreaks d s k v → Refuses d s path v k
+  of-block : (h z c : ℕ) → findOf d s path ≡ found.File h z c → HeaderSound d s h → Fails d s h v k → Refuses d s path v k

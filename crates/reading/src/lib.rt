@@ -1,4 +1,4 @@
 // Reading a file's bytes: its blocks are tested, and then copied.
-pub mod blocks;
-pub mod copy;
+mod blocks;
+mod copy;
 pub mod read;

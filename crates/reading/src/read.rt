@@ -60,7 +60,7 @@ fn handed_back(found: Found, path: &[u8]) -> Reading
 
 // Reads a file of a disk's image from `offset` on, as much as there is room for. Output behind what was read stays, and all of it where the
 // read is refused.
-pub fn read_on(disk: Disk, image: &[u8], path: &[u8], offset: usize, output: &mut [u8]) -> Reading
+fn read_on(disk: Disk, image: &[u8], path: &[u8], offset: usize, output: &mut [u8]) -> Reading
     requires { ⌜ Sized disk ⌝ }
     ensures { λ r. ⌜ Reads disk (now (image .entry)) (now (path .entry)) offset (now (output .entry)) r (now (output .exit)) ⌝ }
 {

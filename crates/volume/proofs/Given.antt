@@ -1,24 +1,20 @@
--- Which numbers the tests of one block of each kind give. Assumes nothing.
+-- Which numbers a block of each kind may give. Assumes nothing.
 use Prim.Native.Nat.{ℕ}
+use mathlib.Core.Path.{_≡_}
 use mathlib.Core.List.{List, [], _∷_}
-use Rattle.answers.proofs.Given.{Given, given}
+use Rattle.answers.specs.Members.{_∈_}
+use Rattle.answers.proofs.Members.{listed}
 use Rattle.volume.specs.declared.disk.Disk.{Disk}
-use Rattle.volume.specs.Rules.{rootFault, mapFault, bitmapFault, entryFault, fileFault, listFault, dataFault}
+use Rattle.volume.specs.Breaks.{RootBreaks, root-7, root-8, root-4, root-11, EntryBreaks, entry-7, entry-8, entry-9, entry-10, entry-11, entry-12, HeaderBreaks, header-14, ListBreaks, list-7, list-8, list-10, list-14, DataBreaks, data-7, data-8, data-15}
 
 abbrev pub rootRefusals : List ℕ
 rootRefusals = 4 ∷ 7 ∷ 8 ∷ 11 ∷ []
 
-abbrev pub mapRefusals : List ℕ
-mapRefusals = 16 ∷ []
-
-abbrev pub bitmapRefusals : List ℕ
-bitmapRefusals = 7 ∷ []
-
 abbrev pub entryRefusals : List ℕ
 entryRefusals = 7 ∷ 8 ∷ 9 ∷ 10 ∷ 11 ∷ 12 ∷ []
 
-abbrev pub fileRefusals : List ℕ
-fileRefusals = 14 ∷ []
+abbrev pub headerRefusals : List ℕ
+headerRefusals = 14 ∷ []
 
 abbrev pub listRefusals : List ℕ
 listRefusals = 7 ∷ 8 ∷ 10 ∷ 14 ∷ []
@@ -26,30 +22,31 @@ listRefusals = 7 ∷ 8 ∷ 10 ∷ 14 ∷ []
 abbrev pub dataRefusals : List ℕ
 dataRefusals = 7 ∷ 8 ∷ 15 ∷ []
 
-pub root-given : (d : Disk) (s : List ℕ) → Given rootRefusals (rootFault d s)
-unfolding rootFault
-root-given d s = search given depth 16
+module _ {s : List ℕ} {v : ℕ} where
+  pub root-number : {r : ℕ} → RootBreaks s r v → v ∈ rootRefusals
+  root-number (root-7 a e) = rw e (listed rootRefusals 7 tt)
+  root-number (root-8 a b e) = rw e (listed rootRefusals 8 tt)
+  root-number (root-4 a b c e) = rw e (listed rootRefusals 4 tt)
+  root-number (root-11 a b c n e) = rw e (listed rootRefusals 11 tt)
 
-pub map-given : (d : Disk) (s : List ℕ) → Given mapRefusals (mapFault d s)
-unfolding mapFault
-map-given d s = search given depth 16
+  pub entry-number : {d : Disk} {k t i : ℕ} → EntryBreaks d s k t i v → v ∈ entryRefusals
+  entry-number (entry-7 a e) = rw e (listed entryRefusals 7 tt)
+  entry-number (entry-8 a b c e) = rw e (listed entryRefusals 8 tt)
+  entry-number (entry-9 a b e) = rw e (listed entryRefusals 9 tt)
+  entry-number (entry-10 a b c e) = rw e (listed entryRefusals 10 tt)
+  entry-number (entry-11 a b c n e) = rw e (listed entryRefusals 11 tt)
+  entry-number (entry-12 a b c n e) = rw e (listed entryRefusals 12 tt)
 
-pub bitmap-given : (s : List ℕ) (k : ℕ) → Given bitmapRefusals (bitmapFault s k)
-unfolding bitmapFault
-bitmap-given s k = search given depth 16
+  pub header-number : {d : Disk} {h : ℕ} → HeaderBreaks d s h v → v ∈ headerRefusals
+  header-number (header-14 a e) = rw e (listed headerRefusals 14 tt)
 
-pub entry-given : (d : Disk) (s : List ℕ) (k t i : ℕ) → Given entryRefusals (entryFault d s k t i)
-unfolding entryFault
-entry-given d s k t i = search given depth 16
+  pub list-number : {k h n : ℕ} → ListBreaks s k h n v → v ∈ listRefusals
+  list-number (list-7 a e) = rw e (listed listRefusals 7 tt)
+  list-number (list-8 a b e) = rw e (listed listRefusals 8 tt)
+  list-number (list-10 a b c e) = rw e (listed listRefusals 10 tt)
+  list-number (list-14 a b c e) = rw e (listed listRefusals 14 tt)
 
-pub file-given : (d : Disk) (s : List ℕ) (k : ℕ) → Given fileRefusals (fileFault d s k)
-unfolding fileFault
-file-given d s k = search given depth 16
-
-pub list-given : (s : List ℕ) (k h n : ℕ) → Given listRefusals (listFault s k h n)
-unfolding listFault
-list-given s k h n = search given depth 16
-
-pub data-given : (d : Disk) (s : List ℕ) (k h z n named : ℕ) → Given dataRefusals (dataFault d s k h z n named)
-unfolding dataFault
-data-given d s k h z n named = search given depth 16
+  pub data-number : {d : Disk} {k h n named : ℕ} → DataBreaks d s k h n named v → v ∈ dataRefusals
+  data-number (data-7 a e) = rw e (listed dataRefusals 7 tt)
+  data-number (data-8 a b e) = rw e (listed dataRefusals 8 tt)
+  data-number (data-15 a b c e) = rw e (listed dataRefusals 15 tt)

@@ -15,7 +15,8 @@ module _ (s : List ℕ) where
   down-long b i zero = refl
   down-long b i (suc n) = ap suc (down-long b (suc i) n)
 
-  lists-long : (b n : ℕ) → length (listsFrom s b n) ≡ n
+  -- its list blocks
+  pub lists-long : (b n : ℕ) → length (listsFrom s b n) ≡ n
   unfolding listsFrom
   lists-long b zero = refl
   lists-long b (suc n) = ap suc (lists-long (wordOf s b 126) n)

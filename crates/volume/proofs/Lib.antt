@@ -9,7 +9,11 @@ pub mod Names
 pub mod Faults
 -- a block passes its tests exactly if it is as the law says
 pub mod Passes
+-- and gives a number exactly if it breaks the law as that number says
+pub mod Breaks
 -- the starred cases hold
 pub mod Stars
+-- the floppy's numbers
+pub mod Floppy
 -- which numbers the tests of each kind of block give
 pub mod Given

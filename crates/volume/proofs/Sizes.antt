@@ -18,7 +18,7 @@ unfolding dataBytes
 data-is d = refl
 
 pub floppy-sized : Sized floppy
-floppy-sized = record { least = omega arith; most = omega arith }
+floppy-sized = record { least = omega arith; most = omega arith; kind = refl }
 
 module _ (d : Disk) where
   pub limit-most : Sized d → fileLimit d ≤ 2079232

@@ -1,6 +1,7 @@
 -- A disk has a number of blocks and a kind, the last byte of its boot tag. All its other numbers follow from these two (the build paper,
 -- "What is built"): nothing above this file knows them as numbers.
 use Prim.Native.Nat.{ℕ, _+_, _-_, _*_, _/_, _≤_}
+use mathlib.Core.Path.{_≡_}
 use mathlib.Core.Bool.{Bool, false}
 use lib.Dec.{ltb}
 use Rattle.words.specs.Word.{four}
@@ -20,10 +21,11 @@ firstKey = 2
 abbrev pub mostBlocks : ℕ
 mostBlocks = firstKey + 32 * 127
 
--- the sizes that the definitions are meant for
+-- the disks that the definitions are meant for: one bitmap block serves them, and their kind exists
 pub record Sized (d : Disk) : Type 0 where
   pub least : 8 ≤ d .blocks
   pub most : d .blocks ≤ mostBlocks
+  pub kind : d .kind ≡ 0
 
 abbrev pub imageBytes : Disk → ℕ
 imageBytes d = d .blocks * blockBytes

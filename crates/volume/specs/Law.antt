@@ -1,5 +1,6 @@
 -- The law of a volume: one field for each rule of the build paper's "Blocks of a volume". It mentions no walk. What is reached, and that
--- each block is owned once, is said of `references` by crate `reach`.
+-- each block is owned once, is said of `references` by crate `reach`. `Tree` is all of the law but w78 and the bits; `Volume` is `Tree`, w78
+-- and the bits.
 use Prim.Native.Nat.{ℕ, zero, suc, _+_, _-_, _*_, _≤_, _<_}
 use mathlib.Core.Path.{_≡_}
 use mathlib.Core.Logic.{_≢_, _⊎_, _↔_}
@@ -18,14 +19,18 @@ use Rattle.volume.specs.References.{Ref, to, entry, references}
 
 -- ---- the root, block r
 
+-- w80 to w104: there are no further bitmap blocks
+abbrev pub OneBitmap : List ℕ → ℕ → Type 0
+OneBitmap s r = (i : ℕ) → 80 ≤ i → i ≤ 104 → wordOf s r i ≡ 0
+
 pub record Root (s : List ℕ) (r : ℕ) : Type 0 where
   pub type : wordOf s r 0 ≡ 2
   pub kind : wordOf s r 127 ≡ 1
   pub zeros : (i : ℕ) → i ∈ (1 ∷ 2 ∷ 4 ∷ 124 ∷ 125 ∷ 126 ∷ []) → wordOf s r i ≡ 0
   pub table : wordOf s r 3 ≡ slots
   pub name : nameGood s r ≡ true
-  pub valid : wordOf s r 78 ≡ 0xFFFFFFFF
-  pub rest : (i : ℕ) → 80 ≤ i → i ≤ 104 → wordOf s r i ≡ 0
+  -- w78 is not asked here: see `Valid`
+  pub rest : OneBitmap s r
 
 -- ---- an entry, block k: a directory or a file header
 
@@ -87,9 +92,9 @@ pub record File (d : Disk) (s : List ℕ) (h : ℕ) : Type 0 where
   -- w4 of the header and of each data block is the key of the data block that follows, and 0 in the last
   pub following : map (λ k. wordOf s k 4) (h ∷ keysOf d s h) ≡ keysOf d s h ++ (0 ∷ [])
 
--- ---- the volume
+-- ---- the tree: everything but what the root and the bitmap block say of the bitmap
 
-pub record Volume (d : Disk) (s : List ℕ) : Type 0 where
+pub record Tree (d : Disk) (s : List ℕ) : Type 0 where
   pub long : length s ≡ imageBytes d
   pub tag : wordAt s 0 ≡ tagOf d
   pub keys : (r : Ref) → Reached (references d s) r → (firstKey ≤ r .key) × (r .key < d .blocks)
@@ -100,5 +105,28 @@ pub record Volume (d : Disk) (s : List ℕ) : Type 0 where
   pub directories : (k : ℕ) → Reached (references d s) (to entry k) → directory s k ≡ true → (wordOf s k 126 ≡ 0) × Directory d s k
   pub files : (k : ℕ) → Reached (references d s) (to entry k) → directory s k ≡ false → File d s k
   pub owned : Owned (references d s)
-  -- a bit is 0 exactly if its block is reached
-  pub bits : (k : ℕ) → firstKey ≤ k → k < d .blocks → (isFree s (wordOf s (rootOf d) 79) k ≡ false) ↔ ((r : Ref) × Reached (references d s) r × (r .key ≡ k))
+
+-- ---- the bitmap
+
+-- the root says that the bitmap is valid
+abbrev pub Valid : Disk → List ℕ → Type 0
+Valid d s = wordOf s (rootOf d) 78 ≡ 0xFFFFFFFF
+
+-- the key of the bitmap block
+abbrev pub bitmapKeyOf : Disk → List ℕ → ℕ
+bitmapKeyOf d s = wordOf s (rootOf d) 79
+
+-- block k is reached
+abbrev pub Used : Disk → List ℕ → ℕ → Type 0
+Used d s k = (r : Ref) × Reached (references d s) r × (r .key ≡ k)
+
+-- the bit of block k is 0 if and only if k is reached
+abbrev pub BitRight : Disk → List ℕ → ℕ → Type 0
+BitRight d s k = (isFree s (bitmapKeyOf d s) k ≡ false) ↔ Used d s k
+
+-- ---- the volume
+
+pub record Volume (d : Disk) (s : List ℕ) : Type 0 where
+  pub tree : Tree d s
+  pub valid : Valid d s
+  pub bits : (k : ℕ) → firstKey ≤ k → k < d .blocks → BitRight d s k

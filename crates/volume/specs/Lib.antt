@@ -15,5 +15,9 @@ pub mod References
 pub mod Law
 -- the tests of a block of each kind, in order
 pub mod Rules
+-- what each number says of a block, in the law's words
+pub mod Breaks
 -- the starred worked cases
 pub mod Stars
+-- the floppy's numbers, as the build paper writes them
+pub mod Floppy

@@ -8,7 +8,6 @@ use mathlib.Core.List.{List}
 use native.Mathlib.Omega.{arith}
 use native.Mathlib.Decide.{decLt}
 use Rattle.reach.specs.References.{_∈_, top, ref}
-use Rattle.reach.specs.Law.{Fine}
 use Rattle.reach.proofs.Lists.{in-at, in-left, in-right}
 use Rattle.volume.specs.declared.disk.Disk.{Disk}
 use Rattle.volume.specs.Disks.{rootOf}
@@ -17,9 +16,10 @@ use Rattle.volume.specs.Names.{folded, nameOf}
 use Rattle.volume.specs.Law.{chainKey, Hangs, Directory}
 use Rattle.volume.proofs.Names.{slot-same, map-same}
 use Rattle.volume.proofs.Passes.{Placed, entry-passed}
-use Rattle.walk.specs.Nodes.{Node, root, entry, chained, slotNodes, contents, leadsTo, faultOf, graph}
+use Rattle.walk.specs.Nodes.{Node, root, entry, chained, slotNodes, contents, leadsTo, faultOf}
 use Rattle.walk.proofs.Nodes.{NodeReached, linked-in, slot-in}
 use Rattle.walk.proofs.Passes.{Hung, hung-passed}
+use Rattle.walk.proofs.Accepts.{TreeFine}
 use Rattle.walk.proofs.Chains.{chain-next, chain-before, twin-there}
 
 module _ (d : Disk) (s : List ℕ) where
@@ -56,7 +56,7 @@ module _ (d : Disk) (s : List ℕ) where
         let e = chain-next s head p z in
         subst (λ k. NodeReached d s (entry k t i (suc p))) (sym e) (next-reached (chainKey s head p) t i p (hang-reached i p l z) (λ q. h (e ∙ q)))
 
-    module _ (fine : Fine (graph d s)) where
+    module _ (fine : TreeFine d s) where
       hung : (i k : ℕ) (g : Hangs s t i k) → Hung d s k t i (g .place)
       unfolding faultOf
       hung i k g =

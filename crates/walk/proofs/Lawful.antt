@@ -1,4 +1,4 @@
--- The theorem `volume-fine`: if the volume is as its law says, every reached node passes its tests. Assumes nothing.
+-- The theorem `tree-fine`: if the tree is as its law says, every reached node passes its tests, but for the root's w78. Assumes nothing.
 use Prim.Native.Nat.{ℕ, _-_, _<_}
 use mathlib.Core.Path.{_≡_, refl, sym, ap, _∙_, subst}
 use mathlib.Core.Logic.{_≢_, inl, inr}
@@ -7,27 +7,26 @@ use mathlib.Core.List.{List}
 use native.Mathlib.Nat.{sub-zero}
 use native.Mathlib.Omega.{arith}
 use Rattle.reach.specs.References.{At, Reached, top, ref}
-use Rattle.reach.specs.Law.{Fine}
 use Rattle.reach.proofs.Lists.{at-in, at-map}
 use Rattle.volume.specs.declared.disk.Disk.{Disk}
 use Rattle.volume.specs.Blocks.{wordOf, slotWord, directory}
 use Rattle.volume.specs.Names.{nameOf, same}
 use Rattle.volume.specs.Files.{listBlocks, blocksOf}
 use Rattle.volume.specs.References.{Kind, to, references}
-use Rattle.volume.specs.Law.{chainKey, Hangs, Directory, Volume}
+use Rattle.volume.specs.Law.{chainKey, Hangs, Directory, Tree}
 use Rattle.volume.specs.Rules.{fileFault}
 use Rattle.volume.proofs.Names.{same-map}
-use Rattle.volume.proofs.Passes.{Placed, _&_, root-passes, bitmap-passed, entry-passes, file-passes, list-passes, data-passes}
-use Rattle.walk.specs.Nodes.{Node, root, bitmap, entry, list, datum, keyOf, bare, leadsTo, keyFault, faultOf, graph}
+use Rattle.volume.proofs.Passes.{Placed, bitmap-passed, entry-passes, file-passes, list-passes, data-passes}
+use Rattle.walk.specs.Nodes.{Node, root, bitmap, entry, list, datum, keyOf, bare, leadsTo, keyFault, faultOf}
 use Rattle.walk.proofs.Nodes.{NodeReached}
-use Rattle.walk.proofs.Passes.{key-passes, hung-passes}
-use Rattle.walk.proofs.Accepts.{key-bare, refs-bare}
+use Rattle.walk.proofs.Passes.{InTree, key-passes, hung-passes}
+use Rattle.walk.proofs.Accepts.{TreeFine, key-bare, refs-bare}
 use Rattle.walk.proofs.Chains.{chain-some, twin-none}
 use Rattle.walk.proofs.Spreads.{spread-first, file-spreads}
 use Rattle.walk.proofs.Places.{Holder, chain-apart}
 use Rattle.walk.proofs.Coherent.{Coherent, leads-coherent}
 
-module _ (d : Disk) (s : List ℕ) (v : Volume d s) where
+module _ (d : Disk) (s : List ℕ) (v : Tree d s) where
   -- the block of n is reached, in its kind
   abbrev BlockReached : Node → Type 0
   BlockReached n = Reached (references d s) (bare d n)
@@ -35,7 +34,7 @@ module _ (d : Disk) (s : List ℕ) (v : Volume d s) where
   key-lawful : (n : Node) → BlockReached n → keyFault d (keyOf d n) ≡ 0
   key-lawful n r = key-passes d (keyOf d n) (rw (key-bare d s n) at (v .keys (bare d n) r))
 
-  held-by : (t : ℕ) → Holder d s t → Directory d s t
+  pub held-by : (t : ℕ) → Holder d s t → Directory d s t
   held-by t (inl e) = rw e (v .holds)
   held-by t (inr o) = v .directories t (o .0) (o .1) .1
 
@@ -72,9 +71,9 @@ module _ (d : Disk) (s : List ℕ) (v : Volume d s) where
 
   -- ---- every node
 
-  fault-lawful : (n : Node) → BlockReached n → Coherent d s n → faultOf d s n ≡ 0
+  fault-lawful : (n : Node) → BlockReached n → Coherent d s n → InTree d s n
   unfolding faultOf
-  fault-lawful root r c = let f = root-passes d s (v .sums (bare d root) r) (v .top) in f .0 & f .1
+  fault-lawful root r c = (v .sums (bare d root) r, v .top)
   fault-lawful (bitmap k) r c = bitmap-passed s k .1 (v .sums (bare d (bitmap k)) r)
   fault-lawful (entry k t i p) r c = entry-lawful k t i p r c
   fault-lawful (list k h m b) r c = list-passes s k h (blocksOf d s h - m) (v .sums (bare d (list k h m b)) r, c .0, spread-first d s h (listBlocks (blocksOf d s h - m)) k m b (c .1) .0)
@@ -86,8 +85,8 @@ module _ (d : Disk) (s : List ℕ) (v : Volume d s) where
     where
       go : BlockReached m × Coherent d s m → BlockReached n × Coherent d s n
       go w =
-          let e = refs-bare d s m (key-lawful m (w .0)) (fault-lawful m (w .0) (w .1)) in
+          let e = refs-bare d s m (fault-lawful m (w .0) (w .1)) in
           (ref i (w .0) (subst (At i (bare d n)) e (at-map (bare d) i n (leadsTo d s m) h)), leads-coherent d s m (w .0) (v .files) (w .1) n (at-in n i (leadsTo d s m) h))
 
-  pub volume-fine : Fine (graph d s)
-  volume-fine n r = let w = coherent r in (key-lawful n (w .0), fault-lawful n (w .0) (w .1))
+  pub tree-fine : TreeFine d s
+  tree-fine n r = let w = coherent r in (key-lawful n (w .0), fault-lawful n (w .0) (w .1))

@@ -20,19 +20,23 @@ pub mod Links
 pub mod Loops
 -- a directory whose chains are reached, and pass, is as the law says
 pub mod Directories
--- `fine-volume`: if every node passes, the volume is as its law says
-pub mod Volumes
+-- `fine-tree`: if every node passes, the tree is as its law says
+pub mod Trees
 -- no key stands twice on a chain of a volume whose blocks are owned once
 pub mod Places
 -- what a node's context says, kept from node to node
 pub mod Coherent
--- `volume-fine`: if the volume is as its law says, every node passes
+-- `tree-fine`: if the tree is as its law says, every node passes
 pub mod Lawful
--- `volume-decided`: a volume is lawful exactly if the walk accepts it, and its length, tag and bitmap are right
+-- `tree-decided`, `volume-decided`: what the walk decides
 pub mod Decides
+-- what is met by way of nodes that pass, and where it stands
+pub mod Standing
 -- counting references of a kind
 pub mod Tallies
 -- `walked-report`: what an accepted walk hands back
 pub mod Reports
--- `refused-first`, `refused-why`: what a refusal means
+-- `refused-first`, `refused-cause`: when a refusal is given, and what it says of the volume
 pub mod Refuses
+-- `cause-breaks`: what it says is no volume
+pub mod Broken

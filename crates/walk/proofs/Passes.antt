@@ -1,4 +1,5 @@
--- A node passes its tests exactly if its block is as the law says: of each kind the facts are those of `volume`'s Passes. Assumes nothing.
+-- A node passes its tests if and only if its block is as the law says: of each kind the facts are those of `volume`'s Passes. `InTree` is what a
+-- node passes where the root's w78 is not asked. Assumes nothing.
 use Prim.Native.Nat.{ℕ, _≤_, _<_}
 use mathlib.Core.Path.{_≡_, refl, sym, _∙_}
 use mathlib.Core.Bool.{Bool, true, false}
@@ -7,11 +8,12 @@ use borrow.Author.Tests.{lt-ltb, le-ltb}
 use Rattle.answers.specs.Tests.{pick, never}
 use Rattle.answers.proofs.Tests.{first-zero, must-passed, must-passes, never-passed, never-passes, pick-true, pick-false}
 use Rattle.volume.specs.declared.disk.Disk.{Disk}
-use Rattle.volume.specs.Disks.{firstKey, inRange}
+use Rattle.volume.specs.Disks.{firstKey, inRange, rootOf}
 use Rattle.volume.specs.Blocks.{slotWord, sumOf, directory}
+use Rattle.volume.specs.Law.{Root, Valid}
 use Rattle.volume.specs.Rules.{rootFault, mapFault, entryFault, fileFault}
 use Rattle.volume.proofs.Sizes.{range-is}
-use Rattle.volume.proofs.Passes.{_&_, root-passed, bitmap-passed, entry-passed, list-passed, data-passed}
+use Rattle.volume.proofs.Passes.{_&_, root-passed, root-passes, map-passes, bitmap-passed, entry-passed, list-passed, data-passed}
 use Rattle.walk.specs.Nodes.{Node, root, bitmap, entry, list, datum, keyOf, twin, keyFault, hangsFault, faultOf}
 
 module _ (d : Disk) where
@@ -43,10 +45,41 @@ module _ (d : Disk) where
           file true e = pick-true (directory s k) _ _ _ e refl
           file false e = pick-false (directory s k) _ _ _ e refl ∙ h .2 e
 
-    -- whatever is tested has the sum 0
-    pub sum-passed : (n : Node) → faultOf d s n ≡ 0 → sumOf s (keyOf d n) ≡ 0
+    -- what a node passes in a tree: the root's w78 is not asked
+    abbrev pub InTree : Node → Type 0
+    InTree root = (sumOf s (rootOf d) ≡ 0) × Root s (rootOf d)
+    InTree (bitmap k) = faultOf d s (bitmap k) ≡ 0
+    InTree (entry k t i p) = faultOf d s (entry k t i p) ≡ 0
+    InTree (list k h m c) = faultOf d s (list k h m c) ≡ 0
+    InTree (datum k h n c) = faultOf d s (datum k h n c) ≡ 0
+
+    pub root-in-tree : faultOf d s root ≡ 0 → InTree root × Valid d s
     unfolding faultOf
-    sum-passed root e = let f = first-zero (rootFault d s) (mapFault d s) e in root-passed d s (f .0) (f .1) .0
+    root-in-tree e =
+        let f = first-zero (rootFault d s) (mapFault d s) e in
+        let p = root-passed d s (f .0) (f .1) in
+        ((p .0, p .1), p .2)
+
+    pub in-tree : (n : Node) → faultOf d s n ≡ 0 → InTree n
+    in-tree root e = root-in-tree e .0
+    in-tree (bitmap k) e = e
+    in-tree (entry k t i p) e = e
+    in-tree (list k h m c) e = e
+    in-tree (datum k h n c) e = e
+
+    -- with w78 valid it passes all its tests
+    pub passes-valid : Valid d s → (n : Node) → InTree n → faultOf d s n ≡ 0
+    unfolding faultOf
+    passes-valid v root e = root-passes d s (e .0) (e .1) & map-passes d s (e .1) v
+    passes-valid v (bitmap k) e = e
+    passes-valid v (entry k t i p) e = e
+    passes-valid v (list k h m c) e = e
+    passes-valid v (datum k h n c) e = e
+
+    -- whatever is tested has the sum 0
+    pub sum-passed : (n : Node) → InTree n → sumOf s (keyOf d n) ≡ 0
+    unfolding faultOf
+    sum-passed root e = e .0
     sum-passed (bitmap k) e = bitmap-passed s k .0 e
     sum-passed (entry k t i p) e = entry-passed d s k t i (hung-passed k t i p e .0) .sum
     sum-passed (list k h m c) e = list-passed s k h _ e .0

@@ -15,16 +15,14 @@ use Rattle.volume.specs.Disks.{rootOf}
 use Rattle.volume.specs.Blocks.{slots, wordOf, slotWord, directory}
 use Rattle.volume.specs.References.{Kind, Ref, to, link, slotRefs, listed, refersTo, references}
 use Rattle.volume.specs.Law.{chainKey}
+-- where a chain may hang
+pub use Rattle.walk.specs.Refusals.{Holder}
 use Rattle.walk.specs.Nodes.{entry, bare, slotNodes}
 use Rattle.walk.proofs.Lists.{at-below, at-left, at-end}
 use Rattle.walk.proofs.Nodes.{slot-in, slots-bare}
 use Rattle.walk.proofs.Chains.{chain-next, chain-before}
 
 module _ (d : Disk) (s : List ℕ) where
-  -- t is the root, or a reached directory
-  abbrev pub Holder : ℕ → Type 0
-  Holder t = (t ≡ rootOf d) ⊎ (Reached (references d s) (to Kind.entry t) × (directory s t ≡ true))
-
   -- what block k refers to before its chain link
   abbrev within : ℕ → List Ref
   within k = pick (directory s k) (slotRefs s k 0 slots) (listed s k)
@@ -56,7 +54,7 @@ module _ (d : Disk) (s : List ℕ) where
   pub referred : (k : ℕ) → From k → Reached (references d s) (to Kind.entry k)
   referred k f = ref (f .nth) (f .reached) (f .stands)
 
-  module _ (t i : ℕ) (holder : Holder t) (l : i < slots) where
+  module _ (t i : ℕ) (holder : Holder d s t) (l : i < slots) where
     abbrev K : ℕ → ℕ
     K p = chainKey s (slotWord s t i) p
 
@@ -64,7 +62,7 @@ module _ (d : Disk) (s : List ℕ) where
     abbrev NoLink : Ref → ℕ → Type 0
     NoLink r j = (k : ℕ) → k ≢ rootOf d → r .key ≡ k → j ≢ length (within k)
 
-    first : Holder t → slotWord s t i ≢ 0 → (f : From (slotWord s t i)) × NoLink (f .from) (f .nth)
+    first : Holder d s t → slotWord s t i ≢ 0 → (f : From (slotWord s t i)) × NoLink (f .from) (f .nth)
     unfolding refersTo pick
     first (inl e) h =
         let a = slot-at t i l h in

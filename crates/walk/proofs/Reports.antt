@@ -8,7 +8,7 @@ use native.Mathlib.Omega.{arith}
 use lib.ListN.{length, getD, length-map}
 use Rattle.reach.specs.References.{_∈_, Uniq, Reached, top, ref}
 use Rattle.reach.specs.Walk.{done, Accepted}
-use Rattle.reach.specs.Law.{Fine, Report}
+use Rattle.reach.specs.Law.{Report}
 use Rattle.reach.proofs.Lists.{in-map, map-in, at-in}
 use Rattle.reach.proofs.Reports.{report}
 use Rattle.volume.specs.declared.disk.Disk.{Disk}
@@ -17,11 +17,12 @@ use Rattle.volume.specs.Blocks.{wordOf}
 use Rattle.volume.specs.References.{Kind, Ref, to, refersTo, references}
 use Rattle.walk.specs.declared.Counts.{Counts}
 use Rattle.walk.specs.Nodes.{Node, root, bitmap, entry, list, datum, keyOf, bare, leadsTo, nothing, graph, walkOf}
-use Rattle.walk.specs.Reports.{count, Used, Walked}
+use Rattle.volume.specs.Law.{Used}
+use Rattle.walk.specs.Reports.{count, Walked}
 use Rattle.walk.proofs.Nodes.{NodeReached}
-use Rattle.walk.proofs.Accepts.{key-bare, accepted-lawful, block-reached, node-reached, node-key}
+use Rattle.walk.proofs.Accepts.{TreeFine, key-bare, fine-in-tree, accepted-lawful, block-reached, node-reached, node-key}
 use Rattle.walk.proofs.Tallies.{Tally, isRoot, isBitmap, noted-counts, count-one}
-use Rattle.walk.proofs.Volumes.{file-reached}
+use Rattle.walk.proofs.Trees.{file-reached}
 use Rattle.walk.proofs.Coherent.{Coherent, leads-coherent}
 
 module _ (d : Disk) (s : List ℕ) where
@@ -50,8 +51,8 @@ module _ (d : Disk) (s : List ℕ) where
     unfolding walkOf
     rep = report (graph d s) (d .blocks) nothing c n e
 
-    fine : Fine (graph d s)
-    fine = accepted-lawful d s .0 (subst Accepted (sym e) tt) .0
+    fine : TreeFine d s
+    fine = fine-in-tree d s (accepted-lawful d s .0 (subst Accepted (sym e) tt) .0)
 
     coherent : {n : Node} → NodeReached d s n → Coherent d s n
     coherent (top e) = subst (Coherent d s) (sym e) tt

@@ -1,24 +1,108 @@
--- What a refusal of the walk means: a number v, and the key k of a block (the build paper, "Order of the walk" and "Numbers").
-use Prim.Native.Nat.{ℕ, _≤_, _<_}
+-- What a refusal of the walk means: a number v, and the key k of a block (the build paper, "Order of the walk" and "Numbers"). `FirstRefusal`
+-- says exactly when it is given, in the order of the walk. `Cause` leaves the order out and names, number by number, the field of the law that
+-- block k breaks.
+use Prim.Native.Nat.{ℕ, suc, _-_, _*_, _<_}
 use mathlib.Core.Path.{_≡_}
 use mathlib.Core.Logic.{_≢_, _⊎_}
-use mathlib.Core.List.{List}
-use Rattle.reach.specs.References.{Reached}
-use Rattle.reach.specs.Visits.{Stops}
+use mathlib.Core.Bool.{true, false}
+use mathlib.Core.List.{List, _∷_, map}
+use Rattle.reach.specs.References.{At, _∈_, Reached}
+use Rattle.reach.specs.Visits.{Visits}
 use Rattle.reach.specs.Law.{Twice}
 use Rattle.volume.specs.declared.disk.Disk.{Disk}
-use Rattle.volume.specs.Disks.{firstKey}
-use Rattle.walk.specs.Nodes.{Node, keyOf, faultOf, graph}
+use Rattle.volume.specs.Disks.{rootOf}
+use Rattle.volume.specs.Blocks.{slots, wordOf, sumOf, slotWord, directory}
+use Rattle.volume.specs.Names.{nameOf, nameGood, folded, slotOf}
+use Rattle.volume.specs.Files.{blocksOf, listsOf, keysOf}
+use Rattle.volume.specs.References.{Kind, Ref, to, references}
+use Rattle.volume.specs.Law.{OneBitmap, Valid, chainKey, Hangs, Lists, ListBlock}
+use Rattle.volume.specs.Breaks.{Inside, RootKind, RootFixed, RootSound, RootBreaks, MapBreaks, BitmapBreaks, EntryKind, Link, EntryTies, Placed, EntryBreaks, HeaderSound, HeaderBreaks, ListKind, ListBreaks, DataTies, DataBreaks}
+use Rattle.walk.specs.Nodes.{Node, root, bitmap, entry, list, datum, keyOf, graph}
 
--- when it is given, exactly: k is the key of the first node, in the order of the walk, that fails, and v the number of the first test that
--- it fails. That is 5 where k is out of range (`keyFault`), else 6 where a node seen before has that key, else one of its kind's (`faultOf`)
-abbrev pub FirstRefusal : Disk → List ℕ → ℕ → ℕ → Type 0
-FirstRefusal d s v k = Stops (graph d s) v k
+-- ---- when it is given, exactly
 
--- what it says of the volume, with no order: a reached node with that key is out of range, or is referred to twice, or fails with v a test
--- of its own
-pub record Refused (d : Disk) (s : List ℕ) (v k : ℕ) : Type 0 where
+-- one of the first p entries of the chain from key `head` has the folded name of k
+abbrev pub Doubled : Disk → List ℕ → ℕ → ℕ → ℕ → Type 0
+Doubled d s k head p = (q : ℕ) × (q < p) × (folded d (nameOf s (chainKey s head q)) ≡ folded d (nameOf s k))
+
+-- a node breaks the rules of its kind, and v is the number of the first rule that it breaks
+abbrev pub NodeBreaks : Disk → List ℕ → Node → ℕ → Type 0
+NodeBreaks d s root v = RootBreaks s (rootOf d) v ⊎ (RootSound s (rootOf d) × MapBreaks d s v)
+NodeBreaks d s (bitmap k) v = BitmapBreaks s k v
+NodeBreaks d s (entry k t i p) v =
+    EntryBreaks d s k t i v
+    ⊎ (Placed d s k t i × Doubled d s k (slotWord s t i) p × (v ≡ 13))
+    ⊎ (Placed d s k t i × (Doubled d s k (slotWord s t i) p → ⊥) × (directory s k ≡ false) × HeaderBreaks d s k v)
+NodeBreaks d s (list k h m c) v = ListBreaks s k h (blocksOf d s h - m) v
+NodeBreaks d s (datum k h n c) v = DataBreaks d s k h n (wordOf s c 4) v
+
+-- of a node that comes after those seen: its key is none, or it is a block's that was seen, or it breaks a rule of its kind
+pub data Fails (d : Disk) (s : List ℕ) (seen : List Node) (n : Node) (v : ℕ) : Type 0 where
+  outside : (Inside d (keyOf d n) → ⊥) → v ≡ 5 → Fails d s seen n v
+  again : Inside d (keyOf d n) → keyOf d n ∈ map (keyOf d) seen → v ≡ 6 → Fails d s seen n v
+  breaks : Inside d (keyOf d n) → ¬ (keyOf d n ∈ map (keyOf d) seen) → NodeBreaks d s n v → Fails d s seen n v
+
+-- k is the key of the first node, in the order of the walk, that fails
+pub record FirstRefusal (d : Disk) (s : List ℕ) (v k : ℕ) : Type 0 where
+  pub seen : List Node
   pub node : Node
-  pub reached : Reached (graph d s .references) node
+  pub todo : List Node
+  pub visits : Visits (graph d s) seen (node ∷ todo)
+  pub fails : Fails d s seen node v
   pub keyed : keyOf d node ≡ k
-  pub cause : ((v ≡ 5) × ((k < firstKey) ⊎ (d .blocks ≤ k))) ⊎ ((v ≡ 6) × Twice (graph d s) k) ⊎ ((v ≢ 0) × (faultOf d s node ≡ v))
+
+-- ---- what it says of the volume, with no order
+
+-- t is the root, or a reached directory
+abbrev pub Holder : Disk → List ℕ → ℕ → Type 0
+Holder d s t = (t ≡ rootOf d) ⊎ (Reached (references d s) (to Kind.entry t) × (directory s t ≡ true))
+
+-- entry k hangs on a chain of slot i of such a directory
+pub record Hung (d : Disk) (s : List ℕ) (t i k : ℕ) : Type 0 where
+  pub reached : Reached (references d s) (to Kind.entry k)
+  pub holder : Holder d s t
+  pub hangs : Hangs s t i k
+
+-- h is the header of a reached file
+pub record FileAt (d : Disk) (s : List ℕ) (h : ℕ) : Type 0 where
+  pub reached : Reached (references d s) (to Kind.entry h)
+  pub kind : directory s h ≡ false
+
+-- w0 and w127 are those of the kind that a reference asks for
+abbrev pub KindRight : List ℕ → ℕ → Kind → Type 0
+KindRight s k Kind.root = RootKind s k
+KindRight s k Kind.bitmap = Unit {0}
+KindRight s k Kind.entry = EntryKind s k
+KindRight s k Kind.list = ListKind s k
+KindRight s k Kind.datum = wordOf s k 0 ≡ 8
+
+-- one case for each number; the field of the law that it breaks stands above it
+pub data Cause (d : Disk) (s : List ℕ) (v k : ℕ) : Type 0 where
+  -- `Root`: the fixed words of the root
+  number-4 : k ≡ rootOf d → (RootFixed s k → ⊥) → v ≡ 4 → Cause d s v k
+  -- `Tree.keys`: a reached block refers to a key outside the volume
+  number-5 : (a : Kind) → Reached (references d s) (to a k) → (Inside d k → ⊥) → v ≡ 5 → Cause d s v k
+  -- `Tree.owned`: two places refer to block k, or one does and it is the root
+  number-6 : Twice (references d s) k → v ≡ 6 → Cause d s v k
+  -- `Tree.sums`
+  number-7 : (a : Kind) → Reached (references d s) (to a k) → sumOf s k ≢ 0 → v ≡ 7 → Cause d s v k
+  -- `type` and `kind` of `Root`, `Entry` and `ListBlock`, `type` of `DataBlock`
+  number-8 : (a : Kind) → Reached (references d s) (to a k) → (KindRight s k a → ⊥) → v ≡ 8 → Cause d s v k
+  -- `Entry.kind`: it is a link
+  number-9 : Reached (references d s) (to Kind.entry k) → Link s k → v ≡ 9 → Cause d s v k
+  -- of an entry `Entry.own`, `Directory.parent`, or w126 of a directory (`Tree.directories`); of list block i of a file `own` and `parent`
+  number-10 : (t i : ℕ) → Hung d s t i k → EntryKind s k → (EntryTies s k t → ⊥) → v ≡ 10 → Cause d s v k
+  number-10-list : (h i : ℕ) → FileAt d s h → At i k (listsOf d s h) → ListKind s k → (ListBlock s h k → ⊥) → v ≡ 10 → Cause d s v k
+  -- `Root.name` or `Entry.name`
+  number-11 : (k ≡ rootOf d) ⊎ Reached (references d s) (to Kind.entry k) → nameGood s k ≡ false → v ≡ 11 → Cause d s v k
+  -- `Directory.slot`
+  number-12 : (t i : ℕ) → Hung d s t i k → slotOf d (nameOf s k) ≢ i → v ≡ 12 → Cause d s v k
+  -- `Directory.names`: an entry earlier on the chain of that directory has the same folded name
+  number-13 : (t i l : ℕ) (h : Hung d s t i k) (g : Hangs s t i l) → g .place < h .hangs .place → folded d (nameOf s l) ≡ folded d (nameOf s k) → v ≡ 13 → Cause d s v k
+  -- `File.size`, `File.listing` or, of an empty file, `File.following`; of list block i of a file `File.listing`
+  number-14 : FileAt d s k → (HeaderSound d s k → ⊥) → v ≡ 14 → Cause d s v k
+  number-14-list : (h i : ℕ) → FileAt d s h → At i k (listsOf d s h) → (Lists s k (blocksOf d s h - slots * suc i) → ⊥) → v ≡ 14 → Cause d s v k
+  -- `File.blocks` or `File.following`, of data block i of a file, counted from 0; c is the data block before it, or the header
+  number-15 : (h i c : ℕ) → FileAt d s h → At i k (keysOf d s h) → At i c (h ∷ keysOf d s h) → (DataTies d s k h (suc i) (wordOf s c 4) → ⊥) → v ≡ 15 → Cause d s v k
+  -- `Volume.valid` or `Root.rest`
+  number-16 : k ≡ rootOf d → (Valid d s → ⊥) ⊎ (OneBitmap s k → ⊥) → v ≡ 16 → Cause d s v k

@@ -12,6 +12,7 @@ use Rattle.reach.specs.Walk.{free}
 use Rattle.volume.specs.declared.disk.Disk.{Disk}
 use Rattle.volume.specs.Blocks.{directory}
 use Rattle.volume.specs.References.{root, bitmap, entry, list, datum, Ref, references}
+use Rattle.volume.specs.Law.{Used}
 use Rattle.walk.specs.declared.Counts.{Counts}
 
 -- how many of a list pass a test
@@ -34,10 +35,6 @@ abbrev pub isData : Ref → Bool
 isData r = elim (r .kind) [ root ↦ false | bitmap ↦ false | entry ↦ false | list ↦ false | datum ↦ true ]
 
 -- ---- the report
-
--- block k is reached
-abbrev pub Used : Disk → List ℕ → ℕ → Type 0
-Used d s k = (r : Ref) × Reached (references d s) r × (r .key ≡ k)
 
 -- of the claims c and the counts n
 pub record Walked (d : Disk) (s c : List ℕ) (n : Counts) : Type 0 where

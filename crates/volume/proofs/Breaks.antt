@@ -1,0 +1,473 @@
+-- The tests of a block give a number exactly if the block breaks the law as `specs/Breaks.antt` says, and pass exactly if it does not. Assumes nothing.
+use Prim.Native.Nat.{ℕ, zero, suc, _+_}
+use mathlib.Core.Path.{_≡_, refl, sym, ap, _∙_}
+use mathlib.Core.Logic.{_≢_, _⊎_, inl, inr, _↔_}
+use mathlib.Core.Bool.{Bool, true, false}
+use mathlib.Core.List.{List, [], _∷_, _++_}
+use native.Mathlib.Omega.{arith}
+use lib.Dec.{eqb}
+use borrow.Author.Tests.{eq-eqb, ne-eqb, eqb-true, eqb-false, lt-ltb, le-ltb}
+use Rattle.answers.specs.Tests.{pick, must, never, first, tests}
+use Rattle.answers.proofs.Tests.{first-zero, tests-append, must-passed, must-passes, pick-true, pick-false}
+use Rattle.answers.proofs.Given.{Given, given}
+use Rattle.answers.proofs.Clashes.{impossible}
+use Rattle.reach.specs.References.{_∈_}
+use Rattle.volume.specs.declared.disk.Disk.{Disk}
+use Rattle.volume.specs.Disks.{rootOf, inRange, firstKey}
+use Rattle.volume.specs.Blocks.{wordOf, sumOf, directory}
+use Rattle.volume.specs.Names.{nameOf, nameGood, slotOf}
+use Rattle.volume.specs.Files.{heldOf, sizeOf}
+use Rattle.volume.specs.Law.{OneBitmap, Valid, Lists}
+use Rattle.volume.specs.Rules.{rootWords, rootFault, allZero, mapFault, bitmapFault, entryWords, entryName, entryFault, countRules, fileFault, listFault, dataLinks, dataFault}
+use Rattle.volume.specs.Breaks.{Inside, RootKind, RootFixed, RootSound, RootBreaks, root-7, root-8, root-4, root-11, MapBreaks, map-16, BitmapBreaks, bitmap-7, EntryKind, EntryTies, Placed, EntryBreaks, entry-7, entry-8, entry-9, entry-10, entry-11, entry-12, HeaderSound, HeaderBreaks, header-14, ListKind, ListSound, ListBreaks, list-7, list-8, list-10, list-14, DataTies, DataBreaks, data-7, data-8, data-15}
+use Rattle.volume.proofs.Sizes.{range-is}
+use Rattle.volume.proofs.Passes.{is, be, is-not, be-not, test-at, _&_, zeros-there, zeros-found, entry-passed, entry-passes, count-passed, count-passes, list-passed, list-passes, file-passed, file-passes, data-passed, data-passes}
+
+-- ---- tests in order: x is 0 exactly if P holds, else its number n
+
+record Test (n x : ℕ) (P : Type 0) : Type 0 where
+  gives : Given (n ∷ []) x
+  passed : x ≡ 0 → P
+  passes : P → x ≡ 0
+
+module _ {n x : ℕ} {P : Type 0} (r : Test n x P) where
+  one : x ≢ 0 → x ≡ n
+  one z = go (r .gives .member z)
+    where
+      go : x ∈ (n ∷ []) → x ≡ n
+      go (inl e) = e
+      go (inr e) = absurd e
+
+  broken : {v : ℕ} → v ≢ 0 → x ≡ v → (P → ⊥) × (v ≡ n)
+  broken {v} z e = ((λ p. z (sym e ∙ r .passes p)), sym e ∙ one (λ q. z (sym e ∙ q)))
+
+  breaks : {v : ℕ} → (P → ⊥) → v ≡ n → x ≡ v
+  breaks {v} q e = one (λ z. q (r .passed z)) ∙ sym e
+
+  module _ {v : ℕ} (y : ℕ) where
+    -- v is its number, or it passes and v is the number of what follows
+    down : {C : Type 0} → v ≢ 0 → ((P → ⊥) → v ≡ n → C) → (P → y ≡ v → C) → first x y ≡ v → C
+    unfolding first
+    down {C} z f g e = go x refl e
+      where
+        go : (w : ℕ) → x ≡ w → first w y ≡ v → C
+        go zero q e = g (r .passed q) e
+        go (suc w) q e = f (broken z (q ∙ e) .0) (broken z (q ∙ e) .1)
+
+    fall : v ≢ 0 → (P → ⊥) → v ≡ n → first x y ≡ v
+    unfolding first
+    fall z q e = go x (breaks q e)
+      where
+        go : (w : ℕ) → w ≡ v → first w y ≡ v
+        go zero h = absurd (z (sym h))
+        go (suc w) h = h
+
+    on : P → y ≡ v → first x y ≡ v
+    unfolding first
+    on p e = rw (r .passes p) e
+
+-- the last
+last : (x : ℕ) → first x 0 ≡ x
+unfolding first
+last zero = refl
+last (suc x) = refl
+
+-- ---- tests of one word, or of a Bool
+
+word-test : (a b v : ℕ) → Given (suc v ∷ []) (must (eqb a b) (suc v)) → Test (suc v) (must (eqb a b) (suc v)) (a ≡ b)
+word-test a b v g = record { gives = g; passed = is a b v; passes = be a b (suc v) }
+
+sum-test : (s : List ℕ) (k : ℕ) → Test 7 (must (eqb (sumOf s k) 0) 7) (sumOf s k ≡ 0)
+sum-test s k = word-test (sumOf s k) 0 6 (search given depth 8)
+
+name-test : (s : List ℕ) (k : ℕ) → Test 11 (must (nameGood s k) 11) (nameGood s k ≡ true)
+name-test s k = record { gives = search given depth 8; passed = must-passed (nameGood s k) 10; passes = must-passes (nameGood s k) 11 }
+
+-- a name that is not good
+bad-name : (s : List ℕ) (k : ℕ) → (nameGood s k ≡ true → ⊥) → nameGood s k ≡ false
+bad-name s k h = go (nameGood s k) refl
+  where
+    go : (b : Bool) → nameGood s k ≡ b → nameGood s k ≡ false
+    go true e = absurd (h e)
+    go false e = e
+
+not-good : (s : List ℕ) (k : ℕ) → nameGood s k ≡ false → nameGood s k ≡ true → ⊥
+not-good s k p q = impossible cc
+
+-- no number is 0
+some : {v : ℕ} (n : ℕ) → v ≡ suc n → v ≢ 0
+some n p q = omega arith
+
+-- ---- the root
+
+module _ (s : List ℕ) (r : ℕ) where
+  abbrev kinds : List ℕ
+  kinds = must (eqb (wordOf s r 0) 2) 8 ∷ must (eqb (wordOf s r 127) 1) 8 ∷ []
+
+  kind-test : Test 8 (tests kinds) (RootKind s r)
+  kind-test =
+      record {
+        gives = search given depth 8;
+        passed = λ e. record { type = is _ _ 7 (test-at 0 kinds e refl); kind = is _ _ 7 (test-at 1 kinds e refl) };
+        passes = λ h. be _ _ 8 (h .type) & be _ _ 8 (h .kind) & refl;
+      }
+
+  fixed-test : Test 4 (tests (rootWords s r)) (RootFixed s r)
+  fixed-test = record { gives = search given depth 16; passed = λ e. record { zeros = zeros′ e; table = is _ _ 3 (test-at 2 (rootWords s r) e refl) }; passes = passes′ }
+    where
+      zeros′ : tests (rootWords s r) ≡ 0 → (i : ℕ) → i ∈ (1 ∷ 2 ∷ 4 ∷ 124 ∷ 125 ∷ 126 ∷ []) → wordOf s r i ≡ 0
+      zeros′ e i (inl q) = rw q (is _ _ 3 (test-at 0 (rootWords s r) e refl))
+      zeros′ e i (inr (inl q)) = rw q (is _ _ 3 (test-at 1 (rootWords s r) e refl))
+      zeros′ e i (inr (inr (inl q))) = rw q (is _ _ 3 (test-at 3 (rootWords s r) e refl))
+      zeros′ e i (inr (inr (inr (inl q)))) = rw q (is _ _ 3 (test-at 4 (rootWords s r) e refl))
+      zeros′ e i (inr (inr (inr (inr (inl q))))) = rw q (is _ _ 3 (test-at 5 (rootWords s r) e refl))
+      zeros′ e i (inr (inr (inr (inr (inr (inl q)))))) = rw q (is _ _ 3 (test-at 6 (rootWords s r) e refl))
+      zeros′ e i (inr (inr (inr (inr (inr (inr q)))))) = absurd q
+
+      passes′ : RootFixed s r → tests (rootWords s r) ≡ 0
+      passes′ h = fixed 1 (inl refl) & fixed 2 (inr (inl refl)) & be _ _ 4 (h .table) & fixed 4 (inr (inr (inl refl))) & fixed 124 (inr (inr (inr (inl refl)))) & fixed 125 (inr (inr (inr (inr (inl refl))))) & fixed 126 (inr (inr (inr (inr (inr (inl refl)))))) & refl
+        where
+          fixed : (i : ℕ) → i ∈ (1 ∷ 2 ∷ 4 ∷ 124 ∷ 125 ∷ 126 ∷ []) → must (eqb (wordOf s r i) 0) 4 ≡ 0
+          fixed i m = be _ _ 4 (h .zeros i m)
+
+module _ (d : Disk) (s : List ℕ) where
+  abbrev r : ℕ
+  r = rootOf d
+
+  root-order : rootFault d s ≡ first (must (eqb (sumOf s r) 0) 7) (first (tests (kinds s r)) (first (tests (rootWords s r)) (must (nameGood s r) 11)))
+  unfolding rootFault
+  root-order = ap (first (must (eqb (sumOf s r) 0) 7)) (tests-append (kinds s r) (rootWords s r ++ (must (nameGood s r) 11 ∷ [])) ∙ ap (first (tests (kinds s r))) (tests-append (rootWords s r) (must (nameGood s r) 11 ∷ []) ∙ ap (first (tests (rootWords s r))) (last _)))
+
+  root-broken : (v : ℕ) → v ≢ 0 → rootFault d s ≡ v → RootBreaks s r v
+  root-broken v z e =
+      down (sum-test s r) _ z root-7
+      (λ a. down (kind-test s r) _ z (root-8 a)
+      (λ b. down (fixed-test s r) _ z (root-4 a b)
+      (λ c q. let w = broken (name-test s r) z q in root-11 a b c (bad-name s r (w .0)) (w .1))))
+      (sym root-order ∙ e)
+
+  root-fault : (v : ℕ) → RootBreaks s r v → (rootFault d s ≡ v) × (v ≢ 0)
+  root-fault v (root-7 a e) = (root-order ∙ fall (sum-test s r) _ (some 6 e) a e, some 6 e)
+  root-fault v (root-8 a b e) = (root-order ∙ on (sum-test s r) _ a (fall (kind-test s r) _ (some 7 e) b e), some 7 e)
+  root-fault v (root-4 a b c e) = (root-order ∙ on (sum-test s r) _ a (on (kind-test s r) _ b (fall (fixed-test s r) _ (some 3 e) c e)), some 3 e)
+  root-fault v (root-11 a b c n e) = (root-order ∙ on (sum-test s r) _ a (on (kind-test s r) _ b (on (fixed-test s r) _ c (breaks (name-test s r) (not-good s r n) e))), some 10 e)
+
+  -- the root up to its name: 7, 8, 4 and 11
+  pub root-breaks : (v : ℕ) → ((rootFault d s ≡ v) × (v ≢ 0)) ↔ RootBreaks s r v
+  root-breaks v = ((λ h. root-broken v (h .1) (h .0)), root-fault v)
+
+  -- and it passes exactly if it is as the law says
+  pub root-sound : (rootFault d s ≡ 0) ↔ RootSound s r
+  root-sound = (passed′, λ h. root-order ∙ on (sum-test s r) _ (h .sum) (on (kind-test s r) _ (h .kind) (on (fixed-test s r) _ (h .fixed) (must-passes (nameGood s r) 11 (h .name)))))
+    where
+      passed′ : rootFault d s ≡ 0 → RootSound s r
+      passed′ e =
+          let a = first-zero _ _ (sym root-order ∙ e) in
+          let b = first-zero _ _ (a .1) in
+          let c = first-zero _ _ (b .1) in
+          record { sum = sum-test s r .passed (a .0); kind = kind-test s r .passed (b .0); fixed = fixed-test s r .passed (c .0); name = name-test s r .passed (c .1) }
+
+  -- ---- the root's words beside the bitmap key
+
+  abbrev zeros : ℕ
+  zeros = must (allZero s r 80 25) 16
+
+  zeros-test : Test 16 zeros (OneBitmap s r)
+  zeros-test =
+      record {
+        gives = search given depth 8;
+        passed = λ e i l h. zeros-there s r 80 25 (must-passed _ 15 e) i l (omega arith);
+        passes = λ f. must-passes _ 16 (zeros-found s r 80 25 (λ j l u. f j l (omega arith)));
+      }
+
+  valid-test : Test 16 (must (eqb (wordOf s r 78) 0xFFFFFFFF) 16) (Valid d s)
+  valid-test = word-test _ _ 15 (search given depth 8)
+
+  map-order : mapFault d s ≡ first (must (eqb (wordOf s r 78) 0xFFFFFFFF) 16) zeros
+  unfolding mapFault
+  map-order = ap (first (must (eqb (wordOf s r 78) 0xFFFFFFFF) 16)) (last zeros)
+
+  -- 16
+  pub map-breaks : (v : ℕ) → ((mapFault d s ≡ v) × (v ≢ 0)) ↔ MapBreaks d s v
+  map-breaks v = (to, from)
+    where
+      to : (mapFault d s ≡ v) × (v ≢ 0) → MapBreaks d s v
+      to h = down valid-test _ (h .1) (λ a. map-16 (inl a)) (λ a q. let w = broken zeros-test (h .1) q in map-16 (inr (w .0)) (w .1)) (sym map-order ∙ h .0)
+
+      rest : (OneBitmap s r → ⊥) → v ≡ 16 → (t : Bool) → eqb (wordOf s r 78) 0xFFFFFFFF ≡ t → mapFault d s ≡ v
+      rest b e true q = map-order ∙ on valid-test _ (eqb-true _ _ q) (breaks zeros-test b e)
+      rest b e false q = map-order ∙ fall valid-test _ (some 15 e) (eqb-false _ _ q) e
+
+      from : MapBreaks d s v → (mapFault d s ≡ v) × (v ≢ 0)
+      from (map-16 (inl a) e) = (map-order ∙ fall valid-test _ (some 15 e) a e, some 15 e)
+      from (map-16 (inr b) e) = (rest b e (eqb (wordOf s r 78) 0xFFFFFFFF) refl, some 15 e)
+
+  pub map-sound : (mapFault d s ≡ 0) ↔ (Valid d s × OneBitmap s r)
+  map-sound = (passed′, λ h. map-order ∙ on valid-test _ (h .0) (zeros-test .passes (h .1)))
+    where
+      passed′ : mapFault d s ≡ 0 → Valid d s × OneBitmap s r
+      passed′ e = let a = first-zero _ _ (sym map-order ∙ e) in (valid-test .passed (a .0), zeros-test .passed (a .1))
+
+-- ---- the bitmap block
+
+module _ (s : List ℕ) (k : ℕ) where
+  -- 7
+  pub bitmap-breaks : (v : ℕ) → ((bitmapFault s k ≡ v) × (v ≢ 0)) ↔ BitmapBreaks s k v
+  unfolding bitmapFault
+  bitmap-breaks v = ((λ h. let w = broken (sum-test s k) (h .1) (h .0) in bitmap-7 (w .0) (w .1)), from)
+    where
+      from : BitmapBreaks s k v → (bitmapFault s k ≡ v) × (v ≢ 0)
+      from (bitmap-7 a e) = (breaks (sum-test s k) a e, some 6 e)
+
+-- ---- an entry
+
+-- a number is one of some numbers, or not
+among : (x : ℕ) (l : List ℕ) → Dec (x ∈ l)
+among x [] = no (λ h. h)
+among x (y ∷ l) = go (eqb x y) refl (among x l)
+  where
+    go : (b : Bool) → eqb x y ≡ b → Dec (x ∈ l) → Dec (x ∈ (y ∷ l))
+    go true q ih = yes (inl (eqb-true _ _ q))
+    go false q (yes h) = yes (inr h)
+    go false q (no h) = no (neither (eqb-false _ _ q) h)
+      where
+        neither : x ≢ y → (x ∈ l → ⊥) → x ∈ (y ∷ l) → ⊥
+        neither a b (inl e) = a e
+        neither a b (inr e) = b e
+
+module _ (d : Disk) (s : List ℕ) (k t i : ℕ) where
+  abbrev w127 : ℕ
+  w127 = wordOf s k 127
+
+  abbrev links : List ℕ
+  links = never (eqb w127 3) 9 ∷ never (eqb w127 4) 9 ∷ never (eqb w127 0xFFFFFFFC) 9 ∷ []
+
+  abbrev Linked : Type 0
+  Linked = w127 ∈ (3 ∷ 4 ∷ 0xFFFFFFFC ∷ [])
+
+  type-test : Test 8 (must (eqb (wordOf s k 0) 2) 8) (wordOf s k 0 ≡ 2)
+  type-test = word-test _ _ 7 (search given depth 8)
+
+  link-test : Test 9 (tests links) (Linked → ⊥)
+  link-test = record { gives = search given depth 8; passed = passed′; passes = λ h. be-not _ _ 9 (λ e. h (inl e)) & be-not _ _ 9 (λ e. h (inr (inl e))) & be-not _ _ 9 (λ e. h (inr (inr (inl e)))) & refl }
+    where
+      passed′ : tests links ≡ 0 → Linked → ⊥
+      passed′ e (inl q) = is-not _ _ 8 (test-at 0 links e refl) q
+      passed′ e (inr (inl q)) = is-not _ _ 8 (test-at 1 links e refl) q
+      passed′ e (inr (inr (inl q))) = is-not _ _ 8 (test-at 2 links e refl) q
+      passed′ e (inr (inr (inr q))) = absurd q
+
+  linked : ((Linked → ⊥) → ⊥) → Linked
+  linked h = go (among w127 (3 ∷ 4 ∷ 0xFFFFFFFC ∷ []))
+    where
+      go : Dec Linked → Linked
+      go (yes q) = q
+      go (no q) = absurd (h q)
+
+  abbrev Known : Type 0
+  Known = (w127 ≡ 2) ⊎ (w127 ≡ 0xFFFFFFFD)
+
+  abbrev known : ℕ
+  known = pick (directory s k) 0 (must (eqb w127 0xFFFFFFFD) 8)
+
+  known-test : Test 8 known Known
+  known-test = record { gives = search given depth 8; passed = passed′ (directory s k) refl; passes = passes′ }
+    where
+      passed′ : (b : Bool) → directory s k ≡ b → known ≡ 0 → Known
+      passed′ true h e = inl (eqb-true _ _ h)
+      passed′ false h e = inr (is _ _ 7 (sym (pick-false (directory s k) _ _ _ h refl) ∙ e))
+
+      passes′ : Known → known ≡ 0
+      passes′ (inl e) = pick-true (directory s k) _ _ _ (eq-eqb _ _ e) refl
+      passes′ (inr e) = pick-false (directory s k) _ _ _ (ne-eqb w127 2 (λ f. omega (arith, e, f))) refl ∙ be _ _ 8 e
+
+  ties-test : Test 10 (tests (entryWords s k t)) (EntryTies s k t)
+  ties-test =
+      record {
+        gives = search given depth 8;
+        passed = λ e. record { own = is _ _ 9 (test-at 0 (entryWords s k t) e refl); parent = is _ _ 9 (test-at 1 (entryWords s k t) e refl); link = λ h. is _ _ 9 (sym (pick-true (directory s k) _ _ _ h refl) ∙ test-at 2 (entryWords s k t) e refl) };
+        passes = λ h. be _ _ 10 (h .own) & be _ _ 10 (h .parent) & link′ h (directory s k) refl & refl;
+      }
+    where
+      link′ : EntryTies s k t → (b : Bool) → directory s k ≡ b → pick (directory s k) (must (eqb (wordOf s k 126) 0) 10) 0 ≡ 0
+      link′ h true e = pick-true (directory s k) _ _ _ e refl ∙ be _ _ 10 (h .link e)
+      link′ h false e = pick-false (directory s k) _ _ _ e refl
+
+  slot-test : Test 12 (must (eqb (slotOf d (nameOf s k)) i) 12) (slotOf d (nameOf s k) ≡ i)
+  slot-test = word-test _ _ 11 (search given depth 8)
+
+  entry-order : entryFault d s k t i ≡ first (must (eqb (sumOf s k) 0) 7) (first (must (eqb (wordOf s k 0) 2) 8) (first (tests links) (first known (first (tests (entryWords s k t)) (first (must (nameGood s k) 11) (must (eqb (slotOf d (nameOf s k)) i) 12))))))
+  unfolding entryFault
+  entry-order = ap (λ x. first (must (eqb (sumOf s k) 0) 7) (first (must (eqb (wordOf s k 0) 2) 8) x)) (tests-append links (known ∷ (entryWords s k t ++ entryName d s k i)) ∙ ap (λ x. first (tests links) (first known x)) (tests-append (entryWords s k t) (entryName d s k i) ∙ ap (λ x. first (tests (entryWords s k t)) (first (must (nameGood s k) 11) x)) (last _)))
+
+  -- a directory's or a file's w127 is no link's
+  apart : Known → Linked → ⊥
+  apart (inl a) (inl b) = omega arith
+  apart (inl a) (inr (inl b)) = omega arith
+  apart (inl a) (inr (inr (inl b))) = omega arith
+  apart (inl a) (inr (inr (inr b))) = b
+  apart (inr a) (inl b) = omega arith
+  apart (inr a) (inr (inl b)) = omega arith
+  apart (inr a) (inr (inr (inl b))) = omega arith
+  apart (inr a) (inr (inr (inr b))) = b
+
+  entry-broken : (v : ℕ) → v ≢ 0 → entryFault d s k t i ≡ v → EntryBreaks d s k t i v
+  entry-broken v z e =
+      down (sum-test s k) _ z entry-7
+      (λ a. down type-test _ z (λ b. entry-8 a (λ x. b (x .type)) (λ x. b (x .type)))
+      (λ b. down link-test _ z (λ c. entry-9 a (record { type = b; kind = linked c }))
+      (λ c. down known-test _ z (λ n. entry-8 a (λ x. n (x .kind)) (λ x. c (x .kind)))
+      (λ n. down ties-test _ z (entry-10 a (record { type = b; kind = n }))
+      (λ o. down (name-test s k) _ z (λ g. entry-11 a (record { type = b; kind = n }) o (bad-name s k g))
+      (λ g q. let w = broken slot-test z q in entry-12 a (record { type = b; kind = n; own = o .own; name = g }) o (w .0) (w .1)))))))
+      (sym entry-order ∙ e)
+
+  -- past the sum and the types
+  past : {v : ℕ} → sumOf s k ≡ 0 → EntryKind s k → first (tests (entryWords s k t)) (first (must (nameGood s k) 11) (must (eqb (slotOf d (nameOf s k)) i) 12)) ≡ v → entryFault d s k t i ≡ v
+  past a b q = entry-order ∙ on (sum-test s k) _ a (on type-test _ (b .type) (on link-test _ (apart (b .kind)) (on known-test _ (b .kind) q)))
+
+  entry-fault : (v : ℕ) → EntryBreaks d s k t i v → (entryFault d s k t i ≡ v) × (v ≢ 0)
+  entry-fault v (entry-7 a e) = (entry-order ∙ fall (sum-test s k) _ (some 6 e) a e, some 6 e)
+  entry-fault v (entry-8 a b c e) = (entry-order ∙ on (sum-test s k) _ a (go (eqb (wordOf s k 0) 2) refl), some 7 e)
+    where
+      go : (u : Bool) → eqb (wordOf s k 0) 2 ≡ u → first (must (eqb (wordOf s k 0) 2) 8) (first (tests links) (first known (first (tests (entryWords s k t)) (first (must (nameGood s k) 11) (must (eqb (slotOf d (nameOf s k)) i) 12))))) ≡ v
+      go true q =
+          let y : wordOf s k 0 ≡ 2 = eqb-true _ _ q in
+          on type-test _ y (on link-test _ (λ x. c (record { type = y; kind = x })) (fall known-test _ (some 7 e) (λ x. b (record { type = y; kind = x })) e))
+      go false q = fall type-test _ (some 7 e) (eqb-false _ _ q) e
+  entry-fault v (entry-9 a b e) = (entry-order ∙ on (sum-test s k) _ a (on type-test _ (b .type) (fall link-test _ (some 8 e) (λ h. h (b .kind)) e)), some 8 e)
+  entry-fault v (entry-10 a b c e) = (past a b (fall ties-test _ (some 9 e) c e), some 9 e)
+  entry-fault v (entry-11 a b c n e) = (past a b (on ties-test _ c (fall (name-test s k) _ (some 10 e) (not-good s k n) e)), some 10 e)
+  entry-fault v (entry-12 a b c n e) = (past a (record { type = b .type; kind = b .kind }) (on ties-test _ c (on (name-test s k) _ (b .name) (breaks slot-test n e))), some 11 e)
+
+  -- 7 to 12
+  pub entry-breaks : (v : ℕ) → ((entryFault d s k t i ≡ v) × (v ≢ 0)) ↔ EntryBreaks d s k t i v
+  entry-breaks v = ((λ h. entry-broken v (h .1) (h .0)), entry-fault v)
+
+  pub entry-sound : (entryFault d s k t i ≡ 0) ↔ Placed d s k t i
+  entry-sound = (entry-passed d s k t i, entry-passes d s k t i)
+
+-- ---- a file's header
+
+module _ (d : Disk) (s : List ℕ) (h : ℕ) where
+  pub header-sound : (fileFault d s h ≡ 0) ↔ HeaderSound d s h
+  header-sound = ((λ e. let p = file-passed d s h e in record { size = p .0; lists = p .1; empty = p .2 }), (λ p. file-passes d s h (p .size, p .lists, p .empty)))
+
+  header-test : Test 14 (fileFault d s h) (HeaderSound d s h)
+  unfolding fileFault
+  header-test = record { gives = search given depth 16; passed = header-sound .0; passes = header-sound .1 }
+
+  -- 14
+  pub header-breaks : (v : ℕ) → ((fileFault d s h ≡ v) × (v ≢ 0)) ↔ HeaderBreaks d s h v
+  header-breaks v = ((λ e. let w = broken header-test (e .1) (e .0) in header-14 (w .0) (w .1)), from)
+    where
+      from : HeaderBreaks d s h v → (fileFault d s h ≡ v) × (v ≢ 0)
+      from (header-14 a e) = (breaks header-test a e, some 13 e)
+
+-- ---- a list block
+
+module _ (s : List ℕ) (k h n : ℕ) where
+  abbrev types : List ℕ
+  types = must (eqb (wordOf s k 0) 16) 8 ∷ must (eqb (wordOf s k 127) 0xFFFFFFFD) 8 ∷ []
+
+  abbrev owns : List ℕ
+  owns = must (eqb (wordOf s k 1) k) 10 ∷ must (eqb (wordOf s k 125) h) 10 ∷ []
+
+  types-test : Test 8 (tests types) (ListKind s k)
+  types-test =
+      record {
+        gives = search given depth 8;
+        passed = λ e. record { type = is _ _ 7 (test-at 0 types e refl); kind = is _ _ 7 (test-at 1 types e refl) };
+        passes = λ p. be _ _ 8 (p .type) & be _ _ 8 (p .kind) & refl;
+      }
+
+  owns-test : Test 10 (tests owns) ((wordOf s k 1 ≡ k) × (wordOf s k 125 ≡ h))
+  owns-test = record { gives = search given depth 8; passed = λ e. (is _ _ 9 (test-at 0 owns e refl), is _ _ 9 (test-at 1 owns e refl)); passes = λ p. be _ _ 10 (p .0) & be _ _ 10 (p .1) & refl }
+
+  lists-test : Test 14 (tests (countRules s k n)) (Lists s k n)
+  lists-test = record { gives = search given depth 8; passed = count-passed s k n; passes = count-passes s k n }
+
+  list-order : listFault s k h n ≡ first (must (eqb (sumOf s k) 0) 7) (first (tests types) (first (tests owns) (tests (countRules s k n))))
+  unfolding listFault
+  list-order = ap (first (must (eqb (sumOf s k) 0) 7)) (tests-append types (owns ++ countRules s k n) ∙ ap (first (tests types)) (tests-append owns (countRules s k n)))
+
+  list-broken : (v : ℕ) → v ≢ 0 → listFault s k h n ≡ v → ListBreaks s k h n v
+  list-broken v z e =
+      down (sum-test s k) _ z list-7
+      (λ a. down types-test _ z (list-8 a)
+      (λ b. down owns-test _ z (λ c. list-10 a b (λ x. c (x .own, x .parent)))
+      (λ c q. let w = broken lists-test z q in list-14 a (record { type = b .type; kind = b .kind; own = c .0; parent = c .1 }) (w .0) (w .1))))
+      (sym list-order ∙ e)
+
+  list-fault : (v : ℕ) → ListBreaks s k h n v → (listFault s k h n ≡ v) × (v ≢ 0)
+  list-fault v (list-7 a e) = (list-order ∙ fall (sum-test s k) _ (some 6 e) a e, some 6 e)
+  list-fault v (list-8 a b e) = (list-order ∙ on (sum-test s k) _ a (fall types-test _ (some 7 e) b e), some 7 e)
+  list-fault v (list-10 a b c e) = (list-order ∙ on (sum-test s k) _ a (on types-test _ b (fall owns-test _ (some 9 e) (λ x. c (record { type = b .type; kind = b .kind; own = x .0; parent = x .1 })) e)), some 9 e)
+  list-fault v (list-14 a b c e) = (list-order ∙ on (sum-test s k) _ a (on types-test _ (record { type = b .type; kind = b .kind }) (on owns-test _ (b .own, b .parent) (breaks lists-test c e))), some 13 e)
+
+  -- 7, 8, 10 and 14
+  pub list-breaks : (v : ℕ) → ((listFault s k h n ≡ v) × (v ≢ 0)) ↔ ListBreaks s k h n v
+  list-breaks v = ((λ e. list-broken v (e .1) (e .0)), list-fault v)
+
+  pub list-sound : (listFault s k h n ≡ 0) ↔ ListSound s k h n
+  list-sound = ((λ e. let p = list-passed s k h n e in record { sum = p .0; block = p .1; lists = p .2 }), (λ p. list-passes s k h n (p .sum, p .block, p .lists)))
+
+-- ---- a data block
+
+module _ (d : Disk) (s : List ℕ) (k h n named : ℕ) where
+  abbrev z : ℕ
+  z = sizeOf s h
+
+  abbrev rest : List ℕ
+  rest = must (eqb (wordOf s k 1) h) 15 ∷ must (eqb (wordOf s k 2) n) 15 ∷ must (eqb (wordOf s k 3) (heldOf d z n)) 15 ∷ dataLinks d s k z n named
+
+  data-type-test : Test 8 (must (eqb (wordOf s k 0) 8) 8) (wordOf s k 0 ≡ 8)
+  data-type-test = word-test _ _ 7 (search given depth 8)
+
+  data-order : dataFault d s k h z n named ≡ first (must (eqb (sumOf s k) 0) 7) (first (must (eqb (wordOf s k 0) 8) 8) (tests rest))
+  unfolding dataFault
+  data-order = refl
+
+  -- past the sum and the type
+  datum-test : sumOf s k ≡ 0 → wordOf s k 0 ≡ 8 → Test 15 (tests rest) (DataTies d s k h n named)
+  datum-test a b = record { gives = search given depth 12; passed = passed′; passes = passes′ }
+    where
+      passed′ : tests rest ≡ 0 → DataTies d s k h n named
+      passed′ e = let p = data-passed d s k h n named (data-order ∙ on (sum-test s k) _ a (on data-type-test _ b e)) in record { block = p .1; here = p .2 .0; last = p .2 .1 }
+
+      passes′ : DataTies d s k h n named → tests rest ≡ 0
+      passes′ p = first-zero _ _ (first-zero _ _ (sym data-order ∙ data-passes d s k h n named (a, p .block, (p .here, p .last))) .1) .1
+
+  data-broken : (v : ℕ) → v ≢ 0 → dataFault d s k h z n named ≡ v → DataBreaks d s k h n named v
+  data-broken v y e =
+      down (sum-test s k) _ y data-7
+      (λ a. down data-type-test _ y (data-8 a)
+      (λ b q. let w = broken (datum-test a b) y q in data-15 a b (w .0) (w .1)))
+      (sym data-order ∙ e)
+
+  data-fault : (v : ℕ) → DataBreaks d s k h n named v → (dataFault d s k h z n named ≡ v) × (v ≢ 0)
+  data-fault v (data-7 a e) = (data-order ∙ fall (sum-test s k) _ (some 6 e) a e, some 6 e)
+  data-fault v (data-8 a b e) = (data-order ∙ on (sum-test s k) _ a (fall data-type-test _ (some 7 e) b e), some 7 e)
+  data-fault v (data-15 a b c e) = (data-order ∙ on (sum-test s k) _ a (on data-type-test _ b (breaks (datum-test a b) c e)), some 14 e)
+
+  -- 7, 8 and 15
+  pub data-breaks : (v : ℕ) → ((dataFault d s k h (sizeOf s h) n named ≡ v) × (v ≢ 0)) ↔ DataBreaks d s k h n named v
+  data-breaks v = ((λ e. data-broken v (e .1) (e .0)), data-fault v)
+
+  pub data-sound : (dataFault d s k h (sizeOf s h) n named ≡ 0) ↔ ((sumOf s k ≡ 0) × DataTies d s k h n named)
+  data-sound = ((λ e. let p = data-passed d s k h n named e in (p .0, record { block = p .1; here = p .2 .0; last = p .2 .1 })), (λ p. data-passes d s k h n named (p .0, p .1 .block, (p .1 .here, p .1 .last))))
+
+-- ---- a key
+
+module _ (d : Disk) (k : ℕ) where
+  -- 5 is for every other key
+  pub key-inside : (inRange d k ≡ true) ↔ Inside d k
+  unfolding inRange pick
+  key-inside = ((λ e. let h = range-is d k e in record { low = h .0; high = h .1 }), (λ h. rw (le-ltb k firstKey (h .low), lt-ltb k (d .blocks) (h .high))))
+
+  pub key-outside : (inRange d k ≡ false) ↔ (Inside d k → ⊥)
+  key-outside = ((λ e h. let q : inRange d k ≡ true = key-inside .1 h in impossible cc), λ h. go (inRange d k) refl h)
+    where
+      go : (b : Bool) → inRange d k ≡ b → (Inside d k → ⊥) → inRange d k ≡ false
+      go true q h = absurd (h (key-inside .0 q))
+      go false q h = q

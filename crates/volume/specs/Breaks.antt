@@ -1,0 +1,129 @@
+-- What each number says of a block, in the words of the law (the build paper, "Numbers"): for each kind of block a constructor for each number. It
+-- names the rule that is broken, and those that hold because they are tested before it.
+use Prim.Native.Nat.{ℕ, _≤_, _<_}
+use mathlib.Core.Path.{_≡_}
+use mathlib.Core.Logic.{_≢_, _⊎_}
+use mathlib.Core.Bool.{true, false}
+use mathlib.Core.List.{List, [], _∷_}
+use Rattle.reach.specs.References.{_∈_}
+use Rattle.volume.specs.declared.disk.Disk.{Disk}
+use Rattle.volume.specs.Disks.{firstKey, rootOf, fileLimit}
+use Rattle.volume.specs.Blocks.{slots, wordOf, sumOf, directory}
+use Rattle.volume.specs.Names.{nameOf, nameGood, slotOf}
+use Rattle.volume.specs.Files.{sizeOf, blocksOf}
+use Rattle.volume.specs.Law.{OneBitmap, Valid, Entry, Lists, ListBlock, DataBlock}
+
+-- ---- a key: 5 if it is not one
+
+-- it lies after the boot blocks, in the volume
+pub record Inside (d : Disk) (k : ℕ) : Type 0 where
+  pub low : firstKey ≤ k
+  pub high : k < d .blocks
+
+-- ---- the root, block r, up to its name: 7, 8, 4, 11
+
+pub record RootKind (s : List ℕ) (r : ℕ) : Type 0 where
+  pub type : wordOf s r 0 ≡ 2
+  pub kind : wordOf s r 127 ≡ 1
+
+pub record RootFixed (s : List ℕ) (r : ℕ) : Type 0 where
+  pub zeros : (i : ℕ) → i ∈ (1 ∷ 2 ∷ 4 ∷ 124 ∷ 125 ∷ 126 ∷ []) → wordOf s r i ≡ 0
+  pub table : wordOf s r 3 ≡ slots
+
+-- all of it
+pub record RootSound (s : List ℕ) (r : ℕ) : Type 0 where
+  pub sum : sumOf s r ≡ 0
+  pub kind : RootKind s r
+  pub fixed : RootFixed s r
+  pub name : nameGood s r ≡ true
+
+pub data RootBreaks (s : List ℕ) (r v : ℕ) : Type 0 where
+  root-7 : sumOf s r ≢ 0 → v ≡ 7 → RootBreaks s r v
+  root-8 : sumOf s r ≡ 0 → (RootKind s r → ⊥) → v ≡ 8 → RootBreaks s r v
+  root-4 : sumOf s r ≡ 0 → RootKind s r → (RootFixed s r → ⊥) → v ≡ 4 → RootBreaks s r v
+  root-11 : sumOf s r ≡ 0 → RootKind s r → RootFixed s r → nameGood s r ≡ false → v ≡ 11 → RootBreaks s r v
+
+-- ---- the root's words beside the bitmap key, w78 or w80 to w104: 16
+
+pub data MapBreaks (d : Disk) (s : List ℕ) (v : ℕ) : Type 0 where
+  map-16 : (Valid d s → ⊥) ⊎ (OneBitmap s (rootOf d) → ⊥) → v ≡ 16 → MapBreaks d s v
+
+-- ---- the bitmap block, k: 7
+
+pub data BitmapBreaks (s : List ℕ) (k v : ℕ) : Type 0 where
+  bitmap-7 : sumOf s k ≢ 0 → v ≡ 7 → BitmapBreaks s k v
+
+-- ---- an entry, block k, on the chain of slot i of the directory t: 7 to 12
+
+pub record EntryKind (s : List ℕ) (k : ℕ) : Type 0 where
+  pub type : wordOf s k 0 ≡ 2
+  pub kind : (wordOf s k 127 ≡ 2) ⊎ (wordOf s k 127 ≡ 0xFFFFFFFD)
+
+pub record Link (s : List ℕ) (k : ℕ) : Type 0 where
+  pub type : wordOf s k 0 ≡ 2
+  pub kind : wordOf s k 127 ∈ (3 ∷ 4 ∷ 0xFFFFFFFC ∷ [])
+
+-- own key, parent, and a directory's w126
+pub record EntryTies (s : List ℕ) (k t : ℕ) : Type 0 where
+  pub own : wordOf s k 1 ≡ k
+  pub parent : wordOf s k 125 ≡ t
+  pub link : directory s k ≡ true → wordOf s k 126 ≡ 0
+
+-- all of it
+pub record Placed (d : Disk) (s : List ℕ) (k t i : ℕ) : Type 0 where
+  pub sum : sumOf s k ≡ 0
+  pub entry : Entry s k
+  pub parent : wordOf s k 125 ≡ t
+  pub link : directory s k ≡ true → wordOf s k 126 ≡ 0
+  pub slot : slotOf d (nameOf s k) ≡ i
+
+pub data EntryBreaks (d : Disk) (s : List ℕ) (k t i v : ℕ) : Type 0 where
+  entry-7 : sumOf s k ≢ 0 → v ≡ 7 → EntryBreaks d s k t i v
+  -- no link either
+  entry-8 : sumOf s k ≡ 0 → (EntryKind s k → ⊥) → (Link s k → ⊥) → v ≡ 8 → EntryBreaks d s k t i v
+  entry-9 : sumOf s k ≡ 0 → Link s k → v ≡ 9 → EntryBreaks d s k t i v
+  entry-10 : sumOf s k ≡ 0 → EntryKind s k → (EntryTies s k t → ⊥) → v ≡ 10 → EntryBreaks d s k t i v
+  entry-11 : sumOf s k ≡ 0 → EntryKind s k → EntryTies s k t → nameGood s k ≡ false → v ≡ 11 → EntryBreaks d s k t i v
+  entry-12 : sumOf s k ≡ 0 → Entry s k → EntryTies s k t → slotOf d (nameOf s k) ≢ i → v ≡ 12 → EntryBreaks d s k t i v
+
+-- ---- a file, by its header h: 14
+
+-- its size, w2 and w126, and w4 of an empty file
+pub record HeaderSound (d : Disk) (s : List ℕ) (h : ℕ) : Type 0 where
+  pub size : sizeOf s h ≤ fileLimit d
+  pub lists : Lists s h (blocksOf d s h)
+  pub empty : blocksOf d s h ≡ 0 → wordOf s h 4 ≡ 0
+
+pub data HeaderBreaks (d : Disk) (s : List ℕ) (h v : ℕ) : Type 0 where
+  header-14 : (HeaderSound d s h → ⊥) → v ≡ 14 → HeaderBreaks d s h v
+
+-- ---- a list block, k, of the file h, n keys still to come: 7, 8, 10, 14
+
+pub record ListKind (s : List ℕ) (k : ℕ) : Type 0 where
+  pub type : wordOf s k 0 ≡ 16
+  pub kind : wordOf s k 127 ≡ 0xFFFFFFFD
+
+-- all of it
+pub record ListSound (s : List ℕ) (k h n : ℕ) : Type 0 where
+  pub sum : sumOf s k ≡ 0
+  pub block : ListBlock s h k
+  pub lists : Lists s k n
+
+pub data ListBreaks (s : List ℕ) (k h n v : ℕ) : Type 0 where
+  list-7 : sumOf s k ≢ 0 → v ≡ 7 → ListBreaks s k h n v
+  list-8 : sumOf s k ≡ 0 → (ListKind s k → ⊥) → v ≡ 8 → ListBreaks s k h n v
+  list-10 : sumOf s k ≡ 0 → ListKind s k → (ListBlock s h k → ⊥) → v ≡ 10 → ListBreaks s k h n v
+  list-14 : sumOf s k ≡ 0 → ListBlock s h k → (Lists s k n → ⊥) → v ≡ 14 → ListBreaks s k h n v
+
+-- ---- data block n of the file h, block k; `named` is the w4 of the block before it: 7, 8, 15
+
+-- its words, its key in the w4 before it, and no block named after the last
+pub record DataTies (d : Disk) (s : List ℕ) (k h n named : ℕ) : Type 0 where
+  pub block : DataBlock d s h n k
+  pub here : named ≡ k
+  pub last : n ≡ blocksOf d s h → wordOf s k 4 ≡ 0
+
+pub data DataBreaks (d : Disk) (s : List ℕ) (k h n named v : ℕ) : Type 0 where
+  data-7 : sumOf s k ≢ 0 → v ≡ 7 → DataBreaks d s k h n named v
+  data-8 : sumOf s k ≡ 0 → wordOf s k 0 ≢ 8 → v ≡ 8 → DataBreaks d s k h n named v
+  data-15 : sumOf s k ≡ 0 → wordOf s k 0 ≡ 8 → (DataTies d s k h n named → ⊥) → v ≡ 15 → DataBreaks d s k h n named v
