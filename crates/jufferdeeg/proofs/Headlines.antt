@@ -2,10 +2,11 @@
 -- Assumes nothing.
 use Prim.Native.Nat.{ℕ, _+_, _*_, _≤_, _<_}
 use mathlib.Core.Path.{_≡_}
-use mathlib.Core.Logic.{_⊎_, _↔_}
+use mathlib.Core.Logic.{_≢_, _⊎_, _↔_}
 use mathlib.Core.Bool.{false}
 use mathlib.Core.List.{List, [], _∷_, _++_}
 use lib.ListN.{length, getD, drop, replicate}
+use Rattle.answers.specs.Members.{_∈_}
 use Rattle.answers.specs.declared.Refusal.{Refusal}
 use Rattle.answers.specs.declared.Tested.the-variants.{Passed, Failed}
 use Rattle.answers.specs.Tests.{pick}
@@ -50,14 +51,15 @@ use Rattle.reading.proofs.OnTrees as reads
 use Rattle.program.specs.declared.check.Answer.{Answer}
 use Rattle.program.specs.declared.check.Answer.the-variants.{Accepted, Refused}
 use Rattle.program.specs.Page as paper
-use Rattle.program.specs.Check.{checkOf, numbersOf}
+use Rattle.program.specs.Check.{checkRefusals, checkOf, numbersOf, Checks}
 use Rattle.program.specs.Verdicts.{Because}
 use Rattle.program.proofs.Pages as pages
 use Rattle.program.proofs.Refusing as faults
-use Rattle.loader.specs.Calls.{loadAnswer, moveAnswer}
+use Rattle.program.proofs.AsNumbers as checks
+use Rattle.loader.specs.Calls.{callRefusals, loadAnswer, moveAnswer}
 use Rattle.loader.specs.Memory.{amountOf, moved}
 use Rattle.loader.specs.Pages.{imageOf, fileTargets, Adds, Outside, placedHunks}
-use Rattle.loader.specs.Verdicts.{Takes, CallWhy}
+use Rattle.loader.specs.Verdicts.{Accepts, Takes, CallWhy}
 use Rattle.loader.proofs.PageVerdicts as verdicts
 use Rattle.hunks.specs.declared.Hunk.{Hunk}
 use Rattle.hunks.specs.Calls.{Loads, Moves}
@@ -66,6 +68,14 @@ use Rattle.hunks.specs.Pages.{LoadedPage, MovedPage}
 use Rattle.hunks.proofs.PageCalls as calls
 use Rattle.hunks.proofs.Moving as moving
 use Rattle.hunks.proofs.Deciding as deciding
+use Rattle.jufferdeeg.specs.declared.volumes.AuditNumbers.{AuditNumbers}
+use Rattle.jufferdeeg.specs.declared.volumes.FindNumbers.{FindNumbers}
+use Rattle.jufferdeeg.specs.declared.volumes.ReadNumbers.{ReadNumbers}
+use Rattle.jufferdeeg.specs.declared.programs.ProgramNumbers.{ProgramNumbers}
+use Rattle.jufferdeeg.specs.Volumes.{findOnFloppy, AuditsFloppy, ReadsFloppy}
+use Rattle.jufferdeeg.specs.Programs.{loadsAs, movesAs, LoadsNumbers, MovesNumbers}
+use Rattle.jufferdeeg.proofs.Seen as seen
+use Rattle.jufferdeeg.proofs.SeenMoving as seen-moving
 
 -- ---- the audit of an image s with a claim area of n bytes
 
@@ -243,3 +253,105 @@ module _ (file m : List ℕ) (t : List Hunk) (w : List ℕ) where
 
   pub move-keeps : (old new : List ℕ) (f : Refusal) (m1 : List ℕ) (t1 : List Hunk) (w1 : List ℕ) → Moves file old new m t w (Refused f) m1 t1 w1 → (m1 ≡ m) × (t1 ≡ t) × (w1 ≡ replicate (length w) 0)
   move-keeps old new = deciding.move-keeps file old new m t w
+
+-- ---- what a C program sees: each exported call, by its numbers and by what it leaves
+
+-- the audit of an image s with a claim area of n bytes
+module _ (s : List ℕ) (n : ℕ) (r : AuditNumbers) (claim : List ℕ) (a : AuditsFloppy s n r claim) where
+  -- the number is 0 if and only if the audit accepts; with a claim byte for each block, if and only if the image is a volume
+  pub audit-zero : (r .number ≡ 0) ↔ ((p : Report) × (audit.auditOf floppy s n ≡ audited.Accepted p))
+  audit-zero = seen.audit-zero s n r claim a
+
+  pub audit-volume : 1760 ≤ n → (r .number ≡ 0) ↔ Volume floppy s
+  audit-volume = seen.audit-volume s n r claim a
+
+  -- else it is one of these, nothing is reported, and the claim area is cleared
+  pub audit-number : r .number ∈ (0 ∷ audit.auditRefusals)
+  audit-number = seen.audit-number s n r claim a
+
+  pub audit-refused : r .number ≢ 0 → (claim ≡ replicate n 0) × (r .directories ≡ 0) × (r .files ≡ 0) × (r .«list_blocks» ≡ 0) × (r .«data_blocks» ≡ 0) × (r .used ≡ 0) × (r .free ≡ 0)
+  audit-refused = seen.audit-refused s n r claim a
+
+-- a path
+module _ (s path : List ℕ) (r : FindNumbers) (a : r ≡ findOnFloppy s path) where
+  -- the number is 0 if and only if the path leads to a directory or to a file
+  pub find-zero : (r .number ≡ 0) ↔ (((k : ℕ) × (c : ℕ) × (lookup.findOf floppy s path ≡ found.Directory k c)) ⊎ ((k : ℕ) × (z : ℕ) × (c : ℕ) × (lookup.findOf floppy s path ≡ found.File k z c)))
+  find-zero = seen.find-zero s path r a
+
+  -- else it is one of these, and all values are 0
+  pub find-number : r .number ∈ (0 ∷ lookup.findRefusals)
+  find-number = seen.find-number s path r a
+
+  pub find-refused : r .number ≢ 0 → (r .kind ≡ 0) × (r .key ≡ 0) × (r .size ≡ 0) × (r .compared ≡ 0)
+  find-refused = seen.find-refused s path r a
+
+-- a read at offset o
+module _ (s path : List ℕ) (o : ℕ) (output : List ℕ) (r : ReadNumbers) (output′ : List ℕ) (a : ReadsFloppy s path o output r output′) where
+  -- the number is 0 if and only if bytes are read
+  pub read-zero : (r .number ≡ 0) ↔ ((n : ℕ) × (read.readOf floppy s path o (length output) ≡ reading.Bytes n))
+  read-zero = seen.read-zero s path o output r output′ a
+
+  -- else it is one of these, and the output is as before
+  pub read-number : r .number ∈ (0 ∷ read.readRefusals)
+  read-number = seen.read-number s path o output r output′ a
+
+  pub read-refused : r .number ≢ 0 → (output′ ≡ output) × (r .count ≡ 0)
+  read-refused = seen.read-refused s path o output r output′ a
+
+-- the check of a program file, which load and move begin with
+module _ (file : List ℕ) (r : Answer) (a : Checks file r) where
+  pub check-zero : (numbersOf r .number ≡ 0) ↔ ((t : ℕ) × (n : ℕ) × (r ≡ Accepted t n))
+  check-zero = checks.zero-exactly file r a
+
+  pub check-number : (x : Refusal) → r ≡ Refused x → numbersOf r .number ∈ checkRefusals
+  check-number = checks.number-listed file r a
+
+module _ (file m : List ℕ) (t : List Hunk) (w : List ℕ) (r : ProgramNumbers) (m′ : List ℕ) (t′ : List Hunk) (w′ : List ℕ) where
+  -- a load: the number is 0 if and only if it is accepted
+  pub load-zero : (bases : List ℕ) → LoadsNumbers file bases m t w r m′ t′ w′ → (r .number ≡ 0) ↔ Accepts (loadsAs file m t w bases)
+  load-zero = seen.load-zero file m t w r m′ t′ w′
+
+  -- else it is one of these, memory and table are as before, and the work area is cleared
+  pub load-number : (bases : List ℕ) → LoadsNumbers file bases m t w r m′ t′ w′ → r .number ∈ (0 ∷ callRefusals)
+  load-number = seen.load-number file m t w r m′ t′ w′
+
+  pub load-refused : (bases : List ℕ) → LoadsNumbers file bases m t w r m′ t′ w′ → r .number ≢ 0 → (m′ ≡ m) × (t′ ≡ t) × (w′ ≡ replicate (length w) 0) × (r .hunks ≡ 0) × (r .bytes ≡ 0)
+  load-refused = seen.load-refused file m t w r m′ t′ w′
+
+  -- a move: likewise
+  pub move-zero : (old new : List ℕ) → MovesNumbers file old new m t w r m′ t′ w′ → (r .number ≡ 0) ↔ Accepts (movesAs file m t w old new)
+  move-zero = seen.move-zero file m t w r m′ t′ w′
+
+  pub move-number : (old new : List ℕ) → MovesNumbers file old new m t w r m′ t′ w′ → r .number ∈ (0 ∷ callRefusals)
+  move-number = seen.move-number file m t w r m′ t′ w′
+
+  pub move-refused : (old new : List ℕ) → MovesNumbers file old new m t w r m′ t′ w′ → r .number ≢ 0 → (m′ ≡ m) × (t′ ≡ t) × (w′ ≡ replicate (length w) 0) × (r .hunks ≡ 0) × (r .bytes ≡ 0)
+  move-refused = seen.move-refused file m t w r m′ t′ w′
+
+-- the laws of moving: a load at A gives number 0, and so does a load at B, in the same room
+module _ (file m : List ℕ) (t : List Hunk) (w : List ℕ) (A : List ℕ) (rA : ProgramNumbers) (mA : List ℕ) (tA : List Hunk) (wA : List ℕ) (a : LoadsNumbers file A m t w rA mA tA wA) (za : rA .number ≡ 0) where
+  -- A to A changes no byte of memory
+  pub seen-move-stays : (m′ : List ℕ) (t′ : List Hunk) (w′ : List ℕ) (r : ProgramNumbers) (m1 : List ℕ) (t1 : List Hunk) (w1 : List ℕ) → Bytes m′ → SameRoom m t w m′ t′ w′ → MovesNumbers file A A m′ t′ w′ r m1 t1 w1 → (r .number ≡ 0) × (m1 ≡ m′)
+  seen-move-stays = seen-moving.move-stays file m t w A rA mA tA wA a za
+
+  module _ (B : List ℕ) (rB : ProgramNumbers) (mB : List ℕ) (tB : List Hunk) (wB : List ℕ) (b : LoadsNumbers file B m t w rB mB tB wB) (zb : rB .number ≡ 0) where
+    -- a load at A moved to B is a load at B
+    pub seen-load-move : (w′ : List ℕ) (r : ProgramNumbers) (m2 : List ℕ) (t2 : List Hunk) (w2 : List ℕ) → length w′ ≡ length w → MovesNumbers file A B mA tA w′ r m2 t2 w2 → (r .number ≡ 0) × (r ≡ rB) × (m2 ≡ mB) × (t2 ≡ tB) × (w2 ≡ wB)
+    seen-load-move = seen-moving.load-move file m t w A rA mA tA wA a za B rB mB tB wB b zb
+
+    -- A to B and back brings every byte back
+    pub seen-move-back : (m′ : List ℕ) (t′ : List Hunk) (w′ w″ : List ℕ) (r1 r2 : ProgramNumbers) (m1 : List ℕ) (t1 : List Hunk) (w1 m2 : List ℕ) (t2 : List Hunk) (w2 : List ℕ) → Bytes m′ → SameRoom m t w m′ t′ w′ → length w″ ≡ length w
+        → MovesNumbers file A B m′ t′ w′ r1 m1 t1 w1 → MovesNumbers file B A m1 t1 w″ r2 m2 t2 w2 → (r1 .number ≡ 0) × (r2 .number ≡ 0) × (m2 ≡ m′)
+    seen-move-back = seen-moving.move-back file m t w A rA mA tA wA a za B rB mB tB wB b zb
+
+    -- A to B to C is A to C, on memory with any contents, where a load at C gives number 0 too
+    pub seen-move-move : (C : List ℕ) (rC : ProgramNumbers) (mC : List ℕ) (tC : List Hunk) (wC : List ℕ) → LoadsNumbers file C m t w rC mC tC wC → rC .number ≡ 0
+        → (m′ : List ℕ) (t′ : List Hunk) (w′ w″ w‴ : List ℕ) (r1 r2 r3 : ProgramNumbers) (m1 : List ℕ) (t1 : List Hunk) (w1 m2 : List ℕ) (t2 : List Hunk) (w2 m3 : List ℕ) (t3 : List Hunk) (w3 : List ℕ) → SameRoom m t w m′ t′ w′ → length w″ ≡ length w → length w‴ ≡ length w
+        → MovesNumbers file A B m′ t′ w′ r1 m1 t1 w1 → MovesNumbers file B C m1 t1 w″ r2 m2 t2 w2 → MovesNumbers file A C m′ t′ w‴ r3 m3 t3 w3 → (r1 .number ≡ 0) × (r2 .number ≡ 0) × (r2 ≡ r3) × (m2 ≡ m3) × (t2 ≡ t3) × (w2 ≡ w3)
+    seen-move-move = seen-moving.move-move file m t w A rA mA tA wA a za B rB mB tB wB b zb
+
+-- a move's number is 0 if and only if a load's is at each of its two lists of bases
+module _ (file m : List ℕ) (t : List Hunk) (w : List ℕ) where
+  pub seen-move-loads : (A B : List ℕ) (rA rB r : ProgramNumbers) (mA : List ℕ) (tA : List Hunk) (wA mB : List ℕ) (tB : List Hunk) (wB m′ : List ℕ) (t′ : List Hunk) (w′ m1 : List ℕ) (t1 : List Hunk) (w1 : List ℕ) → SameRoom m t w m′ t′ w′
+      → LoadsNumbers file A m t w rA mA tA wA → LoadsNumbers file B m t w rB mB tB wB → MovesNumbers file A B m′ t′ w′ r m1 t1 w1 → (r .number ≡ 0) ↔ ((rA .number ≡ 0) × (rB .number ≡ 0))
+  seen-move-loads = seen-moving.move-loads file m t w
