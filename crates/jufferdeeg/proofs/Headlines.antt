@@ -17,14 +17,18 @@ use Rattle.volume.specs.Disks.{floppy, rootOf, claimBytes, chainLimit}
 use Rattle.volume.specs.Blocks.{directory}
 use Rattle.volume.specs.Files.{sizeOf}
 use Rattle.volume.specs.References.{to, entry, references}
-use Rattle.volume.specs.Law.{Tree, Volume}
+use Rattle.volume.specs.Law.{Tree, Valid, Volume}
+use Rattle.volume.specs.Floppy.{Numerals}
+use Rattle.volume.proofs.Floppy as floppies
+use Rattle.walk.specs.Refusals.{Cause}
+use Rattle.walk.proofs.Broken as broken
 use Rattle.volume.specs.Stars.{stars, Hold}
 use Rattle.volume.proofs.Stars as starred
 use Rattle.audit.specs.declared.audit.Report.{Report}
 use Rattle.audit.specs.declared.audit.Audited.{Audited}
 use Rattle.audit.specs.declared.audit.Audited.the-variants as audited
 use Rattle.audit.specs.Audits as audit
-use Rattle.audit.specs.Verdicts.{Claimed, Reported, testOf, Says}
+use Rattle.audit.specs.Verdicts.{Claimed, Reported, FirstWrong, testOf, Says}
 use Rattle.audit.proofs.Accepting as accepting
 use Rattle.audit.proofs.Refusing as refusing
 use Rattle.lookup.specs.declared.find.Found.{Found}
@@ -52,7 +56,8 @@ use Rattle.program.specs.declared.check.Answer.{Answer}
 use Rattle.program.specs.declared.check.Answer.the-variants.{Accepted, Refused}
 use Rattle.program.specs.Page as paper
 use Rattle.program.specs.Check.{checkRefusals, checkOf, numbersOf, Checks}
-use Rattle.program.specs.Verdicts.{Because}
+use Rattle.program.specs.Verdicts as programs
+use Rattle.program.proofs.Unique as unique
 use Rattle.program.proofs.Pages as pages
 use Rattle.program.proofs.Refusing as faults
 use Rattle.program.proofs.AsNumbers as checks
@@ -94,6 +99,17 @@ module _ (d : Disk) (s : List ℕ) (n : ℕ) where
   -- each refusal exactly then, and it leaves nothing behind
   pub audit-refused-exactly : (v k : ℕ) → (audit.auditOf d s n ≡ audit.refuse v k) ↔ Says d s n v k (testOf v)
   audit-refused-exactly v k = refusing.refused-exactly d s n v k
+
+  -- 4 to 16: which field of the law the block breaks, a case for each number; what it says holds of no volume
+  pub audit-refused-cause : (v k : ℕ) → v ∈ audit.walkRefusals → audit.auditOf d s n ≡ audit.refuse v k → Cause d s v k
+  audit-refused-cause v k h = refusing.refused-cause d s n v k h
+
+  pub cause-breaks : Volume d s → (v k : ℕ) → Cause d s v k → ⊥
+  cause-breaks w v k c = broken.cause-breaks d s (w .tree) (w .valid) v k c
+
+  -- 17: all but the bits is as the law says, and k is the lowest block whose bit is wrong
+  pub audit-refused-17 : (k : ℕ) → (audit.auditOf d s n ≡ audit.refuse 17 k) ↔ ((claimBytes d ≤ n) × Tree d s × Valid d s × FirstWrong d s k)
+  audit-refused-17 k = refusing.refused-17 d s n k
 
   pub audit-refused-claims : (r : Audited) (claim : List ℕ) → audit.Audits d s n r claim → (x : Refusal) → r ≡ audited.Refused x → claim ≡ replicate n 0
   audit-refused-claims r claim a x e = accepting.refused-claims d s n r claim a x e
@@ -165,7 +181,10 @@ module _ (d : Disk) (s : List ℕ) where
       → (r ≡ reading.Bytes (sizeOf s k)) × (length (fileBytes d s k) ≡ sizeOf s k) × (output′ ≡ fileBytes d s k ++ drop (sizeOf s k) output)
   reached-read v k h e l output output′ r m q = reads.reached-read d s v k h e l output output′ r m q
 
--- the worked cases with a star
+-- the floppy's numbers, and the worked cases with a star
+pub floppy-numerals : Numerals floppy
+floppy-numerals = floppies.floppy-numerals
+
 pub stars-hold : Hold floppy stars
 stars-hold = starred.stars-hold
 
@@ -176,9 +195,13 @@ module _ (file : List ℕ) where
   pub page : ((t : ℕ) × (n : ℕ) × (checkOf file ≡ Accepted t n)) ↔ ((hs : List paper.Hunk) × paper.Holds file hs)
   page = pages.page file
 
+  -- there is one list of hunks at most that it holds
+  pub holds-same : (hs hs′ : List paper.Hunk) → paper.Holds file hs → paper.Holds file hs′ → hs ≡ hs′
+  holds-same hs hs′ h h′ = unique.holds-same file hs hs′ h h′
+
   -- each refusal exactly then
-  pub check-refused-exactly : (f : Refusal) → (checkOf file ≡ Refused f) ↔ Because file f
-  check-refused-exactly f = (faults.check-why file f, faults.why-check file f)
+  pub check-refused-exactly : (f : Refusal) → (checkOf file ≡ Refused f) ↔ programs.Says file f
+  check-refused-exactly f = faults.refused-exactly file f
 
   -- a load, which is lent one list of bases: accepted exactly then, and each refusal exactly then
   pub load-accepted-exactly : (bases : List ℕ) (m r w t n : ℕ) → (loadAnswer file bases m r w ≡ Accepted t n) ↔ ((hs : List paper.Hunk) × paper.Holds file hs × Takes hs (bases ∷ []) m r w t n)
