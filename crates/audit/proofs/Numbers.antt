@@ -29,7 +29,7 @@ walk-number d s v k (number-12 t i a b e) = rw e (listed walkRefusals 12 tt)
 walk-number d s v k (number-13 t i l a b c f e) = rw e (listed walkRefusals 13 tt)
 walk-number d s v k (number-14 a b e) = rw e (listed walkRefusals 14 tt)
 walk-number d s v k (number-14-list h i a b c e) = rw e (listed walkRefusals 14 tt)
-walk-number d s v k (number-15 h i c a b f g e) = rw e (listed walkRefusals 15 tt)
+walk-number d s v k (number-15 h i c a b g e) = rw e (listed walkRefusals 15 tt)
 walk-number d s v k (number-16 a b e) = rw e (listed walkRefusals 16 tt)
 
 -- ---- a test's number

@@ -17,7 +17,7 @@ use Rattle.answers.specs.declared.Tested.the-variants.{Passed, Failed}
 use Rattle.answers.proofs.Tests.{pick-passed}
 use Rattle.program.proofs.Answers.{not-failed}
 use Rattle.loader.specs.Near.{near, nearAny, clash}
-use Rattle.loader.specs.Verdicts.{Member}
+use Rattle.answers.specs.Members.{_∈_}
 use Rattle.loader.proofs.Marking.{no-bool}
 use Rattle.loader.proofs.Moving.{Among, apart}
 use Rattle.loader.proofs.Picks.{or-left, or-right, pick-and, pick-failed, pick-fails, pick-goes, pick-or}
@@ -31,7 +31,7 @@ pub record ClashWhy (ts : List Target) (f : Refusal) : Type 0 where
   pub said : f ≡ refusal 42 (target .byte)
   pub first : clash [] before ≡ Passed
   pub other : Target
-  pub among : Member other before
+  pub among : (other ∈ before)
   pub below : target .place < other .place + 4
   pub above : other .place < target .place + 4
 
@@ -52,7 +52,7 @@ near-back p q (x ∷ xs) (inr a) h k = or-right (near p x) _ (near-back p q xs a
 
 -- seen before, or the place of a target in us
 abbrev Before : List ℕ → List Target → ℕ → Type 0
-Before seen us q = Among q seen ⊎ ((u : Target) × Member u us × (q ≡ u .place))
+Before seen us q = Among q seen ⊎ ((u : Target) × (u ∈ us) × (q ≡ u .place))
 
 abbrev Clashes : List ℕ → List Target → Refusal → Type 0
 Clashes seen ts f =

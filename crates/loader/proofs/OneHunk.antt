@@ -14,7 +14,7 @@ use Rattle.program.specs.Header.{startAt}
 use Rattle.program.proofs.Heading.{split}
 use Rattle.program.proofs.Pages.{is-total, rest-words}
 use Rattle.loader.specs.Pages.{PageTarget, Named, offsetsAt, groupsAt, partsAt, hunkAt, hunksAt, fileTargets, sizeAt, hunkPlace}
-use Rattle.loader.specs.Verdicts.{Member}
+use Rattle.answers.specs.Members.{_∈_}
 use Rattle.loader.proofs.PageLoads.{stored-fit}
 
 -- ---- lists
@@ -27,22 +27,22 @@ pub each-more : {A : Type 0} (P Q : A → Type 0) (xs : List A) → ((x : A) →
 each-more P Q [] f p = tt
 each-more P Q (x ∷ xs) f p = (f x (p .0), each-more P Q xs f (p .1))
 
-pub each-member : {A : Type 0} (P : A → Type 0) (x : A) (xs : List A) → Each P xs → Member x xs → P x
+pub each-member : {A : Type 0} (P : A → Type 0) (x : A) (xs : List A) → Each P xs → (x ∈ xs) → P x
 each-member P x [] p m = absurd m
 each-member P x (y ∷ ys) p (inl e) = subst P (sym e) (p .0)
 each-member P x (y ∷ ys) p (inr m) = each-member P x ys (p .1) m
 
-pub member-append : {A : Type 0} (x : A) (xs ys : List A) → Member x (xs ++ ys) → Member x xs ⊎ Member x ys
+pub member-append : {A : Type 0} (x : A) (xs ys : List A) → (x ∈ (xs ++ ys)) → (x ∈ xs) ⊎ (x ∈ ys)
 member-append x [] ys m = inr m
 member-append x (z ∷ xs) ys (inl e) = inl (inl e)
 member-append x (z ∷ xs) ys (inr m) = ⊎-elim (λ l. inl (inr l)) (λ r. inr r) (member-append x xs ys m)
 
-pub member-left : {A : Type 0} (x : A) (xs ys : List A) → Member x xs → Member x (xs ++ ys)
+pub member-left : {A : Type 0} (x : A) (xs ys : List A) → (x ∈ xs) → (x ∈ (xs ++ ys))
 member-left x [] ys m = absurd m
 member-left x (z ∷ xs) ys (inl e) = inl e
 member-left x (z ∷ xs) ys (inr m) = inr (member-left x xs ys m)
 
-pub member-here : {A : Type 0} (x : A) (xs ys : List A) → Member x (xs ++ (x ∷ ys))
+pub member-here : {A : Type 0} (x : A) (xs ys : List A) → (x ∈ (xs ++ (x ∷ ys)))
 member-here x [] ys = inl refl
 member-here x (z ∷ xs) ys = inr (member-here x xs ys)
 

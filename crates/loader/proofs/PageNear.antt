@@ -16,7 +16,8 @@ use Rattle.program.specs.Page.{Hunk, Each, Holds}
 use Rattle.loader.specs.Memory.{targetsOf}
 use Rattle.loader.specs.Near.{clashOf}
 use Rattle.loader.specs.Pages.{PageTarget, Named, fileTargets, bare}
-use Rattle.loader.specs.Verdicts.{Near, Spaced, Member, FirstNear}
+use Rattle.answers.specs.Members.{_∈_}
+use Rattle.loader.specs.Verdicts.{Near, Spaced, FirstNear}
 use Rattle.loader.proofs.NearTargets.{ClashWhy, clash-why, apart-exactly}
 use Rattle.loader.proofs.PageLoads.{page-targets}
 use Rattle.loader.proofs.OneHunk.{each-member, member-left, targets-named, near-one-hunk}
@@ -54,12 +55,12 @@ cut-at (x ∷ ts) (u ∷ us) t vs e =
     let r : map bare ts ≡ us ++ (t ∷ vs) = cc in
     cut-more x ts u us t vs q (cut-at ts us t vs r)
 
-bare-member : (t : Target) (ts : List PageTarget) → Member t (map bare ts) → (x : PageTarget) × Member x ts × (bare x ≡ t)
+bare-member : (t : Target) (ts : List PageTarget) → (t ∈ (map bare ts)) → (x : PageTarget) × (x ∈ ts) × (bare x ≡ t)
 bare-member t [] m = absurd m
 bare-member t (x ∷ ts) (inl e) = (x, inl refl, sym e)
 bare-member t (x ∷ ts) (inr m) = let r = bare-member t ts m in (r .0, inr (r .1), r .2)
 
-member-bare : (x : PageTarget) (ts : List PageTarget) → Member x ts → Member (bare x) (map bare ts)
+member-bare : (x : PageTarget) (ts : List PageTarget) → (x ∈ ts) → ((bare x) ∈ (map bare ts))
 member-bare x [] m = absurd m
 member-bare x (y ∷ ts) (inl e) = inl (ap bare e)
 member-bare x (y ∷ ts) (inr m) = inr (member-bare x ts m)
@@ -119,7 +120,7 @@ module _ (file : List ℕ) (hs : List Hunk) (held : Holds file hs) where
   near-there : (f : Refusal) → ClashWhy (targetsOf file) f → (p : ℕ) × (f ≡ refusal 42 p) × FirstNear hs p
   near-there f r =
       let c = cut-at (fileTargets hs) (r .before) (r .target) (r .after) (sym triples ∙ r .split) in
-      let o = bare-member (r .other) (c .before) (subst (Member (r .other)) (sym (c .firsts)) (r .among)) in
+      let o = bare-member (r .other) (c .before) (subst (λ l. r .other ∈ l) (sym (c .firsts)) (r .among)) in
       let all = subst (Each (Named file hs)) (c .split) named in
       let a = each-right (Named file hs) (c .before) (c .target ∷ c .after) all .0 in
       let b = each-member (Named file hs) (o .0) (c .before) (each-left (Named file hs) (c .before) (c .target ∷ c .after) all) (o .1) in

@@ -6,6 +6,7 @@ use mathlib.Core.Logic.{_≢_, _⊎_}
 use mathlib.Core.List.{List, [], _∷_, _++_}
 use lib.ListN.{length}
 use Rattle.answers.specs.Refusals.{refusal}
+use Rattle.answers.specs.Members.{_∈_}
 use Rattle.answers.specs.declared.Refusal.{Refusal}
 use Rattle.program.specs.declared.check.Answer.{Answer}
 use Rattle.program.specs.declared.check.Answer.the-variants.{Accepted, Refused}
@@ -78,11 +79,6 @@ abbrev pub Spaced : List PageTarget → Type 0
 Spaced [] = Unit {0}
 Spaced (x ∷ xs) = Each (λ y. Near x y → ⊥) xs × Spaced xs
 
--- u is one of the list
-abbrev pub Member : {A : Type 0} → A → List A → Type 0
-Member u [] = ⊥
-Member u (x ∷ xs) = (u ≡ x) ⊎ Member u xs
-
 -- the first target in file order that is near an earlier one: the file names it at byte p
 pub record FirstNear (hs : List Hunk) (p : ℕ) : Type 0 where
   pub before : List PageTarget
@@ -91,7 +87,7 @@ pub record FirstNear (hs : List Hunk) (p : ℕ) : Type 0 where
   pub split : fileTargets hs ≡ before ++ (target ∷ after)
   pub spaced : Spaced before
   pub other : PageTarget
-  pub earlier : Member other before
+  pub earlier : (other ∈ before)
   pub near : Near target other
   pub place : p ≡ target .byte
 

@@ -19,7 +19,8 @@ use Rattle.program.specs.Page.{Hunk, joined, groupWords, symbolWords, pa
 use Rattle.program.specs.Begun.{PartBegun, Begun, aPart, aCount, aNumber, anOffset, aSymbol, symbolWord, debugLength, debugWord, first, nameLength, nameWord, aBody, bodyLength, bodyWord, afterBody, partSoFar, soFar, PartBegunFits, BegunFits}
 use Rattle.program.specs.Header.{totalOf, sizeOf, startAt}
 use Rattle.program.specs.Reader.{turn, stepOf}
-use Rattle.program.specs.Verdicts.{Stand, OfSizes, Before, AllHunks, Comes, begins, takes}
+use Rattle.program.specs.Verdicts.{Stand, OfSizes, Before, AllHunks}
+use Rattle.program.proofs.Coming.{Comes, begins, takes}
 use Rattle.program.proofs.Taken.{cursor, Goes, Front, skipped, passing, skipping, offsetting, groups-on, symbols-on, parts-on, storing, type-on, begin-on, fronts-on}
 
 -- ---- what the reader expects, and how many words the hunk stores as far as that is known

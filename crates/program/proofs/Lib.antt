@@ -15,6 +15,8 @@ pub mod Walks
 pub mod Passes
 -- hunks written out are taken, and accepted
 pub mod Taken
+-- a refusal by the reader, word by word
+pub mod Coming
 -- the reader comes to where a hunk is begun
 pub mod Beginnings
 -- what stands before a byte that the reader comes to

@@ -29,7 +29,8 @@ use Rattle.program.specs.Check.{refuse, endedOf, walkOf, and, checkOf}
 use Rattle.program.specs.Sane.{Sound}
 use Rattle.program.specs.Page.{Hunk, storedWords, OffsetFits, Holds, total}
 use Rattle.program.specs.Begun.{PartBegun, Begun, aPart, aCount, aNumber, anOffset, aSymbol, symbolWord, debugLength, debugWord, first, nameLength, nameWord, aBody, bodyLength, bodyWord, afterBody, PartWrong, Wrong}
-use Rattle.program.specs.Verdicts.{WrongWord, MoreWords, MissingWord, Says, Unwhole, Whole, OfHeader, Fine, faultAt, HeadFails, HeadWord, Headed, HunkWord, Missing, Refuses, Because}
+use Rattle.program.specs.Verdicts.{WrongWord, MoreWords, MissingWord, Says, Unwhole, Whole, OfHeader, Fine, faultAt, HeadFails, HeadWord, Headed}
+use Rattle.program.proofs.Coming.{HunkWord, Missing, Refuses, Because}
 use Rattle.program.proofs.Answers.{not-refused, not-failed}
 use Rattle.program.proofs.Heading.{each-fine, heads-pass}
 use Rattle.program.proofs.Heads.{sound-header}

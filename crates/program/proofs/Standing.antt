@@ -21,7 +21,8 @@ use Rattle.program.specs.Begun.{PartBegun, Begun, aPart, aCount, aNumber
 use Rattle.program.specs.Header.{totalOf, sizeOf, startAt}
 use Rattle.program.specs.Reader.{resume, skip, bodyOf, storedFrom, endOf, turn, stepOf}
 use Rattle.program.specs.Sane.{Sound}
-use Rattle.program.specs.Verdicts.{Stand, OfSizes, Before, AllHunks, Comes, begins, takes}
+use Rattle.program.specs.Verdicts.{Stand, OfSizes, Before, AllHunks}
+use Rattle.program.proofs.Coming.{Comes, begins, takes}
 use Rattle.program.proofs.Heading.{words-add}
 use Rattle.program.proofs.Sanes.{pick-on, on-on, bad-on}
 use Rattle.program.proofs.Taken.{cursor}

@@ -20,7 +20,7 @@ use Rattle.program.specs.Header.{totalOf, sizeOf, startAt}
 use Rattle.program.specs.Reader.{start, stepOf}
 use Rattle.program.specs.Check.{refuse, endedOf, restOf, walkOf}
 use Rattle.program.specs.Sane.{Sound}
-use Rattle.program.specs.Verdicts.{Comes, begins, takes, HunkWord}
+use Rattle.program.proofs.Coming.{Comes, begins, takes, HunkWord}
 use Rattle.program.proofs.Walks.{Reads, reads-start, reads-on, walk-on, walk-bad, walk-end}
 
 -- ---- at the end of the file: the last hunk has ended, or a word is missing

@@ -15,7 +15,7 @@ use Rattle.volume.proofs.Keys.{down-long, lists-long, keys-long}
 use Rattle.walk.specs.Nodes.{Node, list, datum, before, keyNodes}
 use Rattle.walk.proofs.Lists.{at-below, at-left}
 use Rattle.reading.specs.FileTests.{blocksFrom, fileNodes}
-use Rattle.reading.specs.Outcomes.{IsData}
+use Rattle.volume.specs.Breaks.{IsData}
 
 -- ---- places of a list
 

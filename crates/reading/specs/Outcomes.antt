@@ -11,7 +11,7 @@ use Rattle.volume.specs.Disks.{firstKey}
 use Rattle.volume.specs.Blocks.{slots, wordOf, sumOf}
 use Rattle.volume.specs.Files.{blocksOf, listsOf, keysOf}
 use Rattle.volume.specs.Law.{File}
-use Rattle.volume.specs.Breaks.{Inside, HeaderSound, HeaderBreaks, ListSound, ListBreaks, DataTies, DataBreaks}
+use Rattle.volume.specs.Breaks.{IsData, Inside, HeaderSound, HeaderBreaks, ListSound, ListBreaks, DataTies, DataBreaks}
 use Rattle.lookup.specs.declared.find.Found.the-variants as found
 use Rattle.lookup.specs.Lookup.{findOf}
 use Rattle.reading.specs.Reads.{lastComponent}
@@ -50,11 +50,6 @@ pub record Filled (bytes : List ℕ) (o : ℕ) (before : List ℕ) (m : ℕ) (af
   pub rest : (i : ℕ) → m ≤ i → getD after i 0 ≡ getD before i 0
 
 -- ---- the blocks of the file h
-
--- data block i, from 0, is block k, and c is the data block before it; the header for the first
-pub record IsData (d : Disk) (s : List ℕ) (h i k c : ℕ) : Type 0 where
-  pub here : At i k (keysOf d s h)
-  pub before : At i c (h ∷ keysOf d s h)
 
 -- it is as the law says
 pub record GoodData (d : Disk) (s : List ℕ) (h i k c : ℕ) : Type 0 where

@@ -5,12 +5,12 @@ use mathlib.Core.Path.{_≡_}
 use mathlib.Core.Logic.{_≢_, _⊎_}
 use mathlib.Core.Bool.{true, false}
 use mathlib.Core.List.{List, [], _∷_}
-use Rattle.reach.specs.References.{_∈_}
+use Rattle.reach.specs.References.{At, _∈_}
 use Rattle.volume.specs.declared.disk.Disk.{Disk}
 use Rattle.volume.specs.Disks.{firstKey, rootOf, fileLimit}
 use Rattle.volume.specs.Blocks.{slots, wordOf, sumOf, directory}
 use Rattle.volume.specs.Names.{nameOf, nameGood, slotOf}
-use Rattle.volume.specs.Files.{sizeOf, blocksOf}
+use Rattle.volume.specs.Files.{sizeOf, blocksOf, keysOf}
 use Rattle.volume.specs.Law.{OneBitmap, Valid, Entry, Lists, ListBlock, DataBlock}
 
 -- ---- a key: 5 if it is not one
@@ -116,6 +116,11 @@ pub data ListBreaks (s : List ℕ) (k h n v : ℕ) : Type 0 where
   list-14 : sumOf s k ≡ 0 → ListBlock s h k → (Lists s k n → ⊥) → v ≡ 14 → ListBreaks s k h n v
 
 -- ---- data block n of the file h, block k; `named` is the w4 of the block before it: 7, 8, 15
+
+-- data block i, counted from 0, is block k, and c is the data block before it; the header for the first
+pub record IsData (d : Disk) (s : List ℕ) (h i k c : ℕ) : Type 0 where
+  pub here : At i k (keysOf d s h)
+  pub before : At i c (h ∷ keysOf d s h)
 
 -- its words, its key in the w4 before it, and no block named after the last
 pub record DataTies (d : Disk) (s : List ℕ) (k h n named : ℕ) : Type 0 where

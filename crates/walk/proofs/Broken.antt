@@ -105,6 +105,6 @@ module _ (d : Disk) (s : List ℕ) (v : Tree d s) where
       chain-apart d s t i (g .holder) (g .hangs .slot) (v .owned) (g′ .place) (g .hangs .place) o (λ z. g .hangs .some (sym (g .hangs .there) ∙ z)) (g′ .there ∙ f ∙ sym (g .hangs .there))
   cause-breaks u n k (number-14 f h q) = h (header k f)
   cause-breaks u n k (number-14-list b i f a h q) = h (file b f .listing (suc i) k a)
-  cause-breaks u n k (number-15 b i c f a l h q) = h (ties b i c k f a l)
+  cause-breaks u n k (number-15 b i c f a h q) = h (ties b i c k f (a .here) (a .before))
   cause-breaks u n k (number-16 e (inl h) q) = h u
   cause-breaks u n k (number-16 e (inr h) q) = h (subst (OneBitmap s) (sym e) (v .top .rest))

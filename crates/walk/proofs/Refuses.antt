@@ -213,7 +213,7 @@ module _ (d : Disk) (s : List ℕ) where
       go : DataBreaks d s k h n (wordOf s x 4) v → Cause d s v k
       go (data-7 a e) = number-7 Kind.datum r a e
       go (data-8 a y e) = number-8 Kind.datum r y e
-      go (data-15 a y z e) = number-15 h (f .index) x (c .0) (f .here) (f .last) (subst (λ w. DataTies d s k h w (wordOf s x 4) → ⊥) (f .number) z) e
+      go (data-15 a y z e) = number-15 h (f .index) x (c .0) (f .is) (subst (λ w. DataTies d s k h w (wordOf s x 4) → ⊥) (f .number) z) e
 
   -- two places among nodes that pass are two places of blocks
   bare-place : (k : ℕ) → Place (pruned (graph d s) .references) k → Place (references d s) k

@@ -16,6 +16,7 @@ use Rattle.volume.specs.Blocks.{slots, wordOf, slotWord, keyWord, directory}
 use Rattle.volume.specs.Files.{keysDown, keysFrom, listsFrom, keysHere, listBlocks, blocksOf, listsOf, keysOf}
 use Rattle.volume.specs.References.{Kind, to, references}
 use Rattle.volume.specs.Law.{chainKey, Lists}
+use Rattle.volume.specs.Breaks.{IsData}
 use Rattle.volume.proofs.Keys.{down-long}
 use Rattle.volume.proofs.Passes.{file-passed, list-passed}
 use Rattle.walk.specs.Nodes.{Node, root, bitmap, entry, list, datum, keyOf, bare, chained, slotNodes, before, keyNodes, listing, listed, contents, leadsTo, keyFault, faultOf, graph}
@@ -69,8 +70,7 @@ module _ (d : Disk) (s : List ℕ) where
   pub record InFile (h n k c : ℕ) : Type 0 where
     pub index : ℕ
     pub number : n ≡ suc index
-    pub here : At index k (keysOf d s h)
-    pub last : At index c (h ∷ keysOf d s h)
+    pub is : IsData d s h index k c
 
   abbrev pub Stood : Node → Type 0
   Stood root = Unit {0}
@@ -117,7 +117,7 @@ module _ (d : Disk) (s : List ℕ) where
     keys-stood : (i r : ℕ) → i + r ≡ n → (x : Node) → x ∈ keyNodes s h b m c i r → Stood x
     unfolding keyNodes
     keys-stood i zero e x a = absurd a
-    keys-stood i (suc r) e x (inl q) = subst Stood (sym q) (file, record { index = m + i; number = refl; here = key-at i (omega arith); last = before-at i (omega arith) })
+    keys-stood i (suc r) e x (inl q) = subst Stood (sym q) (file, record { index = m + i; number = refl; is = record { here = key-at i (omega arith); before = before-at i (omega arith) } })
     keys-stood i (suc r) e x (inr a) = keys-stood (suc i) r (omega arith) x a
 
     -- the list block after b

@@ -13,10 +13,10 @@ use Rattle.volume.specs.declared.disk.Disk.{Disk}
 use Rattle.volume.specs.Disks.{rootOf}
 use Rattle.volume.specs.Blocks.{slots, wordOf, sumOf, slotWord, directory}
 use Rattle.volume.specs.Names.{nameOf, nameGood, folded, slotOf}
-use Rattle.volume.specs.Files.{blocksOf, listsOf, keysOf}
+use Rattle.volume.specs.Files.{blocksOf, listsOf}
 use Rattle.volume.specs.References.{Kind, Ref, to, references}
 use Rattle.volume.specs.Law.{OneBitmap, Valid, chainKey, Hangs, Lists, ListBlock}
-use Rattle.volume.specs.Breaks.{Inside, RootKind, RootFixed, RootSound, RootBreaks, MapBreaks, BitmapBreaks, EntryKind, Link, EntryTies, Placed, EntryBreaks, HeaderSound, HeaderBreaks, ListKind, ListBreaks, DataTies, DataBreaks}
+use Rattle.volume.specs.Breaks.{Inside, RootKind, RootFixed, RootSound, RootBreaks, MapBreaks, BitmapBreaks, EntryKind, Link, EntryTies, Placed, EntryBreaks, HeaderSound, HeaderBreaks, ListKind, ListBreaks, IsData, DataTies, DataBreaks}
 use Rattle.walk.specs.Nodes.{Node, root, bitmap, entry, list, datum, keyOf, graph}
 
 -- ---- when it is given, exactly
@@ -103,6 +103,6 @@ pub data Cause (d : Disk) (s : List ℕ) (v k : ℕ) : Type 0 where
   number-14 : FileAt d s k → (HeaderSound d s k → ⊥) → v ≡ 14 → Cause d s v k
   number-14-list : (h i : ℕ) → FileAt d s h → At i k (listsOf d s h) → (Lists s k (blocksOf d s h - slots * suc i) → ⊥) → v ≡ 14 → Cause d s v k
   -- `File.blocks` or `File.following`, of data block i of a file, counted from 0; c is the data block before it, or the header
-  number-15 : (h i c : ℕ) → FileAt d s h → At i k (keysOf d s h) → At i c (h ∷ keysOf d s h) → (DataTies d s k h (suc i) (wordOf s c 4) → ⊥) → v ≡ 15 → Cause d s v k
+  number-15 : (h i c : ℕ) → FileAt d s h → IsData d s h i k c → (DataTies d s k h (suc i) (wordOf s c 4) → ⊥) → v ≡ 15 → Cause d s v k
   -- `Volume.valid` or `Root.rest`
   number-16 : k ≡ rootOf d → (Valid d s → ⊥) ⊎ (OneBitmap s k → ⊥) → v ≡ 16 → Cause d s v k

@@ -1,0 +1,61 @@
+-- A refusal by the reader, word by word (`Because`): a step towards `Says` of specs/Verdicts, in which no reader stands. Assumes nothing.
+use Prim.Native.Nat.{ℕ, _+_, _*_, _%_, _<_, _≤_}
+use mathlib.Core.Path.{_≡_}
+use mathlib.Core.Logic.{_≢_, _⊎_}
+use mathlib.Core.List.{List}
+use lib.ListN.{length}
+use Rattle.words.specs.Word.{wordAt}
+use Rattle.answers.specs.Refusals.{refusal}
+use Rattle.answers.specs.declared.Refusal.{Refusal}
+use Rattle.program.specs.declared.reader.Cursor.{Cursor}
+use Rattle.program.specs.declared.reader.Mode.{Mode}
+use Rattle.program.specs.declared.reader.Mode.the-variants.{Begin, NameLength, Body, Length, Stored, Part, Count, Number, Offset, Symbol, DebugLength, Skip, End}
+use Rattle.program.specs.declared.reader.Next.the-variants.{On, Bad}
+use Rattle.program.specs.Header.{totalOf, sizeOf, startAt}
+use Rattle.program.specs.Reader.{start, stepOf}
+use Rattle.program.specs.Verdicts.{Unwhole, Whole, HeadWord, Headed}
+
+-- the reader comes to byte `at` with the cursor c: it has taken every word of the hunks before that byte
+pub data Comes (file : List ℕ) : Cursor → ℕ → Type 0 where
+  begins : Comes file start (startAt file)
+  takes : {c d : Cursor} {at : ℕ} → Comes file c at → at < length file → stepOf (totalOf file) (sizeOf file) c (wordAt file at) ≡ On d → Comes file d (at + 4)
+
+-- 35 to 39: it comes to a word that it does not take
+pub record HunkWord (file : List ℕ) (f : Refusal) : Type 0 where
+  pub cursor : Cursor
+  pub at : ℕ
+  pub comes : Comes file cursor at
+  pub there : at < length file
+  pub number : ℕ
+  pub refuses : stepOf (totalOf file) (sizeOf file) cursor (wordAt file at) ≡ Bad number
+  pub said : f ≡ refusal number at
+
+-- 31: it comes to the end of the file, and the last hunk has not ended
+pub record Missing (file : List ℕ) (f : Refusal) : Type 0 where
+  pub cursor : Cursor
+  pub comes : Comes file cursor (length file)
+  pub unended : cursor .mode ≢ End
+  pub said : f ≡ refusal 31 (length file)
+
+-- which word w is not taken, by what the reader expects there: v is the number
+abbrev pub Refuses : ℕ → (ℕ → ℕ) → Cursor → ℕ → ℕ → Mode → Type 0
+Refuses t size c w v Begin = (v ≡ 35) × (w ≢ 0x3E8) × (w ≢ 0x3E9) × (w ≢ 0x3EA) × (w ≢ 0x3EB)
+Refuses t size c w v Body = (v ≡ 35) × (w ≢ 0x3E9) × (w ≢ 0x3EA) × (w ≢ 0x3EB)
+Refuses t size c w v (Length k) = (v ≡ 36) × (size (c .hunk) < w)
+Refuses t size c w v Part = (v ≡ 35) × (w ≢ 0x3EC) × (w ≢ 0x3F0) × (w ≢ 0x3F1) × (w ≢ 0x3F2)
+Refuses t size c w v (Number n) = (v ≡ 38) × (t ≤ w)
+Refuses t size c w v (Offset n k) = (v ≡ 38) × ((w % 2 ≢ 0) ⊎ (4 * c .stored < w + 4))
+Refuses t size c w v Symbol = (v ≡ 37) × (0x1000000 ≤ w)
+Refuses t size c w v End = v ≡ 39
+Refuses t size c w v NameLength = ⊥
+Refuses t size c w v (Stored i) = ⊥
+Refuses t size c w v Count = ⊥
+Refuses t size c w v DebugLength = ⊥
+Refuses t size c w v (Skip n a) = ⊥
+
+-- any refusal, by the reader: `Refusing.refused-exactly` turns it into `Says`
+abbrev pub Because : List ℕ → Refusal → Type 0
+Because file f =
+    (Unwhole file × (f ≡ refusal 30 0))
+    ⊎ (Whole file × HeadWord file f)
+    ⊎ (Whole file × Headed file × (HunkWord file f ⊎ Missing file f))
