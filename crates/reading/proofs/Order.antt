@@ -11,39 +11,15 @@ use Rattle.reach.proofs.Lists.{at-one}
 use Rattle.volume.specs.declared.disk.Disk.{Disk}
 use Rattle.volume.specs.Blocks.{slots, wordOf, keyWord}
 use Rattle.volume.specs.Files.{keysHere, listBlocks, keysDown, listsFrom, keysFrom, blocksOf, listsOf, keysOf}
-use Rattle.volume.proofs.Keys.{down-long, lists-long, keys-long}
+use Rattle.volume.proofs.Keys.{down-at, down-long, lists-long, keys-long}
 use Rattle.walk.specs.Nodes.{Node, list, datum, before, keyNodes}
-use Rattle.walk.proofs.Lists.{at-below, at-left}
+use Rattle.walk.proofs.Lists.{at-below, at-left, at-right, right-at, at-some}
 use Rattle.reading.specs.FileTests.{blocksFrom, fileNodes}
 use Rattle.volume.specs.Breaks.{IsData}
-
--- ---- places of a list
-
-module _ {A : Type 0} where
-  pub at-right : (a : A) (n i : ℕ) (xs ys : List A) → n ≡ length xs + i → At i a ys → At n a (xs ++ ys)
-  at-right a n i [] ys e h = let z : n ≡ i = omega (arith, e) in rw z h
-  at-right a zero i (x ∷ xs) ys e h = absurd (omega (arith, e))
-  at-right a (suc n) i (x ∷ xs) ys e h = at-right a n i xs ys (omega (arith, e)) h
-
-  pub right-at : (a : A) (n i : ℕ) (xs ys : List A) → n ≡ length xs + i → At n a (xs ++ ys) → At i a ys
-  right-at a n i [] ys e h = let z : n ≡ i = omega (arith, e) in rw z at h
-  right-at a zero i (x ∷ xs) ys e h = absurd (omega (arith, e))
-  right-at a (suc n) i (x ∷ xs) ys e h = right-at a n i xs ys (omega (arith, e)) h
-
-  pub at-some : (i : ℕ) (l : List A) → i < length l → (a : A) × At i a l
-  at-some i [] h = absurd (omega arith)
-  at-some zero (x ∷ l) h = (x, refl)
-  at-some (suc i) (x ∷ l) h = at-some i l (omega arith)
 
 -- ---- the keys of one block
 
 module _ (s : List ℕ) (h b : ℕ) where
-  down-at : (n i j : ℕ) → j < n → At j (keyWord s b (i + j)) (keysDown s b i n)
-  unfolding keysDown
-  down-at zero i j l = absurd (omega arith)
-  down-at (suc n) i zero l = let e : i + 0 ≡ i = omega arith in rw e refl
-  down-at (suc n) i (suc j) l = let e : i + suc j ≡ suc i + j = omega arith in rw e (down-at n (suc i) j (omega arith))
-
   module _ (m c : ℕ) where
     nodes-at : (n i j : ℕ) → j < n → At j (datum (keyWord s b (i + j)) h (suc (m + (i + j))) (before s b c (i + j))) (keyNodes s h b m c i n)
     unfolding keyNodes
@@ -59,7 +35,7 @@ module _ (s : List ℕ) (h b : ℕ) where
   -- n keys, and others after them
   module _ (n : ℕ) (rest : List ℕ) where
     key-is : (i k : ℕ) → i < n → At i k (keysDown s b 0 n ++ rest) → k ≡ keyWord s b i
-    key-is i k l a = let z : 0 + i ≡ i = omega arith in at-one i (keysDown s b 0 n ++ rest) a (at-left _ i (keysDown s b 0 n) rest (rw z at (down-at n 0 i l)))
+    key-is i k l a = at-one i (keysDown s b 0 n ++ rest) a (at-left _ i (keysDown s b 0 n) rest (down-at s b 0 n i i (omega arith) l))
 
     before-is : (c i e : ℕ) → i ≤ n → At i e (c ∷ (keysDown s b 0 n ++ rest)) → e ≡ before s b c i
     before-is c zero e l a = a

@@ -1,11 +1,12 @@
--- A file has as many data keys as data blocks. Assumes nothing.
-use Prim.Native.Nat.{ℕ, zero, suc, _-_, _*_, min}
+-- The keys that a block lists, place by place; a file has as many data keys as data blocks. Assumes nothing.
+use Prim.Native.Nat.{ℕ, zero, suc, _+_, _-_, _*_, _<_, min}
 use mathlib.Core.Path.{_≡_, refl, ap, _∙_}
 use mathlib.Core.List.{List, [], _∷_}
 use native.Mathlib.Omega.{arith}
 use lib.ListN.{length, length-append}
 use Rattle.volume.specs.declared.disk.Disk.{Disk}
-use Rattle.volume.specs.Blocks.{slots, wordOf}
+use Rattle.reach.specs.References.{At}
+use Rattle.volume.specs.Blocks.{slots, wordOf, keyWord}
 use Rattle.volume.specs.Files.{keysDown, listsFrom, keysFrom, listBlocks, blocksOf, listsOf, keysOf}
 
 module _ (s : List ℕ) where
@@ -14,6 +15,12 @@ module _ (s : List ℕ) where
   unfolding keysDown
   down-long b i zero = refl
   down-long b i (suc n) = ap suc (down-long b (suc i) n)
+
+  pub down-at : (b i n j x : ℕ) → x ≡ i + j → j < n → At j (keyWord s b x) (keysDown s b i n)
+  unfolding keysDown
+  down-at b i zero j x e h = absurd (omega arith)
+  down-at b i (suc n) zero x e h = let f : x ≡ i = omega arith in ap (keyWord s b) f
+  down-at b i (suc n) (suc j) x e h = down-at b (suc i) n j x (omega arith) (omega arith)
 
   -- its list blocks
   pub lists-long : (b n : ℕ) → length (listsFrom s b n) ≡ n

@@ -17,30 +17,15 @@ use Rattle.volume.specs.Files.{keysDown, keysFrom, listsFrom, keysHere, listBlo
 use Rattle.volume.specs.References.{Kind, to, references}
 use Rattle.volume.specs.Law.{chainKey, Lists}
 use Rattle.volume.specs.Breaks.{IsData}
-use Rattle.volume.proofs.Keys.{down-long}
+use Rattle.volume.proofs.Keys.{down-at, down-long}
 use Rattle.volume.proofs.Passes.{file-passed, list-passed}
 use Rattle.walk.specs.Nodes.{Node, root, bitmap, entry, list, datum, keyOf, bare, chained, slotNodes, before, keyNodes, listing, listed, contents, leadsTo, keyFault, faultOf, graph}
 use Rattle.walk.specs.Refusals.{Holder, FileAt}
-use Rattle.walk.proofs.Lists.{at-end, at-left}
+use Rattle.walk.proofs.Lists.{at-left, at-right, at-end}
 use Rattle.walk.proofs.Nodes.{in-linked, in-slots}
 use Rattle.walk.proofs.Passes.{in-tree, hung-passed}
 use Rattle.walk.proofs.Accepts.{refs-bare}
 use Rattle.walk.proofs.Chains.{chain-next}
-
--- ---- places of lists
-
-module _ {A : Type 0} where
-  -- place i of ys is place j of the two in a row
-  at-right : (a : A) (i j : ℕ) (xs ys : List A) → j ≡ length xs + i → At i a ys → At j a (xs ++ ys)
-  at-right a i j [] ys e h = let f : i ≡ j = omega arith in subst (λ n. At n a ys) f h
-  at-right a i zero (x ∷ xs) ys e h = absurd (omega arith)
-  at-right a i (suc j) (x ∷ xs) ys e h = at-right a i j xs ys (omega arith) h
-
-down-at : (s : List ℕ) (b i n j x : ℕ) → x ≡ i + j → j < n → At j (keyWord s b x) (keysDown s b i n)
-unfolding keysDown
-down-at s b i zero j x e h = absurd (omega arith)
-down-at s b i (suc n) zero x e h = let f : x ≡ i = omega arith in ap (keyWord s b) f
-down-at s b i (suc n) (suc j) x e h = down-at s b (suc i) n j x (omega arith) (omega arith)
 
 lists-after : (s : List ℕ) (b q : ℕ) → listsFrom s b (suc q) ≡ wordOf s b 126 ∷ listsFrom s (wordOf s b 126) q
 unfolding listsFrom
@@ -108,7 +93,7 @@ module _ (d : Disk) (s : List ℕ) where
     key-at : (i : ℕ) → i < n → At (m + i) (keyWord s b i) (keysOf d s h)
     key-at i g =
         let a = at-left (keyWord s b i) i (keysDown s b 0 n) (keysFrom s (blocksOf d s h - m - slots) behind) (down-at s b 0 n i i (omega arith) g) in
-        subst (At (m + i) (keyWord s b i)) (sym split) (at-right (keyWord s b i) i (m + i) (t .keys) _ (omega (arith, t .long)) a)
+        subst (At (m + i) (keyWord s b i)) (sym split) (at-right (keyWord s b i) (m + i) i (t .keys) _ (omega (arith, t .long)) a)
 
     before-at : (i : ℕ) → i < suc n → At (m + i) (before s b c i) (h ∷ keysOf d s h)
     before-at zero g = let e : m + 0 ≡ m = omega arith in subst (λ x. At x c (h ∷ keysOf d s h)) (sym e) (t .last)
