@@ -110,7 +110,7 @@ struct jufferdeeg_reading {
     size_t count; /* how many bytes were copied */
 };
 
-/* Reads a file from an offset on, until the file or the output ends. At or behind the file's end 0 bytes are copied, which is no refusal.
+/* Reads a file from an offset on, until the file or the output ends. At or after the file's end 0 bytes are copied, which is no refusal.
  *
  * Lent: the image; the path, without an end mark; the output.
  * Left: the first count bytes of the output are the file's; the rest of it stays; refused, all of it stays.

@@ -44,7 +44,7 @@ audit-determined d s n r r′ c c′ a b =
 
 module _ (d : Disk) (s : List ℕ) where
   module _ (c : List ℕ) (m : Counts) (e : walkOf d s ≡ done c m) where
-    -- reached blocks lie behind the boot blocks, in the volume
+    -- reached blocks lie after the boot blocks, in the volume
     used-inside : (k : ℕ) → Used d s k → (firstKey ≤ k) × (k < d .blocks)
     used-inside k u =
         let fine = fine-in-tree d s (accepted-lawful d s .0 (subst Through (sym e) tt) .0) in
@@ -67,7 +67,7 @@ module _ (d : Disk) (s : List ℕ) where
         count-free s (bitmapKeyOf d s) c (bitSpan d) (omega (arith, walked-report d s c m e .size, enough)) (boot-byte 0 (omega arith)) (boot-byte 1 (omega arith))
         (right-exactly s (bitmapKeyOf d s) c firstKey 0 (bitSpan d) f .0 b .0)
 
-  -- ---- an image is accepted exactly if it is a volume as the law says
+  -- ---- an image is accepted if and only if it is a volume as the law says
 
   module _ (n : ℕ) where
     pub accepted-exactly : claimBytes d ≤ n → ((r : Report) × (auditOf d s n ≡ Accepted r)) ↔ Volume d s

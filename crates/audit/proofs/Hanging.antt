@@ -32,7 +32,7 @@ use Rattle.audit.proofs.Walking.{not-both, walks-none, walks-stopped, w
 
 -- ---- names on a chain
 
--- the key behind an entry
+-- the key after an entry
 pub chain-next : (d : Disk) (s : List ℕ) (head i e : ℕ) → Known d s e → e ≡ chainKey s head i → wordOf s e 124 ≡ chainKey s head (i + 1)
 unfolding chainKey after
 chain-next d s head i e k h = rw (add-one i, ← h) (go e (k .low))

@@ -1,4 +1,4 @@
--- Stretches of the walk: one behind the other, and a block that is met and then what it leads to. Assumes nothing.
+-- Stretches of the walk: one after the other, and a block that is met and then what it leads to. Assumes nothing.
 use Prim.Native.Nat.{ℕ, zero, suc, _+_, _≤_, _<_}
 use mathlib.Core.Path.{_≡_, refl, sym, ap, _∙_}
 use mathlib.Core.Bool.{Bool, true, false}
@@ -68,7 +68,7 @@ module _ (d : Disk) (s : List ℕ) where
           less = λ m f. omega (arith, g .less c e, h .less m f);
         }
 
-  -- what is behind it stays
+  -- what comes after it stays
   pub walks-part : (x y z : List Node) (n : Counts) (cl cl′ : List ℕ) (r : Walked) → Walks d s x y n cl r cl′ → Walks d s (x ++ z) (y ++ z) n cl r cl′
   unfolding goesOn
   walks-part x y z n cl cl′ r h = walks-then (x ++ z) (x ++ z) x y z n n cl cl cl′ (Done n) r (walks-none (x ++ z) n cl) refl refl h

@@ -75,7 +75,7 @@ abbrev pub claimsOf : Outcome Counts → List ℕ
 claimsOf (done claims c) = claims
 claimsOf (refused v k) = []
 
--- accepted: the claims of the walk, and 0 behind them; refused: all 0
+-- accepted: the claims of the walk, and 0 after them; refused: all 0
 abbrev pub leaves : Disk → List ℕ → Audited → ℕ → List ℕ
 leaves d s (Accepted r) n = claimsOf (walkOf d s) ++ replicate (n - claimBytes d) 0
 leaves d s (Refused r) n = replicate n 0

@@ -43,7 +43,7 @@ pub record Reported (d : Disk) (s : List ℕ) (p : Report) : Type 0 where
   pub free : p .free ≡ freeFrom s (bitmapKeyOf d s) firstKey (bitSpan d)
   pub whole : p .used + p .free ≡ bitSpan d
 
--- a claim area of n bytes: 1 for each block that is reached, and 0 elsewhere, also behind the last block
+-- a claim area of n bytes: 1 for each block that is reached, and 0 elsewhere, also after the last block
 pub record Claimed (d : Disk) (s : List ℕ) (n : ℕ) (claim : List ℕ) : Type 0 where
   pub size : length claim ≡ n
   pub byte : (k : ℕ) → ((getD claim k 0 ≡ 1) × Used d s k) ⊎ ((getD claim k 0 ≡ 0) × (¬ Used d s k))

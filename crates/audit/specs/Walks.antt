@@ -36,7 +36,7 @@ unfoldable pub goesOn : Disk → List ℕ → Walked → List ℕ → List Node 
 goesOn d s (Done c) cl ns = run (graph d s) cl c ns
 goesOn d s (Stopped r) cl ns = refused (r .number) (r .place)
 
--- of the work `todo` the walk has left `rest`, whatever comes behind it
+-- of the work `todo` the walk has left `rest`, whatever comes after it
 pub record Walks (d : Disk) (s : List ℕ) (todo rest : List Node) (n : Counts) (cl : List ℕ) (r : Walked) (cl′ : List ℕ) : Type 0 where
   pub same : (ns : List Node) → run (graph d s) cl n (todo ++ ns) ≡ goesOn d s r cl′ (rest ++ ns)
   pub count : (c : Counts) → r ≡ Done c → total c + free cl′ ≤ total n + free cl

@@ -24,7 +24,7 @@ ghost use Rattle.audit.specs.Walks.{Met, Ready, Walks, Known, Chain, Ent
 
 const SLOTS: u32 = Block::SLOTS as u32;
 
-// The key behind an entry on its chain.
+// The key after an entry on its chain.
 fn next_entry(image: &[u8], key: u32) -> u32
     requires { ⌜ Holds (now image) key ⌝ }
     ensures { λ r. ⌜ r ≡ wordOf (now (image .entry)) key 124 ⌝ }

@@ -21,7 +21,7 @@ ghost use Rattle.walk.specs.Nodes.{list, datum, listed, withBlock, withList};
 ghost use Rattle.walk.specs.Listings.{Listing};
 ghost use Rattle.audit.specs.Walks.{Met, Ready, Walks, KeysWalked, ListWalked};
 
-// Data block n of a file, behind the block `last`: its claim and its tests.
+// Data block n of a file, after the block `last`: its claim and its tests.
 fn meet_data(
     disk: Disk,
     image: &[u8],

@@ -7,7 +7,7 @@ use libc::STDERR_FILENO;
 // The refusal of a room that is too small.
 const ROOM: u32 = 41;
 
-// A number, and the text behind it.
+// A number, and the text after it.
 pub fn counted(fd: i32, n: u64, after: &[u8]) {
     io::print_decimal(fd, n);
     io::write_all(fd, after);
@@ -18,7 +18,7 @@ pub fn begin() {
     io::write_all(STDERR_FILENO, b"bench: ");
 }
 
-// What kept the tool from asking: what it is about, and the text behind it.
+// What kept the tool from asking: what it is about, and the text after it.
 pub fn wrong(about: &[u8], text: &[u8]) {
     begin();
     io::write_all(STDERR_FILENO, about);

@@ -18,7 +18,7 @@ fn place(text: &[u8], at: usize, byte: u8) -> usize
     i
 }
 
-// Says what stands behind these digits in the table. Each line of it is a number, a space and a sentence.
+// Says what follows these digits in the table. Each line of it is a number, a space and a sentence.
 fn say_from(fd: i32, digits: &[u8], table: &[u8]) {
     let mut at: usize = 0;
     while at < table.len() {

@@ -85,7 +85,7 @@ use Rattle.jufferdeeg.proofs.SeenMoving as seen-moving
 -- ---- the audit of an image s with a claim area of n bytes
 
 module _ (d : Disk) (s : List ℕ) (n : ℕ) where
-  -- accepted exactly if a volume
+  -- accepted if and only if a volume
   pub accepted-exactly : claimBytes d ≤ n → ((r : Report) × (audit.auditOf d s n ≡ audited.Accepted r)) ↔ Volume d s
   accepted-exactly h = accepting.accepted-exactly d s n h
 
@@ -96,7 +96,7 @@ module _ (d : Disk) (s : List ℕ) (n : ℕ) where
   pub accepted-report : (p : Report) → audit.auditOf d s n ≡ audited.Accepted p → Reported d s p
   accepted-report p e = accepting.accepted-report d s n p e
 
-  -- each refusal exactly then, and it leaves nothing behind
+  -- each refusal exactly then, and it clears the claim area
   pub audit-refused-exactly : (v k : ℕ) → (audit.auditOf d s n ≡ audit.refuse v k) ↔ Says d s n v k (testOf v)
   audit-refused-exactly v k = refusing.refused-exactly d s n v k
 
@@ -120,7 +120,7 @@ module _ (d : Disk) (s : List ℕ) (n : ℕ) where
 -- ---- a path, and a read of it at offset o
 
 module _ (d : Disk) (s path : List ℕ) where
-  -- a directory is found exactly if each component is the first equal name of a directory, in the one before it; a file exactly if the last
+  -- a directory is found if and only if each component is the first equal name of a directory, in the one before it; a file if and only if the last
   -- component is one there
   pub directory-exactly : (k n : ℕ) → (lookup.findOf d s path ≡ found.Directory k n) ↔ (lookups.Opened d s path × Trail d s (rootOf d) (components path) k n)
   directory-exactly k n = missing.directory-exactly d s path k n
@@ -132,7 +132,7 @@ module _ (d : Disk) (s path : List ℕ) where
   pub found-few : (k z n : ℕ) → (lookup.findOf d s path ≡ found.Directory k n) ⊎ (lookup.findOf d s path ≡ found.File k z n) → n ≤ length (components path) * chainLimit d
   found-few k z n e = counting.found-few d s path k z n e
 
-  -- 19 exactly if the chain has ended and no entry on it has the name; every other refusal exactly then
+  -- 19 if and only if the chain has ended and no entry on it has the name; every other refusal exactly then
   pub missing-exactly : (i : ℕ) → (lookup.findOf d s path ≡ lookup.refuse 19 i) ↔ lookups.Missing d s path i
   missing-exactly i = missing.missing-exactly d s path i
 
@@ -142,7 +142,7 @@ module _ (d : Disk) (s path : List ℕ) where
   pub find-determined : (r r′ : Found) → lookup.Finds d s path r → lookup.Finds d s path r′ → (lookup.numbersOf r ≡ lookup.numbersOf r′) × (r ≡ r′)
   find-determined r r′ a a′ = finding.find-determined d s path r r′ a a′
 
-  -- bytes exactly if the path leads to a whole file; then the output holds its bytes from the offset on, and after them what it held; every
+  -- bytes if and only if the path leads to a whole file; then the output holds its bytes from the offset on, and after them what it held; every
   -- refusal exactly then
   pub read-exactly : (o n m : ℕ) → (read.readOf d s path o n ≡ reading.Bytes m) ↔ outcomes.Gives d s path o n m
   read-exactly o n m = answers.read-exactly d s path o n m
@@ -166,7 +166,7 @@ module _ (d : Disk) (s : List ℕ) where
   pub compared-most : (t : ℕ) (name : List ℕ) (p : ℕ) → First d s t name p → p + 1 ≤ chainLimit d
   compared-most t name p f = counting.first-few d s t name p f
 
-  -- the tests of a file's blocks pass exactly if it is whole: as the law says, with all of its blocks
+  -- the tests of a file's blocks pass if and only if it is whole: as the law says, with all of its blocks
   pub tested-exactly : (h : ℕ) → (blocksFault d s h ≡ Passed) ↔ outcomes.Whole d s h
   tested-exactly h = passing.tested-exactly d s h
 
@@ -191,7 +191,7 @@ stars-hold = starred.stars-hold
 -- ---- a program file
 
 module _ (file : List ℕ) where
-  -- accepted exactly if it is hunks written out, within the limits
+  -- accepted if and only if it is hunks written out, within the limits
   pub page : ((t : ℕ) × (n : ℕ) × (checkOf file ≡ Accepted t n)) ↔ ((hs : List paper.Hunk) × paper.Holds file hs)
   page = pages.page file
 
@@ -235,7 +235,7 @@ module _ (file m : List ℕ) (t : List Hunk) (w : List ℕ) (x n : ℕ) (m1 : Li
   pub move-words : (old new : List ℕ) → Moves file old new m t w (Accepted x n) m1 t1 w1 → (hs : List paper.Hunk) → paper.Holds file hs → Adds m m1 (fileTargets hs) (moved old new)
   move-words = calls.move-words file m t w x n m1 t1 w1
 
-  -- outside the targets a load leaves the hunks' bytes, and behind them what stood there; a move leaves every byte as it was
+  -- outside the targets a load leaves the hunks' bytes, and after them what stood there; a move leaves every byte as it was
   pub load-others : (bases : List ℕ) → Loads file bases m t w (Accepted x n) m1 t1 w1 → (hs : List paper.Hunk) → paper.Holds file hs → (k : ℕ) → Outside k (fileTargets hs) → getD m1 k 0 ≡ getD (placedHunks hs m) k 0
   load-others = calls.load-others file m t w x n m1 t1 w1
 

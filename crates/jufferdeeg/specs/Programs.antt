@@ -14,7 +14,7 @@ abbrev pub programNumbers : Answer → ProgramNumbers
 programNumbers a =
     let n = numbersOf a in record { number = n .number; place = n .place; hunks = n .hunks; bytes = n .bytes }
 
--- ---- the promises: those of the call behind, and its answer's numbers
+-- ---- the promises: those of the call that it makes, and its answer's numbers
 
 module _ (file memory : List ℕ) (table : List Hunk) (work : List ℕ) where
   abbrev pub loadsAs : List ℕ → Answer

@@ -28,7 +28,7 @@ abbrev pub readNumbers : Reading → ReadNumbers
 readNumbers a =
     let n = read.numbersOf a in record { number = n .number; place = n .place; count = n .count }
 
--- ---- the promises: those of the call behind, and its answer's numbers
+-- ---- the promises: those of the call that it makes, and its answer's numbers
 
 -- of an audit of image s with a claim area of n bytes
 pub record AuditsFloppy (s : List ℕ) (n : ℕ) (r : AuditNumbers) (claim′ : List ℕ) : Type 0 where

@@ -1,4 +1,4 @@
--- 40 is given exactly if a list of bases has another length, or at its first bad entry; and why an entry is bad. Assumes nothing.
+-- 40 is given if and only if a list of bases has another length, or at its first bad entry; and why an entry is bad. Assumes nothing.
 use Prim.Native.Nat.{ℕ, zero, suc, _+_, _*_, _%_, _^_, _<_, _≤_}
 use mathlib.Core.Path.{_≡_, refl, sym, ap, subst, _∙_}
 use mathlib.Core.List.{List}
@@ -210,7 +210,7 @@ module _ (file bases : List ℕ) where
   pub entry-good : (i : ℕ) → (entryBad file bases i ≡ false) ↔ GoodEntry (sizeOf file) bases i
   entry-good i = (fine-good i, good-fine i)
 
--- ---- a list passes exactly if its count is right and no entry is bad, wherever it counts from
+-- ---- a list passes if and only if its count is right and no entry is bad, wherever it counts from
 
 module _ (file bases : List ℕ) (from : ℕ) where
   from-passed : (i n : ℕ) → basesFrom file bases from i n ≡ Passed → (k : ℕ) → i ≤ k → k < i + n → entryBad file bases k ≡ false

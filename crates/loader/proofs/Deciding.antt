@@ -1,4 +1,4 @@
--- The contracts decide: two outcomes for one input coincide, a refused call changes nothing, and a call is accepted exactly if the file, the
+-- The contracts decide: two outcomes for one input coincide, a refused call changes nothing, and a call is accepted if and only if the file, the
 -- bases, the room and the targets are as they must be. Assumes nothing.
 use Prim.Native.Nat.{ℕ}
 use mathlib.Core.Path.{_≡_, refl, sym, ap, _∙_}
@@ -49,7 +49,7 @@ load-keeps file bases m t w f m1 t1 w1 l = (l .loaded, l .recorded, l .clean)
 pub move-keeps : (file old new m t w : List ℕ) (f : Refusal) (m1 t1 w1 : List ℕ) → Moves file old new m t w (Refused f) m1 t1 w1 → (m1 ≡ m) × (t1 ≡ t) × (w1 ≡ replicate (length w) 0)
 move-keeps file old new m t w f m1 t1 w1 l = (l .shifted, l .recorded, l .clean)
 
--- ---- accepted exactly if
+-- ---- accepted if and only if
 
 pub room-good : (t n m r w : ℕ) → Room t n m r w → roomFault t n m r w ≡ Passed
 unfolding pick

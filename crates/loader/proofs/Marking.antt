@@ -134,7 +134,7 @@ zero-word work p h =
     let d = h (p + 3) (omega arith, omega arith) in
     omega arith
 
--- a word of marks is 0 exactly if no word seen is near
+-- a word of marks is 0 if and only if no word seen is near
 module _ (work seen : List ℕ) (m : Marked work seen) (p : ℕ) (fits : p + 4 ≤ length work) where
   far-word : wordAt work p ≡ 0 → nearAny p seen ≡ false
   far-word z = go (nearAny p seen) refl

@@ -118,7 +118,7 @@ module _ (ts : List Target) (f : Refusal) where
   pub clash-why : (clash [] ts ≡ Failed f) ↔ ClashWhy ts f
   clash-why = (clash-there, clash-back)
 
--- targets pass exactly if no two share a byte
+-- targets pass if and only if no two share a byte
 none-near : (p : ℕ) (seen : List ℕ) → ((q : ℕ) → Among q seen → Far q p) → nearAny p seen ≡ false
 none-near p seen g = go (nearAny p seen) refl
   where

@@ -69,7 +69,7 @@ module _ (file : List ℕ) (hs : List Hunk) (held : Holds file hs) where
       same-bad (sizeAt hs) (sizeOf file) bases i (λ k a. sym (held-size k (omega arith))),
     )
 
-    -- A list of bases passes exactly if it is good, wherever it counts from.
+    -- A list of bases passes if and only if it is good, wherever it counts from.
     pub good-exactly : (from : ℕ) → (basesFault file bases from ≡ Passed) ↔ GoodBases hs bases
     good-exactly from = (there, back)
       where

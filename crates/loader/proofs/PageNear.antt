@@ -110,7 +110,7 @@ module _ (file : List ℕ) (hs : List Hunk) (held : Holds file hs) where
   triples : targetsOf file ≡ map bare (fileTargets hs)
   triples = page-targets file hs (held .fits) (held .even) (held .words)
 
-  -- No target is refused exactly if no two targets of one hunk are near.
+  -- No target is refused if and only if no two targets of one hunk are near.
   pub spaced-exactly : (clashOf file ≡ Passed) ↔ Spaced (fileTargets hs)
   spaced-exactly = (
     λ c. apart-spaced (fileTargets hs) (subst Apart triples (apart-exactly (targetsOf file) .0 c)),

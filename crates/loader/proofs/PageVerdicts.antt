@@ -97,7 +97,7 @@ lists-40 file f from (l ∷ ls) (inr x) = lists-40 file f (from + totalOf file) 
 -- ---- a call
 
 module _ (file : List ℕ) (lists : List (List ℕ)) (m r w : ℕ) where
-  -- A call is accepted exactly if the file holds hunks, every list of bases is good, there is room, and no two targets of one hunk are near.
+  -- A call is accepted if and only if the file holds hunks, every list of bases is good, there is room, and no two targets of one hunk are near.
   pub call-accepted : (t n : ℕ) → (callAnswer file lists m r w ≡ Accepted t n) ↔ ((hs : List Hunk) × Holds file hs × Takes hs lists m r w t n)
   call-accepted t n = (there, back)
     where
@@ -122,7 +122,7 @@ module _ (file : List ℕ) (lists : List (List ℕ)) (m r w : ℕ) where
           call-passes file lists m r w t n .1
           (page-accepted file hs h ∙ sym (ap₂ Accepted (y .hunks) (y .bytes)), good-all file hs h 0 lists (y .bases), room-exactly file hs h m r w .1 (y .room), spaced-exactly file hs h .1 (y .spaced))
 
-  -- A call is refused exactly if the file has a fault of its own, or 40, 41 or 42 is to be given.
+  -- A call is refused if and only if the file has a fault of its own, or 40, 41 or 42 is to be given.
   pub call-refused : (f : Refusal) → (callAnswer file lists m r w ≡ Refused f) ↔ CallWhy file lists m r w f
   call-refused f = (λ a. there (call-fails file lists m r w f .0 a), λ h. call-fails file lists m r w f .1 (back h))
     where
@@ -164,7 +164,7 @@ module _ (file : List ℕ) (lists : List (List ℕ)) (m r w : ℕ) where
         go (inr (hs, h, q, inr (inl (e, y)))) = absurd (omega (arith, number-of e))
         go (inr (hs, h, q, inr (inr (e, y)))) = absurd (omega (arith, number-of e))
 
-    -- 41 exactly if every list is good, and memory, records or work area is short.
+    -- 41 if and only if every list is good, and memory, records or work area is short.
     pub call-41 : (callAnswer file lists m r w ≡ Refused (refusal 41 p)) ↔ ((hs : List Hunk) × Holds file hs × Refuses41 hs lists m r w p)
     call-41 = (λ a. go (call-refused (refusal 41 p) .0 a), λ h. call-refused (refusal 41 p) .1 (inr (h .0, h .1, p, inr (inl (refl, h .2)))))
       where
@@ -174,7 +174,7 @@ module _ (file : List ℕ) (lists : List (List ℕ)) (m r w : ℕ) where
         go (inr (hs, h, q, inr (inl (e, y)))) = (hs, h, (y .0, y .1, place-of e ∙ y .2))
         go (inr (hs, h, q, inr (inr (e, y)))) = absurd (omega (arith, number-of e))
 
-    -- 42 exactly if every list is good and there is room, at the first target that is near an earlier one of its hunk.
+    -- 42 if and only if every list is good and there is room, at the first target that is near an earlier one of its hunk.
     pub call-42 : (callAnswer file lists m r w ≡ Refused (refusal 42 p)) ↔ ((hs : List Hunk) × Holds file hs × Refuses42 hs lists m r w p)
     call-42 = (λ a. go (call-refused (refusal 42 p) .0 a), λ h. call-refused (refusal 42 p) .1 (inr (h .0, h .1, p, inr (inr (refl, h .2)))))
       where

@@ -1,4 +1,4 @@
--- 41 is given exactly if memory, table or work area is too small. Assumes nothing.
+-- 41 is given if and only if memory, table or work area is too small. Assumes nothing.
 use Prim.Native.Nat.{ℕ, _<_}
 use mathlib.Core.Path.{_≡_, sym, ap, _∙_}
 use mathlib.Core.Bool.{true, false}

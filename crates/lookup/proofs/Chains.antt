@@ -72,7 +72,7 @@ key-passed d s t i p k e =
 abbrev pub faultAt : Disk → List ℕ → ℕ → List ℕ → ℕ → ℕ
 faultAt d s t name p = placeFault d s t (slotOf d name) p (placeKey d s t name p)
 
--- they pass exactly if it has an entry as the law asks
+-- they pass if and only if it has an entry as the law asks
 module _ (d : Disk) (s : List ℕ) (t : ℕ) (name : List ℕ) (p : ℕ) where
   pub tests-pass : Tests d s t name p → faultAt d s t name p ≡ 0
   tests-pass h =

@@ -90,7 +90,7 @@ unfolding componentsFault pick
 good-passes n [] h = refl
 good-passes n (c ∷ cs) h = rw (h c (inl refl)) (good-passes (n + 1) cs (λ x m. h x (inr m)))
 
--- and the form passes exactly if it is good
+-- and the form passes if and only if it is good
 pub form-good : (path : List ℕ) → (pathFault path ≡ Passed) ↔ GoodForm path
 unfolding pathFault pick
 form-good path = (there (ltb longestPath (length path)) refl, λ h. rw (le-ltb longestPath (length path) (h .short)) (good-passes 0 (components path) (h .good)))

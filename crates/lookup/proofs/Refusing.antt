@@ -126,7 +126,7 @@ module _ (d : Disk) (s path : List ℕ) where
     pub refused-exactly : (findOf d s path ≡ refuse v k) ↔ Refuses d s path v k
     refused-exactly = (refused-why (find-why d s path), why-refused)
 
-  -- 19 at component i exactly if its chain has ended, every entry on it passes its tests, and none has its folded name.
+  -- 19 at component i if and only if its chain has ended, every entry on it passes its tests, and none has its folded name.
   pub missing-exactly : (i : ℕ) → (findOf d s path ≡ refuse 19 i) ↔ Missing d s path i
   missing-exactly i = ((λ e. go (refused-exactly 19 i .0 e)), (λ h. refused-exactly 19 i .1 (number-19 h refl)))
     where
@@ -141,7 +141,7 @@ module _ (d : Disk) (s path : List ℕ) where
       go (number-19 h a) = h
       go (number-20 h a) = absurd (omega arith)
 
-  -- 20 at component i exactly if it is a file with components behind it.
+  -- 20 at component i if and only if it is a file with components after it.
   pub used-exactly : (i : ℕ) → (findOf d s path ≡ refuse 20 i) ↔ Used d s path i
   used-exactly i = ((λ e. go (refused-exactly 20 i .0 e)), (λ h. refused-exactly 20 i .1 (number-20 h refl)))
     where
@@ -158,7 +158,7 @@ module _ (d : Disk) (s path : List ℕ) where
 
   -- ---- what is found
 
-  -- A directory is found exactly if every component leads to one.
+  -- A directory is found if and only if every component leads to one.
   pub directory-exactly : (k n : ℕ) → (findOf d s path ≡ Directory k n) ↔ (Opened d s path × Trail d s (rootOf d) (components path) k n)
   directory-exactly k n = ((λ e. go (find-why d s path) e), (λ h. sym (why-find d s path (Directory k n) (leads-to (h .0) (holds k n (h .1) (rw (behind-none n)))))))
     where
@@ -177,7 +177,7 @@ module _ (d : Disk) (s path : List ℕ) where
       go (leads-to o (missing w p f q)) e = impossible cc
       go (leads-to o (fault w p f q)) e = impossible cc
 
-  -- A file is found exactly if it is what the last component leads to.
+  -- A file is found if and only if it is what the last component leads to.
   pub file-exactly : (k z n : ℕ) → (findOf d s path ≡ File k z n) ↔ IsFile d s path k z n
   file-exactly k z n = ((λ e. go (find-why d s path) e), (λ h. sym (why-find d s path (File k z n) (leads-to (h .opened) (file (h .comes) (h .place) (h .found) (h .kind) (h .last) (rw (h .count, h .size, h .key, behind-none n)))))))
     where

@@ -56,7 +56,7 @@ module _ (d : Disk) (s : List ℕ) where
     first = record { front = []; name = c; back = cs; parts = refl; parent = t; compared = 0; trail = stay }
 
     module _ (p : ℕ) (f : First d s t c p) (e : directory s (placeKey d s t c p) ≡ true) where
-      -- one behind it
+      -- one after it
       abbrev further : Comes d s (placeKey d s t c p) cs → Comes d s t (c ∷ cs)
       further w = record { front = c ∷ w .front; name = w .name; back = w .back; parts = ap (λ l. c ∷ l) (w .parts); parent = w .parent; compared = p + 1 + w .compared; trail = down p f e (w .trail) }
 

@@ -48,7 +48,7 @@ abbrev pub fileAt : List ℕ → ℕ → ℕ → List (List ℕ) → ℕ → Fou
 fileAt s i n [] k = File k (sizeOf s k) n
 fileAt s i n (c ∷ cs) k = refuse 20 i
 
--- what component i leads to, n entries compared before it, the components cs behind it; `below` goes on in a directory
+-- what component i leads to, n entries compared before it, the components cs after it; `below` goes on in a directory
 abbrev pub stepped : List ℕ → ℕ → ℕ → List (List ℕ) → (ℕ → ℕ → Found) → Step → Found
 stepped s i n cs below Ended = refuse 19 i
 stepped s i n cs below (Fault r) = Refused r

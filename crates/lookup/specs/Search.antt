@@ -15,7 +15,7 @@ use Rattle.walk.specs.Nodes.{keyFault}
 use Rattle.lookup.specs.declared.chain.Step.{Step}
 use Rattle.lookup.specs.declared.chain.Step.the-variants.{At, Ended, Fault}
 
--- the key at place p of the chain on which directory t would have a name; 0 behind its end
+-- the key at place p of the chain on which directory t would have a name; 0 after its end
 abbrev pub placeKey : Disk → List ℕ → ℕ → List ℕ → ℕ → ℕ
 placeKey d s t name p = chainKey s (slotWord s t (slotOf d name)) p
 
@@ -23,7 +23,7 @@ placeKey d s t name p = chainKey s (slotWord s t (slotOf d name)) p
 unfoldable pub placeFault : Disk → List ℕ → ℕ → ℕ → ℕ → ℕ → ℕ
 placeFault d s t i p k = tests (keyFault d k ∷ must (ltb p (chainLimit d)) 6 ∷ entryFault d s k t i ∷ [])
 
--- at place p the key is k, and v is what its tests say; `on` is what the places behind it give
+-- at place p the key is k, and v is what its tests say; `on` is what the places after it give
 abbrev pub visit : Disk → List ℕ → List ℕ → ℕ → ℕ → ℕ → Step → Step
 visit d s name p k v on =
     pick (eqb k 0) Ended (pick (eqb v 0) (pick (same d (nameOf s k) name) (At k (p + 1)) on) (Fault (refusal v k)))
@@ -36,6 +36,6 @@ searchFrom d s t name (suc n) p =
     (placeFault d s t (slotOf d name) p (placeKey d s t name p))
     (searchFrom d s t name n (p + 1))
 
--- the first place behind the chain limit refuses or ends the chain, so no more are asked
+-- the first place after the chain limit refuses or ends the chain, so no more are asked
 unfoldable pub searchOf : Disk → List ℕ → ℕ → List ℕ → Step
 searchOf d s t name = searchFrom d s t name (chainLimit d + 1) 0

@@ -15,7 +15,7 @@ pub fn say_area(name: &[u8], sum: u32) {
     io::print_decimal(STDOUT_FILENO, sum as u64);
 }
 
-// A number behind a space.
+// A space and a number.
 pub fn say_number(number: u32) {
     io::write_all(STDOUT_FILENO, b" ");
     io::print_decimal(STDOUT_FILENO, number as u64);

@@ -1,4 +1,4 @@
--- The theorem `accepts`: the walk accepts exactly if the law holds. Assumes nothing.
+-- The theorem `accepts`: the walk accepts if and only if the law holds. Assumes nothing.
 use mathlib.Core.Path.{_≡_, refl, sym, ap, _∙_, subst, subst₂}
 use mathlib.Core.Logic.{_≢_, inl, inr, _↔_}
 use mathlib.Core.List.{List, [], _∷_, head-eq-of-cons-eq, cons≢nil}
@@ -85,7 +85,7 @@ module _ {Node S : Type 0} (G : Graph Node S) where
     fits-law (done c t) i h = sound c t (i .found)
     fits-law (refused v k) i h = absurd h
 
-    -- the walk accepts exactly if the law holds
+    -- the walk accepts if and only if the law holds
     pub accepts : (s₀ : S) → Accepted (audit G N s₀) ↔ Law G
     accepts s₀ =
         let r = whole G N in

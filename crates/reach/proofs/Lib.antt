@@ -14,7 +14,7 @@ pub mod Found
 pub mod Kept
 -- the whole walk of the tree, and what holds at its end
 pub mod Whole
--- `accepts`: the walk accepts exactly if the law holds
+-- `accepts`: the walk accepts if and only if the law holds
 pub mod Accepts
 -- `report`: an accepted walk hands back just what is reached
 pub mod Reports

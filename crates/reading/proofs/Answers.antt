@@ -69,7 +69,7 @@ module _ (d : Disk) (s : List ℕ) (h : ℕ) (long : length s ≡ imageBytes d) 
   pub bytes-long : length (fileBytes d s h) ≡ sizeOf s h
   bytes-long = file-long d s h long (followed d s h Passed (sym p) refl)
 
-  -- and a read copies as many as there are behind the offset, and there is room for
+  -- and a read copies as many as there are after the offset, and there is room for
   pub count-is : (o n : ℕ) → length (part (fileBytes d s h) o n) ≡ min n (sizeOf s h - o)
   count-is o n = part-long d s h long (followed d s h Passed (sym p) refl) o n
 
@@ -88,7 +88,7 @@ module _ (d : Disk) (s path : List ℕ) where
 
   -- ---- the count
 
-  -- A read gives m bytes exactly if the path leads to a whole file, and m is what there is to copy.
+  -- A read gives m bytes if and only if the path leads to a whole file, and m is what there is to copy.
   pub read-exactly : (o n m : ℕ) → (readOf d s path o n ≡ Bytes m) ↔ Gives d s path o n m
   unfolding readOf
   read-exactly o n m = (there (findOf d s path) refl, back)
@@ -109,7 +109,7 @@ module _ (d : Disk) (s path : List ℕ) where
 
   -- ---- the output
 
-  -- It holds the file's bytes from the offset on, and behind them what it held.
+  -- It holds the file's bytes from the offset on, and after them what it held.
   pub read-output : (o m k z c : ℕ) (output output′ : List ℕ) → Reads d s path o output (Bytes m) output′ → findOf d s path ≡ found.File k z c → Filled (fileBytes d s k) o output m output′
   read-output o m k z c output output′ r e =
       let g = read-exactly o (length output) m .0 (sym (r .answer)) in

@@ -13,7 +13,7 @@ pub mod Turns
 pub mod Readings
 -- `read-exactly`, `read-output`: what it says that a read gives bytes
 pub mod Answers
--- `passes-tested`, `tested-exactly`: a file passes exactly if it is as the law says, its blocks in range with sum 0
+-- `passes-tested`, `tested-exactly`: a file passes if and only if it is as the law says, its blocks in range with sum 0
 pub mod Passing
 -- where each block of a file stands in the order of its tests
 pub mod Order

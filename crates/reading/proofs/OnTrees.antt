@@ -65,7 +65,7 @@ module _ (d : Disk) (s : List ℕ) where
   -- ---- all blocks of a file
 
   module _ (h : ℕ) where
-    -- the list blocks behind b, and the data blocks of all of these
+    -- the list blocks after b, and the data blocks of all of these
     abbrev Blocks : ℕ → ℕ → ℕ → Type 0
     Blocks q b r = ((k : ℕ) → k ∈ listsFrom s b q → B (to Kind.list k)) × ((k : ℕ) → k ∈ keysFrom s r (b ∷ listsFrom s b q) → B (to Kind.datum k))
 

@@ -59,7 +59,7 @@ module _ (d : Disk) (s : List ℕ) where
         let i = subst (λ y. Intact d s (keyOf d y)) (w .3) (f (keyOf d x) (key-down b m c 0 (here d s h m) x a)) in
         subst (λ y. nodeFault d s y ≡ 0) (sym (w .3)) (datum-passes (w .0) (w .1) (w .2) i (subst (Sound d s) (w .3) (run-listed d s h b m c .0 r x a)))
 
-    -- ---- and of those behind it, r keys still to come
+    -- ---- and of those after it, r keys still to come
 
     module _ (b m c r : ℕ) (e : r ≡ N - m) (bs : List ℕ) (f : (k : ℕ) → k ∈ keysFrom s r (b ∷ bs) → Intact d s k) where
       first-keys : (k : ℕ) → k ∈ keysDown s b 0 (here d s h m) → Intact d s k
@@ -99,6 +99,6 @@ module _ (d : Disk) (s : List ℕ) where
         let e = file-passes d s h (p .0, rw sub-zero at (spread-first d s h q h 0 h (p .2) .0), p .1) in
         rw (eq-eqb _ 0 e) (pass-all (fileNodes d s h) (spread-passes q h 0 h (blocksOf d s h) (ap listBlocks z) z (p .2) (w .lists) (w .keys)))
 
-    -- The blocks of a file pass exactly if it is whole.
+    -- The blocks of a file pass if and only if it is whole.
     pub tested-exactly : (blocksFault d s h ≡ Passed) ↔ Whole d s h
     tested-exactly = (tested-whole d s h, passes-tested)

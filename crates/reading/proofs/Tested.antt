@@ -93,7 +93,7 @@ module _ (d : Disk) (s : List ℕ) where
     down-intact b m c i (suc n) f k (inl a) = rw a (intact (datum (keyWord s b i) h (suc (m + i)) (before s b c i)) (f _ (inl refl)))
     down-intact b m c i (suc n) f k (inr a) = down-intact b m c (suc i) n (λ x p. f x (inr p)) k a
 
-    -- those of one block, and those behind
+    -- those of one block, and those after
     keys-split : (q b m c r k : ℕ) → r ≡ blocksOf d s h - m → Pass (blocksFrom d s h b m c q) → (k ∈ keysFrom s (r - slots) (listsFrom s b q) → Intact d s k) → k ∈ keysFrom s r (b ∷ listsFrom s b q) → Intact d s k
     unfolding keysFrom
     keys-split q b m c r k e f g a = go (in-either k (keysDown s b 0 (keysHere r)) _ a)

@@ -62,7 +62,7 @@ module _ (d : Disk) (k : ℕ) (b : Bool) (e : b ≡ inRange d k) where
 node-inside : (d : Disk) (s : List ℕ) (n : Node) → nodeFault d s n ≡ 0 → keyOf d n < d .blocks
 node-inside d s n e = range-is d (keyOf d n) (must-passed _ 4 (first-zero (keyFault d (keyOf d n)) _ e .0)) .1
 
--- ---- blocks one behind the other
+-- ---- blocks one after the other
 
 module _ (d : Disk) (s : List ℕ) (n : Node) (ns : List Node) (f : ℕ) (e : f ≡ nodeFault d s n) where
   pub fault-stops : (f ≡ 0 → ⊥) → Failed (refusal f (keyOf d n)) ≡ firstFault d s (n ∷ ns)
@@ -155,7 +155,7 @@ module _ (d : Disk) (s : List ℕ) (b : Lister) (f : ℕ) (g : f ≡ nodeFault d
 -- ---- a file
 
 module _ (d : Disk) (s : List ℕ) (h : ℕ) where
-  -- the q list blocks behind block b, and what they list
+  -- the q list blocks after block b, and what they list
   abbrev behind : ℕ → ℕ → ℕ → List Node
   behind b m zero = []
   behind b m (suc q) = list (wordOf s b 126) h (m + slots) (keyWord s b 71) ∷ blocksFrom d s h (wordOf s b 126) (m + slots) (keyWord s b 71) q

@@ -20,7 +20,7 @@ use Rattle.reading.proofs.Contents.{data-inside, data-some, data-long, 
 
 -- ---- the way to the block of an offset
 
--- the key n + 1 steps behind block h
+-- the key n + 1 steps after block h
 unfoldable pub behind : List ℕ → ℕ → ℕ → ℕ
 behind s h zero = wordOf s h 4
 behind s h (suc n) = wordOf s (behind s h n) 4
@@ -143,7 +143,7 @@ module _ (d : Disk) (s : List ℕ) (h o : ℕ) (before : List ℕ) where
       pub held : Holds s key
       held = omega (arith, inside, v .long)
 
-      -- the data of this block, and of those behind it
+      -- the data of this block, and of those after it
       abbrev mine : List ℕ
       mine = dataOf d s key
 

@@ -22,7 +22,7 @@ unfoldable pub firstFault : Disk → List ℕ → List Node → Tested
 firstFault d s [] = Passed
 firstFault d s (n ∷ ns) = pick (eqb (nodeFault d s n) 0) (firstFault d s ns) (Failed (refusal (nodeFault d s n) (keyOf d n)))
 
--- the blocks of file h from block b on, which lists keys behind m data blocks, c the last of them; q list blocks follow it
+-- the blocks of file h from block b on, which lists keys after m data blocks, c the last of them; q list blocks follow it
 unfoldable pub blocksFrom : Disk → List ℕ → ℕ → ℕ → ℕ → ℕ → ℕ → List Node
 blocksFrom d s h b m c zero = keyNodes s h b m c 0 (keysHere (blocksOf d s h - m))
 blocksFrom d s h b m c (suc q) =

@@ -31,7 +31,7 @@ fn failed(number: u32, key: u32) -> Tested
     })
 }
 
-// Data block n of a file, behind the block `last`.
+// Data block n of a file, after the block `last`.
 fn test_data(disk: Disk, image: &[u8], key: u32, header: u32, n: u32, last: u32) -> u32
     requires { ⌜ (Sized disk) × (length (now image) ≡ imageBytes disk) × (header < disk .blocks) × (last < disk .blocks) × (sizeOf (now image) header ≤ fileLimit disk) × (1 ≤ n) × (n ≤ blocksOf disk (now image) header) ⌝ }
     ensures { λ r. ⌜ r ≡ nodeFault disk (now (image .entry)) (datum key header n last) ⌝ }

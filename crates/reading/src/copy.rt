@@ -61,7 +61,7 @@ fn seek(disk: Disk, image: &[u8], header: u32, offset: usize) -> u32
     key
 }
 
-// Copies what a tested file has behind `offset`, as much as there is room for, and gives the number of bytes.
+// Copies what a tested file has after `offset`, as much as there is room for, and gives the number of bytes.
 pub fn copy_file(
     disk: Disk,
     image: &[u8],

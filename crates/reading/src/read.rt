@@ -58,7 +58,7 @@ fn handed_back(found: Found, path: &[u8]) -> Reading
     Reading::Refused(r)
 }
 
-// Reads a file of a disk's image from `offset` on, as much as there is room for. Output behind what was read stays, and all of it where the
+// Reads a file of a disk's image from `offset` on, as much as there is room for. Output after what was read stays, and all of it where the
 // read is refused.
 fn read_on(disk: Disk, image: &[u8], path: &[u8], offset: usize, output: &mut [u8]) -> Reading
     requires { ⌜ Sized disk ⌝ }

@@ -1,4 +1,4 @@
--- The tests of a block give a number exactly if the block breaks the law as `specs/Breaks.antt` says, and pass exactly if it does not. Assumes nothing.
+-- The tests of a block give a number if and only if the block breaks the law as `specs/Breaks.antt` says, and pass if and only if it does not. Assumes nothing.
 use Prim.Native.Nat.{ℕ, _+_, _≤_}
 use mathlib.Core.Path.{_≡_, refl, sym, ap, _∙_}
 use mathlib.Core.Logic.{_≢_, _⊎_, inl, inr, _↔_}
@@ -81,7 +81,7 @@ module _ (d : Disk) (s : List ℕ) where
   pub root-breaks : (v : ℕ) → ((rootFault d s ≡ v) × (v ≢ 0)) ↔ RootBreaks s r v
   root-breaks v = ((λ h. root-broken v (h .1) (h .0)), root-fault v)
 
-  -- and it passes exactly if it is as the law says
+  -- and it passes if and only if it is as the law says
   pub root-sound : (rootFault d s ≡ 0) ↔ RootSound s r
   root-sound = (passed′, λ h. root-order ∙ on (sum-test s r) _ (h .sum) (on (kind-test s r) _ (h .kind) (on (fixed-test s r) _ (h .fixed) (must-passes (nameGood s r) 11 (h .name)))))
     where
@@ -255,7 +255,7 @@ module _ (d : Disk) (s : List ℕ) (k t i : ℕ) where
   pub entry-breaks : (v : ℕ) → ((entryFault d s k t i ≡ v) × (v ≢ 0)) ↔ EntryBreaks d s k t i v
   entry-breaks v = ((λ h. entry-broken v (h .1) (h .0)), entry-fault v)
 
-  -- and it passes exactly if it is as the law says
+  -- and it passes if and only if it is as the law says
   pub entry-sound : (entryFault d s k t i ≡ 0) ↔ Placed d s k t i
   entry-sound = (passed′, λ h. past (h .sum) (record { type = h .entry .type; kind = h .entry .kind }) (on ties-test _ (record { own = h .entry .own; parent = h .parent; link = h .link }) (on (name-test s k) _ (h .entry .name) (slot-test .passes (h .slot)))))
     where
@@ -328,7 +328,7 @@ module _ (d : Disk) (s : List ℕ) (h : ℕ) where
       empty p true e = pick-true (eqb n 0) _ _ _ e refl ∙ be _ _ 14 (p (eqb-true n 0 e))
       empty p false e = pick-false (eqb n 0) _ _ _ e refl
 
-  -- it passes exactly if it is as the law says
+  -- it passes if and only if it is as the law says
   pub header-sound : (fileFault d s h ≡ 0) ↔ HeaderSound d s h
   header-sound = (passed′, λ p. header-order ∙ on size-test _ (p .size) (on (lists-test s h n) _ (p .lists) (empty-test .passes (p .empty))))
     where
@@ -391,7 +391,7 @@ module _ (s : List ℕ) (k h n : ℕ) where
   pub list-breaks : (v : ℕ) → ((listFault s k h n ≡ v) × (v ≢ 0)) ↔ ListBreaks s k h n v
   list-breaks v = ((λ e. list-broken v (e .1) (e .0)), list-fault v)
 
-  -- and it passes exactly if it is as the law says
+  -- and it passes if and only if it is as the law says
   pub list-sound : (listFault s k h n ≡ 0) ↔ ListSound s k h n
   list-sound = (passed′, λ p. list-order ∙ on (sum-test s k) _ (p .sum) (on types-test _ (record { type = p .block .type; kind = p .block .kind }) (on owns-test _ (p .block .own, p .block .parent) (lists-test s k n .passes (p .lists)))))
     where
@@ -452,7 +452,7 @@ module _ (d : Disk) (s : List ℕ) (k h n named : ℕ) where
   pub data-breaks : (v : ℕ) → ((dataFault d s k h (sizeOf s h) n named ≡ v) × (v ≢ 0)) ↔ DataBreaks d s k h n named v
   data-breaks v = ((λ e. data-broken v (e .1) (e .0)), data-fault v)
 
-  -- and it passes exactly if it is as the law says
+  -- and it passes if and only if it is as the law says
   pub data-sound : (dataFault d s k h (sizeOf s h) n named ≡ 0) ↔ ((sumOf s k ≡ 0) × DataTies d s k h n named)
   data-sound = (passed′, λ p. data-order ∙ on (sum-test s k) _ (p .0) (on data-type-test _ (p .1 .block .type) (datum-test (p .1 .block .type) .passes (p .1))))
     where

@@ -32,7 +32,7 @@ module _ (a b v : ℕ) where
   pub be-not : a ≢ b → never (eqb a b) v ≡ 0
   be-not e = never-passes (eqb a b) v (ne-eqb a b e)
 
--- ---- a list of tests passes exactly if each does
+-- ---- a list of tests passes if and only if each does
 
 pub test-at : (i : ℕ) {t : ℕ} (l : List ℕ) → tests l ≡ 0 → At i t l → t ≡ 0
 test-at i [] e h = absurd h
@@ -62,7 +62,7 @@ zeros-found s k i zero f = refl
 zeros-found s k i (suc n) f =
     rw (eq-eqb (wordOf s k i) 0 (f i (omega arith) (omega arith))) (zeros-found s k (suc i) n (λ j l h. f j (omega arith) (omega arith)))
 
--- ---- tests in order: x is 0 exactly if P holds, else its number n
+-- ---- tests in order: x is 0 if and only if P holds, else its number n
 
 pub record Test (n x : ℕ) (P : Type 0) : Type 0 where
   pub gives : Given (n ∷ []) x

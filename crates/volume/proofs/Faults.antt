@@ -38,7 +38,7 @@ module _ (s : List ℕ) (k : ℕ) (t : Bool) (h : t ≡ nameGood s k) where
   pub name-fails : t ≡ false → 11 ≡ tests (must (nameGood s k) 11 ∷ [])
   name-fails q = stop 11 _ _ tt (must-false 11 t (nameGood s k) h q)
 
--- ---- n words from w(f) on are 0; i of them are behind, and w is the next
+-- ---- n words from w(f) on are 0; i of them are done, and w is the next
 
 module _ (s : List ℕ) (k f n i : ℕ) (h : i < n) (w : ℕ) (e : w ≡ wordOf s k (f + i)) where
   left : n - i ≡ suc (n - (i + 1))

@@ -17,7 +17,7 @@ floppy = record { blocks = 1760; kind = 0 }
 abbrev pub firstKey : ℕ
 firstKey = 2
 
--- one bitmap block has 127 words of bits, for the blocks behind the boot blocks
+-- one bitmap block has 127 words of bits, for the blocks after the boot blocks
 abbrev pub mostBlocks : ℕ
 mostBlocks = firstKey + 32 * 127
 

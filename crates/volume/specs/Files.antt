@@ -31,7 +31,7 @@ unfoldable pub keysDown : List ℕ → ℕ → ℕ → ℕ → List ℕ
 keysDown s b i zero = []
 keysDown s b i (suc n) = keyWord s b i ∷ keysDown s b (suc i) n
 
--- the n list blocks behind block b, each in the w126 of the one before
+-- the n list blocks after block b, each in the w126 of the one before
 unfoldable pub listsFrom : List ℕ → ℕ → ℕ → List ℕ
 listsFrom s b zero = []
 listsFrom s b (suc n) = wordOf s b 126 ∷ listsFrom s (wordOf s b 126) n

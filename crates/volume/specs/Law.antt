@@ -40,7 +40,7 @@ pub record Entry (s : List ℕ) (k : ℕ) : Type 0 where
   pub own : wordOf s k 1 ≡ k
   pub name : nameGood s k ≡ true
 
--- the key at a place of the chain that begins with key k: 0 behind its end
+-- the key at a place of the chain that begins with key k: 0 after its end
 unfoldable pub after : List ℕ → ℕ → ℕ
 after s zero = 0
 after s (suc k) = wordOf s (suc k) 124

@@ -41,7 +41,7 @@ unfoldable pub allowed : List ℕ → Bool
 allowed [] = true
 allowed (b ∷ bs) = pick (eqb b 47) false (pick (eqb b 58) false (allowed bs))
 
--- a name's length stands in byte 432 of its block, and its bytes behind that
+-- a name's length stands in byte 432 of its block, and its bytes after that
 abbrev pub nameByte : ℕ
 nameByte = 432
 

@@ -76,10 +76,10 @@ pub fn root_fault(disk: Disk, image: &[u8]) -> u32
     11
 }
 
-// How many words behind the bitmap's key are 0.
+// How many words after the bitmap's key are 0.
 const UNUSED: usize = 25;
 
-// Whether the unused words behind the bitmap's key are 0.
+// Whether the unused words after the bitmap's key are 0.
 fn unused_zero(image: &[u8], root: u32) -> bool
     requires { ⌜ Holds (now image) root ⌝ }
     ensures { λ r. ⌜ r ≡ allZero (now (image .entry)) root 80 25 ⌝ }

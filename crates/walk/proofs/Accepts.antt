@@ -1,4 +1,4 @@
--- The theorem `accepted-lawful`: the walk accepts exactly if every reached node passes its tests and, of blocks and kinds alone, every block is
+-- The theorem `accepted-lawful`: the walk accepts if and only if every reached node passes its tests and, of blocks and kinds alone, every block is
 -- owned once. `TreeFine` asks the same of a tree, where the root's w78 is not asked. Assumes nothing.
 use Prim.Native.Nat.{ℕ, _+_, _-_, _<_}
 use mathlib.Core.Path.{_≡_, refl, sym, ap, ap₂, _∙_}

@@ -14,7 +14,7 @@ use Rattle.volume.specs.Law.{after, chainKey}
 use Rattle.walk.specs.Nodes.{twin}
 
 module _ (s : List ℕ) where
-  -- behind a block stands what its w124 names, and behind the end nothing
+  -- after a block stands what its w124 names, and after the end nothing
   pub after-some : (k : ℕ) → k ≢ 0 → after s k ≡ wordOf s k 124
   unfolding after
   after-some zero h = absurd (h refl)

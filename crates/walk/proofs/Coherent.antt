@@ -36,7 +36,7 @@ module _ (d : Disk) (s : List ℕ) where
     abbrev n : ℕ
     n = here d s h m
 
-    -- the list block behind b
+    -- the list block after b
     behind-coherent : (j : ℕ) → q ≡ j → Spread d s h j b m c → wordOf s b 126 ≢ 0 → Coherent (list (wordOf s b 126) h (m + n) (before s b c n))
     behind-coherent zero f p w = absurd (w (p .0 .more .1 (omega (arith, e, f))))
     behind-coherent (suc j) f p w =

@@ -4,9 +4,9 @@
 pub mod Lists
 -- what stands among the nodes that a node leads to
 pub mod Nodes
--- a node passes its tests exactly if its block is as the law says
+-- a node passes its tests if and only if its block is as the law says
 pub mod Passes
--- `accepted-lawful`: the walk accepts exactly if every node passes, and every block is owned once
+-- `accepted-lawful`: the walk accepts if and only if every node passes, and every block is owned once
 pub mod Accepts
 -- places of a chain, and names that stand twice on one
 pub mod Chains

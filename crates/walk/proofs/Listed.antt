@@ -1,4 +1,4 @@
--- The nodes that a header or a list block leads to: its data blocks are as the law says exactly if each of their nodes is (`run-listed`).
+-- The nodes that a header or a list block leads to: its data blocks are as the law says if and only if each of their nodes is (`run-listed`).
 -- Assumes nothing.
 use Prim.Native.Nat.{ℕ, zero, suc, _+_}
 use mathlib.Core.Path.{refl, sym, subst}

@@ -99,7 +99,7 @@ module _ (d : Disk) (s : List ℕ) (h : ℕ) where
   header-counts : fileFault d s h ≡ 0 → Lists s h (blocksOf d s h - 0)
   header-counts e = let y : blocksOf d s h - 0 ≡ blocksOf d s h = omega arith in rw y (file-passed d s h e .1)
 
-  -- what the header leads to behind its data blocks
+  -- what the header leads to after its data blocks
   pub header-next : fileFault d s h ≡ 0 → listing (wordOf s h 126) h (0 + keysHere (blocksOf d s h - 0)) (before s h h (keysHere (blocksOf d s h - 0))) ≡ nextList s h h 0
   header-next e = linked-next d s h h 0 h (header-counts e)
 

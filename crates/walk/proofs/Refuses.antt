@@ -89,7 +89,7 @@ module _ (d : Disk) (s : List ℕ) where
     alone-twin : (p : ℕ) → (Doubled d s k head p → ⊥) → twin d s k head p ≡ false
     alone-twin p h = twin-none s d k head p (λ q l e. h (q, l, same-map d _ _ e))
 
-  -- ---- a node's tests give v exactly if it breaks a rule with that number
+  -- ---- a node's tests give v if and only if it breaks a rule with that number
 
   entry-says : (k t i p v : ℕ) → v ≢ 0 → hangsFault d s k t i p ≡ v → NodeBreaks d s (entry k t i p) v
   unfolding hangsFault pick never

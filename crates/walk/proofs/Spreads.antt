@@ -1,5 +1,5 @@
--- A file as the walk meets it: each block that lists keys, then its data blocks, then the list block behind it (`Spread`). A file is as the law
--- says exactly if it is so spread (`file-spreads`). Assumes nothing.
+-- A file as the walk meets it: each block that lists keys, then its data blocks, then the list block after it (`Spread`). A file is as the law
+-- says if and only if it is so spread (`file-spreads`). Assumes nothing.
 use Prim.Native.Nat.{ℕ, zero, suc, _+_, _-_, _*_, _≤_}
 use mathlib.Core.Path.{_≡_, refl, sym, ap, ap₂, _∙_}
 use mathlib.Core.Logic.{inl, inr, _↔_}
@@ -48,7 +48,7 @@ module _ (d : Disk) (s : List ℕ) (h : ℕ) where
       let w = run-append (suc m) x n xs ys (omega arith) in
       ((λ r. let t = w .0 (r .1) in ((r .0, t .0), t .1)), (λ r. (r .0 .0, w .1 (r .0 .1, r .1))))
 
-  -- the law's two rules of data blocks, for those behind the first m, of which c is the last
+  -- the law's two rules of data blocks, for those after the first m, of which c is the last
   abbrev Numbered : ℕ → List ℕ → Type 0
   Numbered m ks = (i k n : ℕ) → n ≡ suc (m + i) → At i k ks → DataBlock d s h n k
 
@@ -71,9 +71,9 @@ module _ (d : Disk) (s : List ℕ) (h : ℕ) where
       blocks b zero x n q a = let f : n ≡ suc m = omega arith in rw (f, a) (r .0 .0)
       blocks b (suc i) x n q a = b i x n (omega arith) a
 
-  -- ---- a block that lists keys, and the q list blocks behind it
+  -- ---- a block that lists keys, and the q list blocks after it
 
-  -- how many keys a block lists that comes behind m data blocks
+  -- how many keys a block lists that comes after m data blocks
   abbrev pub here : ℕ → ℕ
   here m = keysHere (blocksOf d s h - m)
 
@@ -96,7 +96,7 @@ module _ (d : Disk) (s : List ℕ) (h : ℕ) where
   abbrev keys : ℕ → ℕ → ℕ → List ℕ
   keys q b r = keysFrom s r (b ∷ listsFrom s b q)
 
-  -- the keys of one block, and those behind
+  -- the keys of one block, and those after
   run-here : (m c b r : ℕ) (ys : List ℕ) → r ≡ N - m → Run m c (keysDown s b 0 (keysHere r) ++ ys) ↔ (Run m c (keysDown s b 0 (here m)) × Run (m + here m) (before s b c (here m)) ys)
   run-here m c b r ys e =
       let f : keysHere r ≡ here m = ap keysHere e in

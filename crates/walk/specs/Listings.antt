@@ -1,4 +1,4 @@
--- A block that lists data blocks of a file, as code passes it on: what it may take for granted of it, its keys, and the link behind them.
+-- A block that lists data blocks of a file, as code passes it on: what it may take for granted of it, its keys, and the link after them.
 use Prim.Native.Nat.{ℕ, _+_, _-_, _≤_, _<_}
 use mathlib.Core.Path.{_≡_}
 use mathlib.Core.Logic.{_≢_}
@@ -22,7 +22,7 @@ pub record Listing (d : Disk) (s : List ℕ) (b : Lister) : Type 0 where
 abbrev pub keysIn : Disk → List ℕ → Lister → ℕ
 keysIn d s b = keysHere (blocksOf d s (b .header) - b .done)
 
--- where block k of file h, with m data blocks before its own, leads to a list block, that comes behind 72 more
+-- where block k of file h, with m data blocks before its own, leads to a list block, that comes after 72 more
 abbrev pub nextList : List ℕ → ℕ → ℕ → ℕ → List Node
 nextList s h k m = listing (wordOf s k 126) h (m + slots) (keyWord s k 71)
 

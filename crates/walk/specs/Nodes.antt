@@ -70,7 +70,7 @@ keyNodes s h b m c i (suc n) = datum (keyWord s b i) h (suc (m + i)) (before s b
 abbrev pub listing : ℕ → ℕ → ℕ → ℕ → List Node
 listing k h m c = linked k (λ k. list k h m c)
 
--- what block b lists: n data blocks, then the list block behind it
+-- what block b lists: n data blocks, then the list block after it
 abbrev pub listedBy : List ℕ → ℕ → ℕ → ℕ → ℕ → ℕ → List Node
 listedBy s h b m c n = keyNodes s h b m c 0 n ++ listing (wordOf s b 126) h (m + n) (before s b c n)
 
@@ -96,7 +96,7 @@ unfoldable pub twin : Disk → List ℕ → ℕ → ℕ → ℕ → Bool
 twin d s k head zero = false
 twin d s k head (suc p) = pick (same d (nameOf s (chainKey s head p)) (nameOf s k)) true (twin d s k head p)
 
--- a key lies behind the boot blocks, in the volume
+-- a key lies after the boot blocks, in the volume
 abbrev pub keyFault : Disk → ℕ → ℕ
 keyFault d k = must (inRange d k) 5
 

@@ -46,7 +46,7 @@ total-same s t at (suc n) h =
     ap₂ _+_ (total-same s t at n (λ k p q. h k p (omega arith)))
     (wordAt-same-bytes s t (at + 4 * n) (λ k p q. h k (omega arith) (omega arith)))
 
--- a store before or behind the words leaves their sum
+-- a store before or after the words leaves their sum
 pub total-apart : (s : List ℕ) (at n t w : ℕ) → (t + 4 ≤ at) ⊎ (at + 4 * n ≤ t) → total (setWord s t w) at n ≡ total s at n
 total-apart s at n t w o =
     total-same (setWord s t w) s at n
