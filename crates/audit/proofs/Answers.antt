@@ -17,7 +17,8 @@ use Rattle.walk.specs.declared.Counts.{Counts}
 use Rattle.walk.specs.Nodes.{walkOf}
 use Rattle.walk.proofs.Decides.{tree-decided}
 use Rattle.walk.proofs.Reports.{walked-report}
-use Rattle.walk.proofs.Refuses.{refused-first, refused-cause}
+use Rattle.walk.proofs.Refuses.{refused-first}
+use Rattle.walk.proofs.Causes.{refused-cause}
 use Rattle.audit.specs.declared.bitmap.Mapped.{Mapped}
 use Rattle.audit.specs.declared.bitmap.Mapped.the-variants.{Right, Wrong}
 use Rattle.audit.specs.declared.audit.Report.{Report}

@@ -13,14 +13,15 @@ use Rattle.volume.specs.declared.disk.Disk.{Disk}
 use Rattle.volume.specs.Disks.{imageBytes, claimBytes, tagOf}
 use Rattle.volume.specs.Law.{Tree, Valid}
 use Rattle.walk.specs.Refusals.{FirstRefusal, Cause}
-use Rattle.walk.proofs.Refuses as walks
+use Rattle.walk.proofs.Refuses.{refused-first}
+use Rattle.walk.proofs.Causes as causes
 use Rattle.audit.specs.Audits.{walkRefusals, auditRefusals, refuse, auditOf}
 use Rattle.audit.specs.Verdicts.{FirstWrong, Opened, Test, size, area, tag, walk, bits, testOf, Says}
 use Rattle.audit.proofs.Answers.{answers-exactly}
 use Rattle.audit.proofs.Numbers.{Numbered, walk-number, numbered, by-walk}
 
 caused : (d : Disk) (s : List ℕ) (v k : ℕ) → FirstRefusal d s v k → Cause d s v k
-caused d s v k w = walks.refused-cause d s v k (walks.refused-first d s v k .1 w)
+caused d s v k w = causes.refused-cause d s v k (refused-first d s v k .1 w)
 
 module _ (d : Disk) (s : List ℕ) (n v k : ℕ) where
   pub refused-exactly : (auditOf d s n ≡ refuse v k) ↔ Says d s n v k (testOf v)

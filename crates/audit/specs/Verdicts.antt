@@ -74,7 +74,7 @@ pub data Test : Type 0 where
 abbrev pub testOf : ℕ → Test
 testOf v = pick (eqb v 1) size (pick (eqb v 2) area (pick (eqb v 3) tag (pick (eqb v 17) bits walk)))
 
--- of an image s and a claim area of n bytes: what it says that a test refuses with v at k
+-- of an image s and a claim area of n bytes: when a test refuses with v at place k
 abbrev pub Says : Disk → List ℕ → ℕ → ℕ → ℕ → Test → Type 0
 Says d s n v k size = (k ≡ 0) × (length s ≢ imageBytes d)
 Says d s n v k area = (k ≡ 0) × (length s ≡ imageBytes d) × (n < claimBytes d)

@@ -16,8 +16,8 @@ use Rattle.lookup.specs.Search.{placeKey}
 
 -- ---- the places of one chain: that on which directory t would have a name
 
--- place p has an entry that passes its tests: its key lies in the volume, no more entries come before it than a chain may have, and it is
--- as the law asks of an entry on that chain of t
+-- place p has an entry that passes its tests: its key lies in the volume, fewer entries come before it than a chain may have, and it is as
+-- the law asks of an entry on that chain of t
 pub record Tests (d : Disk) (s : List ℕ) (t : ℕ) (name : List ℕ) (p : ℕ) : Type 0 where
   pub some : placeKey d s t name p ≢ 0
   pub inside : Inside d (placeKey d s t name p)

@@ -17,9 +17,10 @@ use Rattle.reach.proofs.Runs.{Run, end, stop, enter, run-runs, runs-run
 module _ {Node S : Type 0} (G : Graph Node S) where
   open References (G .references) using (root, key, refs)
 
-  kept : (n : Node) → G .before n ≡ 0 → G .after n ≡ 0 → pruned G .references .refs n ≡ refs n
+  -- a node that passes refers to what it refers to
+  pub pruned-refs : (n : Node) → G .before n ≡ 0 → G .after n ≡ 0 → pruned G .references .refs n ≡ refs n
   unfolding pick first
-  kept n b a = rw (eq-eqb (first (G .before n) (G .after n)) 0 (both b a)) refl
+  pruned-refs n b a = rw (eq-eqb (first (G .before n) (G .after n)) 0 (both b a)) refl
     where
       both : G .before n ≡ 0 → G .after n ≡ 0 → first (G .before n) (G .after n) ≡ 0
       both b a = rw b a
@@ -42,7 +43,7 @@ module _ {Node S : Type 0} (G : Graph Node S) where
   runs-pruned (stop {c = c} {n = n} v e) = stop v (same-verdict c n ∙ e)
   runs-pruned (enter {c = c} {s = s} {n = n} {ns = ns} {r = r} e d) =
       let p = passed G c n e in
-      let k = kept n (p .0) (p .2) in
+      let k = pruned-refs n (p .0) (p .2) in
       enter {r = r} (same-verdict c n ∙ e) (subst (λ l. Run (pruned G) (set c (key n) 1) (G .note n s) (l ++ ns) r) (sym k) (runs-pruned d))
 
   pub pruned-same : (N : ℕ) (s : S) → audit (pruned G) N s ≡ audit G N s

@@ -13,7 +13,7 @@ use Rattle.volume.specs.Names.{nameOf, nameGood, slotOf}
 use Rattle.volume.specs.Files.{sizeOf, blocksOf, keysOf}
 use Rattle.volume.specs.Law.{OneBitmap, Valid, Entry, Lists, ListBlock, DataBlock}
 
--- ---- a key: 5 if it is not one
+-- ---- a key: 5 if it lies outside the volume
 
 -- it lies after the boot blocks, in the volume
 pub record Inside (d : Disk) (k : ℕ) : Type 0 where

@@ -40,11 +40,12 @@ pub record Entry (s : List ℕ) (k : ℕ) : Type 0 where
   pub own : wordOf s k 1 ≡ k
   pub name : nameGood s k ≡ true
 
--- the key at a place of the chain that begins with key k: 0 after its end
+-- the key after entry k on its chain; after 0 there is none
 unfoldable pub after : List ℕ → ℕ → ℕ
 after s zero = 0
 after s (suc k) = wordOf s (suc k) 124
 
+-- the key at a place of the chain that begins with key k; 0 after its end
 unfoldable pub chainKey : List ℕ → ℕ → ℕ → ℕ
 chainKey s k zero = k
 chainKey s k (suc p) = after s (chainKey s k p)
@@ -92,7 +93,7 @@ pub record File (d : Disk) (s : List ℕ) (h : ℕ) : Type 0 where
   -- w4 of the header and of each data block is the key of the data block that follows, and 0 in the last
   pub following : map (λ k. wordOf s k 4) (h ∷ keysOf d s h) ≡ keysOf d s h ++ (0 ∷ [])
 
--- ---- the tree: everything but what the root and the bitmap block say of the bitmap
+-- ---- the tree: everything but w78 and the bits
 
 pub record Tree (d : Disk) (s : List ℕ) : Type 0 where
   pub long : length s ≡ imageBytes d

@@ -8,6 +8,7 @@ use mathlib.Core.List.{List, [], _∷_, _++_, map}
 use native.Mathlib.Nat.{sub-zero}
 use native.Mathlib.Omega.{arith}
 use lib.ListN.{length}
+use borrow.Author.Tests.{ne-eqb}
 use Rattle.answers.proofs.Clashes.{impossible}
 use Rattle.reach.specs.References.{At, _∈_, Reached}
 use Rattle.reach.proofs.Lists.{at-in, at-one, at-map}
@@ -26,7 +27,6 @@ use Rattle.walk.specs.Refusals.{Hung, FileAt, KindRight, Cause, number-4
 use Rattle.walk.proofs.Lists.{at-left, at-end}
 use Rattle.walk.proofs.Passes.{InTree, hung-passed}
 use Rattle.walk.proofs.Accepts.{node-reached}
-use Rattle.walk.proofs.Places.{chain-apart}
 use Rattle.walk.proofs.Spreads.{spread-first, file-spreads}
 use Rattle.walk.proofs.Lawful.{held-by, tree-fine}
 
@@ -37,7 +37,7 @@ module _ (d : Disk) (s : List ℕ) (v : Tree d s) where
   unfolding faultOf
   node-kind root h = record { type = h .1 .type; kind = h .1 .kind }
   node-kind (bitmap k) h = tt
-  node-kind (entry k t i p) h = let e = entry-passed d s k t i (hung-passed d s k t i p h .0) .entry in record { type = e .type; kind = e .kind }
+  node-kind (entry k t i p) h = let e = entry-passed d s k t i (hung-passed d s k t i p h .0) .entry in inl (record { type = e .type; kind = e .kind })
   node-kind (list k b m c) h = let e = list-passed s k b (blocksOf d s b - m) h .1 in record { type = e .type; kind = e .kind }
   node-kind (datum k b n c) h = data-passed d s k b n (wordOf s c 4) h .1 .type
 
@@ -60,7 +60,7 @@ module _ (d : Disk) (s : List ℕ) (v : Tree d s) where
   -- ---- a file
 
   file : (h : ℕ) → FileAt d s h → File d s h
-  file h f = v .files h (f .reached) (f .kind)
+  file h f = v .files h (f .reached) (ne-eqb (wordOf s h 127) 2 (λ e. omega (arith, e, f .kind)))
 
   header : (h : ℕ) → FileAt d s h → HeaderSound d s h
   header h f =
@@ -100,9 +100,7 @@ module _ (d : Disk) (s : List ℕ) (v : Tree d s) where
   cause-breaks u n k (number-11 (inl e) h q) = let w = v .top .name in let z = sym (ap (λ x. nameGood s x) e) in impossible cc
   cause-breaks u n k (number-11 (inr r) h q) = let w = v .entries k r .name in impossible cc
   cause-breaks u n k (number-12 t i g h q) = h (held-by d s v t (g .holder) .slot i k (g .hangs))
-  cause-breaks u n k (number-13 t i l g g′ o e q) =
-      let f = held-by d s v t (g .holder) .names i i l k g′ (g .hangs) e in
-      chain-apart d s t i (g .holder) (g .hangs .slot) (v .owned) (g′ .place) (g .hangs .place) o (λ z. g .hangs .some (sym (g .hangs .there) ∙ z)) (g′ .there ∙ f ∙ sym (g .hangs .there))
+  cause-breaks u n k (number-13 t i l g g′ o w e q) = w (held-by d s v t (g .holder) .names i i l k g′ (g .hangs) e)
   cause-breaks u n k (number-14 f h q) = h (header k f)
   cause-breaks u n k (number-14-list b i f a h q) = h (file b f .listing (suc i) k a)
   cause-breaks u n k (number-15 b i c f a h q) = h (ties b i c k f (a .here) (a .before))

@@ -36,7 +36,9 @@ pub mod Standing
 pub mod Tallies
 -- `walked-report`: what an accepted walk hands back
 pub mod Reports
--- `refused-first`, `refused-cause`: when a refusal is given, and what it says of the volume
+-- `refused-first`: when a refusal is given
 pub mod Refuses
+-- `refused-cause`: what it says of the volume
+pub mod Causes
 -- `cause-breaks`: what it says is no volume
 pub mod Broken

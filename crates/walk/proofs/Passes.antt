@@ -2,15 +2,16 @@
 -- node passes where the root's w78 is not asked. Assumes nothing.
 use Prim.Native.Nat.{ℕ, _≤_, _<_}
 use mathlib.Core.Path.{_≡_, refl, sym, _∙_}
+use mathlib.Core.Logic.{_⊎_, inl, inr}
 use mathlib.Core.Bool.{Bool, true, false}
 use mathlib.Core.List.{List}
-use borrow.Author.Tests.{lt-ltb, le-ltb}
+use borrow.Author.Tests.{lt-ltb, le-ltb, eqb-false}
 use Rattle.answers.specs.Tests.{pick, never}
 use Rattle.answers.proofs.Tests.{first-zero, must-passed, must-passes, never-passed, never-passes, pick-true, pick-false}
 use Rattle.volume.specs.declared.disk.Disk.{Disk}
 use Rattle.volume.specs.Disks.{firstKey, inRange, rootOf}
-use Rattle.volume.specs.Blocks.{slotWord, sumOf, directory}
-use Rattle.volume.specs.Law.{Root, Valid}
+use Rattle.volume.specs.Blocks.{slotWord, wordOf, sumOf, directory}
+use Rattle.volume.specs.Law.{Root, Valid, Entry}
 use Rattle.volume.specs.Rules.{rootFault, mapFault, entryFault, fileFault}
 use Rattle.volume.proofs.Sizes.{range-is}
 use Rattle.volume.proofs.Passes.{_&_, root-passed, root-passes, map-passes, bitmap-passed, entry-passed, list-passed, data-passed}
@@ -44,6 +45,14 @@ module _ (d : Disk) where
           file : (b : Bool) → directory s k ≡ b → pick (directory s k) 0 (fileFault d s k) ≡ 0
           file true e = pick-true (directory s k) _ _ _ e refl
           file false e = pick-false (directory s k) _ _ _ e refl ∙ h .2 e
+
+    -- an entry that is no directory is a file
+    pub file-kind : (k : ℕ) → Entry s k → directory s k ≡ false → wordOf s k 127 ≡ 0xFFFFFFFD
+    file-kind k h e = go (h .kind)
+      where
+        go : (wordOf s k 127 ≡ 2) ⊎ (wordOf s k 127 ≡ 0xFFFFFFFD) → wordOf s k 127 ≡ 0xFFFFFFFD
+        go (inl q) = absurd (eqb-false _ _ e q)
+        go (inr q) = q
 
     -- what a node passes in a tree: the root's w78 is not asked
     abbrev pub InTree : Node → Type 0

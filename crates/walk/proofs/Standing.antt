@@ -18,12 +18,12 @@ use Rattle.volume.specs.References.{Kind, to, references}
 use Rattle.volume.specs.Law.{chainKey, Lists}
 use Rattle.volume.specs.Breaks.{IsData}
 use Rattle.volume.proofs.Keys.{down-at, down-long}
-use Rattle.volume.proofs.Passes.{file-passed, list-passed}
+use Rattle.volume.proofs.Passes.{entry-passed, file-passed, list-passed}
 use Rattle.walk.specs.Nodes.{Node, root, bitmap, entry, list, datum, keyOf, bare, chained, slotNodes, before, keyNodes, listing, listed, contents, leadsTo, keyFault, faultOf, graph}
 use Rattle.walk.specs.Refusals.{Holder, FileAt}
 use Rattle.walk.proofs.Lists.{at-left, at-right, at-end}
 use Rattle.walk.proofs.Nodes.{in-linked, in-slots}
-use Rattle.walk.proofs.Passes.{in-tree, hung-passed}
+use Rattle.walk.proofs.Passes.{file-kind, in-tree, hung-passed}
 use Rattle.walk.proofs.Accepts.{refs-bare}
 use Rattle.walk.proofs.Chains.{chain-next}
 
@@ -166,11 +166,11 @@ module _ (d : Disk) (s : List ℕ) where
   unfolding chainKey
   slots-stood t o x h = let r = in-slots s t 0 slots x h in let l = r .1 in subst Stood (sym (r .2 .1)) (o, omega arith, refl, r .2 .0)
 
-  contents-stood : (k : ℕ) → Reached (references d s) (to Kind.entry k) → (b : Bool) → directory s k ≡ b → (b ≡ false → Lists s k (blocksOf d s k)) → (x : Node) → x ∈ contents d s k b → Stood x
+  contents-stood : (k : ℕ) → Reached (references d s) (to Kind.entry k) → (b : Bool) → directory s k ≡ b → (b ≡ false → (wordOf s k 127 ≡ 0xFFFFFFFD) × Lists s k (blocksOf d s k)) → (x : Node) → x ∈ contents d s k b → Stood x
   contents-stood k r true e l = slots-stood k (inr (r, e))
   contents-stood k r false e l =
       let z : blocksOf d s k ≡ blocksOf d s k - 0 = omega arith in
-      listed-stood k k 0 k (record { reached = r; kind = e }) (header-tail k) (subst (Lists s k) z (l refl))
+      listed-stood k k 0 k (record { reached = r; kind = l refl .0 }) (header-tail k) (subst (Lists s k) z (l refl .1))
 
   leads-stood : (m : Node) → Reached (references d s) (bare d m) → faultOf d s m ≡ 0 → Stood m → (x : Node) → x ∈ leadsTo d s m → Stood x
   unfolding leadsTo faultOf
@@ -183,7 +183,7 @@ module _ (d : Disk) (s : List ℕ) where
       next = chain-next s (slotWord s t i) p (λ z. c .3 (sym (c .2) ∙ z)) ∙ ap (λ y. wordOf s y 124) (c .2)
 
       go : (x ∈ contents d s k (directory s k)) ⊎ (x ∈ chained (wordOf s k 124) t i (suc p)) → Stood x
-      go (inl a) = contents-stood k r (directory s k) refl (λ q. file-passed d s k (hung-passed d s k t i p e .2 q) .1) x a
+      go (inl a) = contents-stood k r (directory s k) refl (λ q. let h = hung-passed d s k t i p e in (file-kind d s k (entry-passed d s k t i (h .0) .entry) q, file-passed d s k (h .2 q) .1)) x a
       go (inr a) = let w = in-linked (wordOf s k 124) (λ k. entry k t i (suc p)) x a in subst Stood (sym (w .1)) (c .0, c .1, next, w .0)
   leads-stood (list k h m b) r e c x a = listed-stood h k m b (c .0) (c .2) (list-passed s k h _ e .2) x a
   leads-stood (datum k h n b) r e c x a = absurd a

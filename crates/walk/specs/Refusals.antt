@@ -5,9 +5,8 @@ use Prim.Native.Nat.{ℕ, suc, _-_, _*_, _<_}
 use mathlib.Core.Path.{_≡_}
 use mathlib.Core.Logic.{_≢_, _⊎_}
 use mathlib.Core.Bool.{true, false}
-use mathlib.Core.List.{List, _∷_, map}
+use mathlib.Core.List.{List, [], _∷_, _++_, map}
 use Rattle.reach.specs.References.{At, _∈_, Reached}
-use Rattle.reach.specs.Visits.{Visits}
 use Rattle.reach.specs.Law.{Twice}
 use Rattle.volume.specs.declared.disk.Disk.{Disk}
 use Rattle.volume.specs.Disks.{rootOf}
@@ -17,7 +16,7 @@ use Rattle.volume.specs.Files.{blocksOf, listsOf}
 use Rattle.volume.specs.References.{Kind, Ref, to, references}
 use Rattle.volume.specs.Law.{OneBitmap, Valid, chainKey, Hangs, Lists, ListBlock}
 use Rattle.volume.specs.Breaks.{Inside, RootKind, RootFixed, RootSound, RootBreaks, MapBreaks, BitmapBreaks, EntryKind, Link, EntryTies, Placed, EntryBreaks, HeaderSound, HeaderBreaks, ListKind, ListBreaks, IsData, DataTies, DataBreaks}
-use Rattle.walk.specs.Nodes.{Node, root, bitmap, entry, list, datum, keyOf, graph}
+use Rattle.walk.specs.Nodes.{Node, root, bitmap, entry, list, datum, keyOf, leadsTo}
 
 -- ---- when it is given, exactly
 
@@ -36,18 +35,24 @@ NodeBreaks d s (entry k t i p) v =
 NodeBreaks d s (list k h m c) v = ListBreaks s k h (blocksOf d s h - m) v
 NodeBreaks d s (datum k h n c) v = DataBreaks d s k h n (wordOf s c 4) v
 
--- of a node that comes after those seen: its key is none, or it is a block's that was seen, or it breaks a rule of its kind
+-- of a node that comes after those seen: its key lies outside the volume, or it is a block's that was seen, or it breaks a rule of its kind
 pub data Fails (d : Disk) (s : List ℕ) (seen : List Node) (n : Node) (v : ℕ) : Type 0 where
   outside : (Inside d (keyOf d n) → ⊥) → v ≡ 5 → Fails d s seen n v
   again : Inside d (keyOf d n) → keyOf d n ∈ map (keyOf d) seen → v ≡ 6 → Fails d s seen n v
   breaks : Inside d (keyOf d n) → ¬ (keyOf d n ∈ map (keyOf d) seen) → NodeBreaks d s n v → Fails d s seen n v
+
+-- the walk comes to where these nodes are seen, the latest first, and these are to do, the next first: a node that does not fail is seen, and what
+-- it leads to comes before the rest
+pub data Visited (d : Disk) (s : List ℕ) : List Node → List Node → Type 0 where
+  start : Visited d s [] (root ∷ [])
+  step : {seen todo : List Node} {n : Node} → Visited d s seen (n ∷ todo) → ((v : ℕ) → Fails d s seen n v → ⊥) → Visited d s (n ∷ seen) (leadsTo d s n ++ todo)
 
 -- k is the key of the first node, in the order of the walk, that fails
 pub record FirstRefusal (d : Disk) (s : List ℕ) (v k : ℕ) : Type 0 where
   pub seen : List Node
   pub node : Node
   pub todo : List Node
-  pub visits : Visits (graph d s) seen (node ∷ todo)
+  pub visited : Visited d s seen (node ∷ todo)
   pub fails : Fails d s seen node v
   pub keyed : keyOf d node ≡ k
 
@@ -66,13 +71,13 @@ pub record Hung (d : Disk) (s : List ℕ) (t i k : ℕ) : Type 0 where
 -- h is the header of a reached file
 pub record FileAt (d : Disk) (s : List ℕ) (h : ℕ) : Type 0 where
   pub reached : Reached (references d s) (to Kind.entry h)
-  pub kind : directory s h ≡ false
+  pub kind : wordOf s h 127 ≡ 0xFFFFFFFD
 
--- w0 and w127 are those of the kind that a reference asks for
+-- w0 and w127 are those of the kind that a reference asks for; an entry may be a link, which 9 is for
 abbrev pub KindRight : List ℕ → ℕ → Kind → Type 0
 KindRight s k Kind.root = RootKind s k
 KindRight s k Kind.bitmap = Unit {0}
-KindRight s k Kind.entry = EntryKind s k
+KindRight s k Kind.entry = EntryKind s k ⊎ Link s k
 KindRight s k Kind.list = ListKind s k
 KindRight s k Kind.datum = wordOf s k 0 ≡ 8
 
@@ -97,8 +102,8 @@ pub data Cause (d : Disk) (s : List ℕ) (v k : ℕ) : Type 0 where
   number-11 : (k ≡ rootOf d) ⊎ Reached (references d s) (to Kind.entry k) → nameGood s k ≡ false → v ≡ 11 → Cause d s v k
   -- `Directory.slot`
   number-12 : (t i : ℕ) → Hung d s t i k → slotOf d (nameOf s k) ≢ i → v ≡ 12 → Cause d s v k
-  -- `Directory.names`: an entry earlier on the chain of that directory has the same folded name
-  number-13 : (t i l : ℕ) (h : Hung d s t i k) (g : Hangs s t i l) → g .place < h .hangs .place → folded d (nameOf s l) ≡ folded d (nameOf s k) → v ≡ 13 → Cause d s v k
+  -- `Directory.names`: another entry, earlier on the chain of that directory, has the same folded name
+  number-13 : (t i l : ℕ) (h : Hung d s t i k) (g : Hangs s t i l) → g .place < h .hangs .place → l ≢ k → folded d (nameOf s l) ≡ folded d (nameOf s k) → v ≡ 13 → Cause d s v k
   -- `File.size`, `File.listing` or, of an empty file, `File.following`; of list block i of a file `File.listing`
   number-14 : FileAt d s k → (HeaderSound d s k → ⊥) → v ≡ 14 → Cause d s v k
   number-14-list : (h i : ℕ) → FileAt d s h → At i k (listsOf d s h) → (Lists s k (blocksOf d s h - slots * suc i) → ⊥) → v ≡ 14 → Cause d s v k
