@@ -24,7 +24,7 @@ use Rattle.lookup.specs.Paths.{components}
 use Rattle.lookup.specs.Search.{placeFault}
 use Rattle.lookup.specs.Lookup.{refuse, findOf}
 use Rattle.lookup.specs.Trails.{Trail}
-use Rattle.lookup.specs.Verdicts.{Opened, keyIn, IsFile, Stands, Missing, Used, Refuses, number-1, number-18, number-3, of-root, number-5, number-6, of-entry, number-19, number-20}
+use Rattle.lookup.specs.Verdicts.{Opened, keyIn, IsFile, Stands, Missing, AsDirectory, Refuses, number-1, number-18, number-3, of-root, number-5, number-6, of-entry, number-19, number-20}
 use Rattle.lookup.proofs.Chains.{faultAt}
 use Rattle.lookup.proofs.Places.{places-few}
 use Rattle.lookup.proofs.Trails.{holds, file, used, missing, fault}
@@ -142,10 +142,10 @@ module _ (d : Disk) (s path : List ℕ) where
       go (number-20 h a) = absurd (omega arith)
 
   -- 20 at component i if and only if it is a file with components after it.
-  pub used-exactly : (i : ℕ) → (findOf d s path ≡ refuse 20 i) ↔ Used d s path i
+  pub used-exactly : (i : ℕ) → (findOf d s path ≡ refuse 20 i) ↔ AsDirectory d s path i
   used-exactly i = ((λ e. go (refused-exactly 20 i .0 e)), (λ h. refused-exactly 20 i .1 (number-20 h refl)))
     where
-      go : Refuses d s path 20 i → Used d s path i
+      go : Refuses d s path 20 i → AsDirectory d s path i
       go (number-1 h a b) = absurd (omega arith)
       go (number-18 h f a) = absurd (omega arith)
       go (number-3 h p u a b) = absurd (omega arith)

@@ -88,7 +88,7 @@ pub record Missing (d : Disk) (s path : List ℕ) (i : ℕ) : Type 0 where
   pub component : i ≡ length (comes .front)
 
 -- component i is a file, and not the last
-pub record Used (d : Disk) (s path : List ℕ) (i : ℕ) : Type 0 where
+pub record AsDirectory (d : Disk) (s path : List ℕ) (i : ℕ) : Type 0 where
   pub opened : Opened d s path
   pub comes : Reaches d s path
   pub place : ℕ
@@ -110,4 +110,4 @@ pub data Refuses (d : Disk) (s path : List ℕ) (v k : ℕ) : Type 0 where
   -- 7 to 12: the entry breaks the law as that number says
   of-entry : (h : Stands d s path k) → Inside d k → h .place < chainLimit d → EntryBreaks d s k (h .comes .parent) (slotOf d (h .comes .name)) v → Refuses d s path v k
   number-19 : Missing d s path k → v ≡ 19 → Refuses d s path v k
-  number-20 : Used d s path k → v ≡ 20 → Refuses d s path v k
+  number-20 : AsDirectory d s path k → v ≡ 20 → Refuses d s path v k

@@ -13,7 +13,7 @@ use Rattle.program.specs.declared.reader.Mode.the-variants.{Begin, NameL
 use Rattle.program.specs.declared.reader.Next.the-variants.{On, Bad}
 use Rattle.program.specs.Header.{totalOf, sizeOf, startAt}
 use Rattle.program.specs.Reader.{start, stepOf}
-use Rattle.program.specs.Verdicts.{Unwhole, Whole, HeadWord, Headed}
+use Rattle.program.specs.Verdicts.{BadLength, GoodLength, HeadWord, Headed}
 
 -- the reader comes to byte `at` with the cursor c: it has taken every word of the hunks before that byte
 pub data Comes (file : List ℕ) : Cursor → ℕ → Type 0 where
@@ -56,6 +56,6 @@ Refuses t size c w v (Skip n a) = ⊥
 -- any refusal, by the reader: `Refusing.refused-exactly` turns it into `Says`
 abbrev pub Because : List ℕ → Refusal → Type 0
 Because file f =
-    (Unwhole file × (f ≡ refusal 30 0))
-    ⊎ (Whole file × HeadWord file f)
-    ⊎ (Whole file × Headed file × (HunkWord file f ⊎ Missing file f))
+    (BadLength file × (f ≡ refusal 30 0))
+    ⊎ (GoodLength file × HeadWord file f)
+    ⊎ (GoodLength file × Headed file × (HunkWord file f ⊎ Missing file f))

@@ -29,7 +29,7 @@ use Rattle.program.specs.Check.{refuse, endedOf, walkOf, and, checkOf}
 use Rattle.program.specs.Sane.{Sound}
 use Rattle.program.specs.Page.{Hunk, storedWords, OffsetFits, Holds, total}
 use Rattle.program.specs.Begun.{PartBegun, Begun, aPart, aCount, aNumber, anOffset, aSymbol, symbolWord, debugLength, debugWord, first, nameLength, nameWord, aBody, bodyLength, bodyWord, afterBody, PartWrong, Wrong}
-use Rattle.program.specs.Verdicts.{WrongWord, MoreWords, MissingWord, Says, Unwhole, Whole, OfHeader, Fine, faultAt, HeadFails, HeadWord, Headed}
+use Rattle.program.specs.Verdicts.{WrongWord, MoreWords, MissingWord, Says, BadLength, GoodLength, OfHeader, Fine, faultAt, HeadFails, HeadWord, Headed}
 use Rattle.program.proofs.Coming.{HunkWord, Missing, Refuses, Because}
 use Rattle.program.proofs.Answers.{not-refused, not-failed}
 use Rattle.program.proofs.Heading.{each-fine, heads-pass}
@@ -98,7 +98,7 @@ all-fine file p q j h = go (decLt j 5)
     go (no l) = each-fine file (totalOf file) 5 q j (omega arith) h
 
 module _ (file : List ℕ) (f : Refusal) where
-  all-why : Whole file → (a b : Tested) → heads file 0 5 ≡ a → heads file 5 (totalOf file) ≡ b → and a (and b (walkOf file)) ≡ Refused f → Because file f
+  all-why : GoodLength file → (a b : Tested) → heads file 0 5 ≡ a → heads file 5 (totalOf file) ≡ b → and a (and b (walkOf file)) ≡ Refused f → Because file f
   all-why w (Failed r) b p q e = inr (inl (w, heads-why file f 5 0 (λ j l h. omega arith) (λ j h. absurd (omega arith)) (p ∙ ap Failed (sym (refused-same r f e)))))
   all-why w Passed (Failed r) p q e = inr (inl (w, heads-why file f (totalOf file) 5 (λ j l h. h) (λ j h. each-fine file 5 0 p j (omega arith) h) (q ∙ ap Failed (sym (refused-same r f e)))))
   all-why w Passed Passed p q e =
@@ -148,7 +148,7 @@ module _ (file : List ℕ) (f : Refusal) where
       go (no q) k = here (omega arith) (w .cause)
 
   -- a reader that comes there refuses there
-  walk-refuses : Whole file → Sound file → HunkWord file f ⊎ Missing file f → walkOf file ≡ Refused f
+  walk-refuses : GoodLength file → Sound file → HunkWord file f ⊎ Missing file f → walkOf file ≡ Refused f
   walk-refuses w s (inl c) =
       let r = comes-reads file (w .1) s (c .comes) in
       r .rest ∙ walk-bad file (c .at) (c .cursor) (wordAt file (c .at)) _ (w .1) (r .aligned) (c .there) refl refl (c .number) (c .refuses) ∙ ap Refused (sym (c .said))
@@ -160,7 +160,7 @@ module _ (file : List ℕ) (f : Refusal) where
       go (inl x) = absurd (c .unended (x .0))
       go (inr x) = x .1
 
-  whole-check : Whole file → checkOf file ≡ and (heads file 0 5) (and (heads file 5 (totalOf file)) (walkOf file))
+  whole-check : GoodLength file → checkOf file ≡ and (heads file 0 5) (and (heads file 5 (totalOf file)) (walkOf file))
   unfolding checkOf pick
   whole-check w = rw (ne-eqb _ _ (w .0), eq-eqb _ _ (w .1))
 
@@ -176,7 +176,7 @@ module _ (file : List ℕ) (f : Refusal) where
   unfolding checkOf pick
   why-check (inl u) = short (u .0) ∙ ap Refused (sym (u .1))
     where
-      short : Unwhole file → checkOf file ≡ refuse 30 0
+      short : BadLength file → checkOf file ≡ refuse 30 0
       short (inl h) = rw (eq-eqb _ _ h)
       short (inr h) = go (eqb (length file) 0)
         where

@@ -13,11 +13,11 @@ use Rattle.program.specs.Header.{totalOf, sizeOf, startAt, headFault}
 
 -- ---- 30: a length of 0, or one that is no multiple of 4
 
-abbrev pub Unwhole : List ℕ → Type 0
-Unwhole file = (length file ≡ 0) ⊎ (length file % 4 ≢ 0)
+abbrev pub BadLength : List ℕ → Type 0
+BadLength file = (length file ≡ 0) ⊎ (length file % 4 ≢ 0)
 
-abbrev pub Whole : List ℕ → Type 0
-Whole file = (length file ≢ 0) × (length file % 4 ≡ 0)
+abbrev pub GoodLength : List ℕ → Type 0
+GoodLength file = (length file ≢ 0) × (length file % 4 ≡ 0)
 
 -- ---- 31 to 34 in the header: word j is the first that is missing or wrong
 
@@ -105,6 +105,6 @@ pub record MissingWord (file : List ℕ) (f : Refusal) : Type 0 where
 
 abbrev pub Says : List ℕ → Refusal → Type 0
 Says file f =
-    (Unwhole file × (f ≡ refusal 30 0))
-    ⊎ (Whole file × HeadWord file f)
-    ⊎ (Whole file × Headed file × (WrongWord file f ⊎ MoreWords file f ⊎ MissingWord file f))
+    (BadLength file × (f ≡ refusal 30 0))
+    ⊎ (GoodLength file × HeadWord file f)
+    ⊎ (GoodLength file × Headed file × (WrongWord file f ⊎ MoreWords file f ⊎ MissingWord file f))

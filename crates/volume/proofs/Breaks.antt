@@ -17,9 +17,9 @@ use Rattle.volume.specs.Disks.{rootOf, fileLimit, inRange, firstKey}
 use Rattle.volume.specs.Blocks.{slots, wordOf, sumOf, directory}
 use Rattle.volume.specs.Names.{nameOf, nameGood, slotOf}
 use Rattle.volume.specs.Files.{heldOf, sizeOf, blocksOf}
-use Rattle.volume.specs.Law.{OneBitmap, Valid, Lists}
+use Rattle.volume.specs.Law.{RootKind, RootFixed, OneBitmap, Valid, EntryKind, Lists, ListKind}
 use Rattle.volume.specs.Rules.{rootWords, rootFault, allZero, mapFault, bitmapFault, entryWords, entryName, entryFault, countRules, emptyRules, fileFault, listFault, dataLinks, dataFault}
-use Rattle.volume.specs.Breaks.{Inside, RootKind, RootFixed, RootSound, RootBreaks, root-7, root-8, root-4, root-11, MapBreaks, map-16, BitmapBreaks, bitmap-7, EntryKind, EntryTies, Placed, EntryBreaks, entry-7, entry-8, entry-9, entry-10, entry-11, entry-12, HeaderSound, HeaderBreaks, header-14, ListKind, ListSound, ListBreaks, list-7, list-8, list-10, list-14, DataTies, DataBreaks, data-7, data-8, data-15}
+use Rattle.volume.specs.Breaks.{Inside, RootSound, RootBreaks, root-7, root-8, root-4, root-11, MapBreaks, map-16, BitmapBreaks, bitmap-7, EntryTies, Placed, EntryBreaks, entry-7, entry-8, entry-9, entry-10, entry-11, entry-12, HeaderSound, HeaderBreaks, header-14, ListSound, ListBreaks, list-7, list-8, list-10, list-14, DataTies, DataBreaks, data-7, data-8, data-15}
 use Rattle.volume.proofs.Sizes.{range-is}
 use Rattle.volume.proofs.Checks.{is, be, is-not, be-not, test-at, _&_, zeros-there, zeros-found, Test, broken, breaks, down, fall, on, last, word-test, sum-test, name-test, bad-name, not-good, some, among}
 
@@ -230,7 +230,7 @@ module _ (d : Disk) (s : List ℕ) (k t i : ℕ) where
       (λ c. down known-test _ z (λ n. entry-8 a (λ x. n (x .kind)) (λ x. c (x .kind)))
       (λ n. down ties-test _ z (entry-10 a (record { type = b; kind = n }))
       (λ o. down (name-test s k) _ z (λ g. entry-11 a (record { type = b; kind = n }) o (bad-name s k g))
-      (λ g q. let w = broken slot-test z q in entry-12 a (record { type = b; kind = n; own = o .own; name = g }) o (w .0) (w .1)))))))
+      (λ g q. let w = broken slot-test z q in entry-12 a (record { kind = record { type = b; kind = n }; own = o .own; name = g }) o (w .0) (w .1)))))))
       (sym entry-order ∙ e)
 
   -- past the sum and the types
@@ -249,7 +249,7 @@ module _ (d : Disk) (s : List ℕ) (k t i : ℕ) where
   entry-fault v (entry-9 a b e) = (entry-order ∙ on (sum-test s k) _ a (on type-test _ (b .type) (fall link-test _ (some 8 e) (λ h. h (b .kind)) e)), some 8 e)
   entry-fault v (entry-10 a b c e) = (past a b (fall ties-test _ (some 9 e) c e), some 9 e)
   entry-fault v (entry-11 a b c n e) = (past a b (on ties-test _ c (fall (name-test s k) _ (some 10 e) (not-good s k n) e)), some 10 e)
-  entry-fault v (entry-12 a b c n e) = (past a (record { type = b .type; kind = b .kind }) (on ties-test _ c (on (name-test s k) _ (b .name) (breaks slot-test n e))), some 11 e)
+  entry-fault v (entry-12 a b c n e) = (past a (b .kind) (on ties-test _ c (on (name-test s k) _ (b .name) (breaks slot-test n e))), some 11 e)
 
   -- 7 to 12
   pub entry-breaks : (v : ℕ) → ((entryFault d s k t i ≡ v) × (v ≢ 0)) ↔ EntryBreaks d s k t i v
@@ -257,7 +257,7 @@ module _ (d : Disk) (s : List ℕ) (k t i : ℕ) where
 
   -- and it passes if and only if it is as the law says
   pub entry-sound : (entryFault d s k t i ≡ 0) ↔ Placed d s k t i
-  entry-sound = (passed′, λ h. past (h .sum) (record { type = h .entry .type; kind = h .entry .kind }) (on ties-test _ (record { own = h .entry .own; parent = h .parent; link = h .link }) (on (name-test s k) _ (h .entry .name) (slot-test .passes (h .slot)))))
+  entry-sound = (passed′, λ h. past (h .sum) (h .entry .kind) (on ties-test _ (record { own = h .entry .own; parent = h .parent; link = h .link }) (on (name-test s k) _ (h .entry .name) (slot-test .passes (h .slot)))))
     where
       passed′ : entryFault d s k t i ≡ 0 → Placed d s k t i
       passed′ e =
@@ -269,7 +269,7 @@ module _ (d : Disk) (s : List ℕ) (k t i : ℕ) where
           let o = ties-test .passed (f .0) in
           record {
             sum = sum-test s k .passed (a .0);
-            entry = record { type = type-test .passed (b .0); kind = known-test .passed (c .0); own = o .own; name = name-test s k .passed (g .0) };
+            entry = record { kind = record { type = type-test .passed (b .0); kind = known-test .passed (c .0) }; own = o .own; name = name-test s k .passed (g .0) };
             parent = o .parent;
             link = o .link;
             slot = slot-test .passed (g .1);
@@ -378,14 +378,14 @@ module _ (s : List ℕ) (k h n : ℕ) where
       down (sum-test s k) _ z list-7
       (λ a. down types-test _ z (list-8 a)
       (λ b. down owns-test _ z (λ c. list-10 a b (λ x. c (x .own, x .parent)))
-      (λ c q. let w = broken (lists-test s k n) z q in list-14 a (record { type = b .type; kind = b .kind; own = c .0; parent = c .1 }) (w .0) (w .1))))
+      (λ c q. let w = broken (lists-test s k n) z q in list-14 a (record { kind = b; own = c .0; parent = c .1 }) (w .0) (w .1))))
       (sym list-order ∙ e)
 
   list-fault : (v : ℕ) → ListBreaks s k h n v → (listFault s k h n ≡ v) × (v ≢ 0)
   list-fault v (list-7 a e) = (list-order ∙ fall (sum-test s k) _ (some 6 e) a e, some 6 e)
   list-fault v (list-8 a b e) = (list-order ∙ on (sum-test s k) _ a (fall types-test _ (some 7 e) b e), some 7 e)
-  list-fault v (list-10 a b c e) = (list-order ∙ on (sum-test s k) _ a (on types-test _ b (fall owns-test _ (some 9 e) (λ x. c (record { type = b .type; kind = b .kind; own = x .0; parent = x .1 })) e)), some 9 e)
-  list-fault v (list-14 a b c e) = (list-order ∙ on (sum-test s k) _ a (on types-test _ (record { type = b .type; kind = b .kind }) (on owns-test _ (b .own, b .parent) (breaks (lists-test s k n) c e))), some 13 e)
+  list-fault v (list-10 a b c e) = (list-order ∙ on (sum-test s k) _ a (on types-test _ b (fall owns-test _ (some 9 e) (λ x. c (record { kind = b; own = x .0; parent = x .1 })) e)), some 9 e)
+  list-fault v (list-14 a b c e) = (list-order ∙ on (sum-test s k) _ a (on types-test _ (b .kind) (on owns-test _ (b .own, b .parent) (breaks (lists-test s k n) c e))), some 13 e)
 
   -- 7, 8, 10 and 14
   pub list-breaks : (v : ℕ) → ((listFault s k h n ≡ v) × (v ≢ 0)) ↔ ListBreaks s k h n v
@@ -393,7 +393,7 @@ module _ (s : List ℕ) (k h n : ℕ) where
 
   -- and it passes if and only if it is as the law says
   pub list-sound : (listFault s k h n ≡ 0) ↔ ListSound s k h n
-  list-sound = (passed′, λ p. list-order ∙ on (sum-test s k) _ (p .sum) (on types-test _ (record { type = p .block .type; kind = p .block .kind }) (on owns-test _ (p .block .own, p .block .parent) (lists-test s k n .passes (p .lists)))))
+  list-sound = (passed′, λ p. list-order ∙ on (sum-test s k) _ (p .sum) (on types-test _ (p .block .kind) (on owns-test _ (p .block .own, p .block .parent) (lists-test s k n .passes (p .lists)))))
     where
       passed′ : listFault s k h n ≡ 0 → ListSound s k h n
       passed′ e =
@@ -402,7 +402,7 @@ module _ (s : List ℕ) (k h n : ℕ) where
           let c = first-zero _ _ (b .1) in
           let y = types-test .passed (b .0) in
           let o = owns-test .passed (c .0) in
-          record { sum = sum-test s k .passed (a .0); block = record { type = y .type; kind = y .kind; own = o .0; parent = o .1 }; lists = lists-test s k n .passed (c .1) }
+          record { sum = sum-test s k .passed (a .0); block = record { kind = y; own = o .0; parent = o .1 }; lists = lists-test s k n .passed (c .1) }
 
 -- ---- a data block
 

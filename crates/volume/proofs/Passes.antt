@@ -25,11 +25,11 @@ module _ (d : Disk) (s : List ℕ) where
   root-passed e f =
       let a = root-sound d s .0 e in
       let b = map-sound d s .0 f in
-      (a .sum, record { type = a .kind .type; kind = a .kind .kind; zeros = a .fixed .zeros; table = a .fixed .table; name = a .name; rest = b .1 }, b .0)
+      (a .sum, record { kind = a .kind; fixed = a .fixed; name = a .name; rest = b .1 }, b .0)
 
   pub root-passes : sumOf s r ≡ 0 → Root s r → rootFault d s ≡ 0
   root-passes e h =
-      root-sound d s .1 (record { sum = e; kind = record { type = h .type; kind = h .kind }; fixed = record { zeros = h .zeros; table = h .table }; name = h .name })
+      root-sound d s .1 (record { sum = e; kind = h .kind; fixed = h .fixed; name = h .name })
 
   pub map-passes : Root s r → Valid d s → mapFault d s ≡ 0
   map-passes h v = map-sound d s .1 (v, h .rest)

@@ -11,7 +11,7 @@ use Rattle.volume.specs.Disks.{firstKey, rootOf, fileLimit}
 use Rattle.volume.specs.Blocks.{slots, wordOf, sumOf, directory}
 use Rattle.volume.specs.Names.{nameOf, nameGood, slotOf}
 use Rattle.volume.specs.Files.{sizeOf, blocksOf, keysOf}
-use Rattle.volume.specs.Law.{OneBitmap, Valid, Entry, Lists, ListBlock, DataBlock}
+use Rattle.volume.specs.Law.{RootKind, RootFixed, OneBitmap, Valid, EntryKind, Entry, Lists, ListKind, ListBlock, DataBlock}
 
 -- ---- a key: 5 if it lies outside the volume
 
@@ -21,14 +21,6 @@ pub record Inside (d : Disk) (k : ℕ) : Type 0 where
   pub high : k < d .blocks
 
 -- ---- the root, block r, up to its name: 7, 8, 4, 11
-
-pub record RootKind (s : List ℕ) (r : ℕ) : Type 0 where
-  pub type : wordOf s r 0 ≡ 2
-  pub kind : wordOf s r 127 ≡ 1
-
-pub record RootFixed (s : List ℕ) (r : ℕ) : Type 0 where
-  pub zeros : (i : ℕ) → i ∈ (1 ∷ 2 ∷ 4 ∷ 124 ∷ 125 ∷ 126 ∷ []) → wordOf s r i ≡ 0
-  pub table : wordOf s r 3 ≡ slots
 
 -- all of it
 pub record RootSound (s : List ℕ) (r : ℕ) : Type 0 where
@@ -54,10 +46,6 @@ pub data BitmapBreaks (s : List ℕ) (k v : ℕ) : Type 0 where
   bitmap-7 : sumOf s k ≢ 0 → v ≡ 7 → BitmapBreaks s k v
 
 -- ---- an entry, block k, on the chain of slot i of the directory t: 7 to 12
-
-pub record EntryKind (s : List ℕ) (k : ℕ) : Type 0 where
-  pub type : wordOf s k 0 ≡ 2
-  pub kind : (wordOf s k 127 ≡ 2) ⊎ (wordOf s k 127 ≡ 0xFFFFFFFD)
 
 pub record Link (s : List ℕ) (k : ℕ) : Type 0 where
   pub type : wordOf s k 0 ≡ 2
@@ -98,10 +86,6 @@ pub data HeaderBreaks (d : Disk) (s : List ℕ) (h v : ℕ) : Type 0 where
   header-14 : (HeaderSound d s h → ⊥) → v ≡ 14 → HeaderBreaks d s h v
 
 -- ---- a list block, k, of the file h, n keys still to come: 7, 8, 10, 14
-
-pub record ListKind (s : List ℕ) (k : ℕ) : Type 0 where
-  pub type : wordOf s k 0 ≡ 16
-  pub kind : wordOf s k 127 ≡ 0xFFFFFFFD
 
 -- all of it
 pub record ListSound (s : List ℕ) (k h n : ℕ) : Type 0 where

@@ -23,20 +23,29 @@ use Rattle.volume.specs.References.{Ref, to, entry, references}
 abbrev pub OneBitmap : List ℕ → ℕ → Type 0
 OneBitmap s r = (i : ℕ) → 80 ≤ i → i ≤ 104 → wordOf s r i ≡ 0
 
-pub record Root (s : List ℕ) (r : ℕ) : Type 0 where
+pub record RootKind (s : List ℕ) (r : ℕ) : Type 0 where
   pub type : wordOf s r 0 ≡ 2
   pub kind : wordOf s r 127 ≡ 1
+
+pub record RootFixed (s : List ℕ) (r : ℕ) : Type 0 where
   pub zeros : (i : ℕ) → i ∈ (1 ∷ 2 ∷ 4 ∷ 124 ∷ 125 ∷ 126 ∷ []) → wordOf s r i ≡ 0
   pub table : wordOf s r 3 ≡ slots
+
+pub record Root (s : List ℕ) (r : ℕ) : Type 0 where
+  pub kind : RootKind s r
+  pub fixed : RootFixed s r
   pub name : nameGood s r ≡ true
   -- w78 is not asked here: see `Valid`
   pub rest : OneBitmap s r
 
 -- ---- an entry, block k: a directory or a file header
 
-pub record Entry (s : List ℕ) (k : ℕ) : Type 0 where
+pub record EntryKind (s : List ℕ) (k : ℕ) : Type 0 where
   pub type : wordOf s k 0 ≡ 2
   pub kind : (wordOf s k 127 ≡ 2) ⊎ (wordOf s k 127 ≡ 0xFFFFFFFD)
+
+pub record Entry (s : List ℕ) (k : ℕ) : Type 0 where
+  pub kind : EntryKind s k
   pub own : wordOf s k 1 ≡ k
   pub name : nameGood s k ≡ true
 
@@ -71,9 +80,12 @@ pub record Lists (s : List ℕ) (b n : ℕ) : Type 0 where
   pub count : wordOf s b 2 ≡ keysHere n
   pub more : (wordOf s b 126 ≡ 0) ↔ (n ≤ slots)
 
-pub record ListBlock (s : List ℕ) (h b : ℕ) : Type 0 where
+pub record ListKind (s : List ℕ) (b : ℕ) : Type 0 where
   pub type : wordOf s b 0 ≡ 16
   pub kind : wordOf s b 127 ≡ 0xFFFFFFFD
+
+pub record ListBlock (s : List ℕ) (h b : ℕ) : Type 0 where
+  pub kind : ListKind s b
   pub own : wordOf s b 1 ≡ b
   pub parent : wordOf s b 125 ≡ h
 

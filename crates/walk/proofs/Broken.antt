@@ -18,8 +18,8 @@ use Rattle.volume.specs.Blocks.{wordOf}
 use Rattle.volume.specs.Names.{nameGood}
 use Rattle.volume.specs.Files.{blocksOf, listBlocks, listsOf, keysOf}
 use Rattle.volume.specs.References.{Kind, Ref, to, references}
-use Rattle.volume.specs.Law.{Root, OneBitmap, Entry, File, Tree, Valid}
-use Rattle.volume.specs.Breaks.{RootFixed, EntryKind, Link, HeaderSound, DataTies}
+use Rattle.volume.specs.Law.{Root, OneBitmap, Entry, File, Tree, Valid, RootFixed, EntryKind}
+use Rattle.volume.specs.Breaks.{Link, HeaderSound, DataTies}
 use Rattle.volume.proofs.Keys.{keys-long}
 use Rattle.volume.proofs.Passes.{entry-passed, list-passed, data-passed}
 use Rattle.walk.specs.Nodes.{Node, root, bitmap, entry, list, datum, keyOf, bare, faultOf}
@@ -35,17 +35,17 @@ module _ (d : Disk) (s : List ℕ) (v : Tree d s) where
 
   node-kind : (n : Node) → InTree d s n → KindRight s (bare d n .key) (bare d n .kind)
   unfolding faultOf
-  node-kind root h = record { type = h .1 .type; kind = h .1 .kind }
+  node-kind root h = h .1 .kind
   node-kind (bitmap k) h = tt
-  node-kind (entry k t i p) h = let e = entry-passed d s k t i (hung-passed d s k t i p h .0) .entry in inl (record { type = e .type; kind = e .kind })
-  node-kind (list k b m c) h = let e = list-passed s k b (blocksOf d s b - m) h .1 in record { type = e .type; kind = e .kind }
+  node-kind (entry k t i p) h = inl (entry-passed d s k t i (hung-passed d s k t i p h .0) .entry .kind)
+  node-kind (list k b m c) h = list-passed s k b (blocksOf d s b - m) h .1 .kind
   node-kind (datum k b n c) h = data-passed d s k b n (wordOf s c 4) h .1 .type
 
   kind-right : (a : Kind) (k : ℕ) → Reached (references d s) (to a k) → KindRight s k a
   kind-right a k r = let w = node-reached d s (tree-fine d s v) r in subst (λ (x : Ref). KindRight s (x .key) (x .kind)) (sym (w .2)) (node-kind (w .0) (tree-fine d s v (w .0) (w .1) .1))
 
   no-link : (k : ℕ) → Entry s k → Link s k → ⊥
-  no-link k h l = go (h .kind) (l .kind)
+  no-link k h l = go (h .kind .kind) (l .kind)
     where
       go : (wordOf s k 127 ≡ 2) ⊎ (wordOf s k 127 ≡ 0xFFFFFFFD) → wordOf s k 127 ∈ (3 ∷ 4 ∷ 0xFFFFFFFC ∷ []) → ⊥
       go (inl e) (inl f) = omega arith
@@ -83,11 +83,8 @@ module _ (d : Disk) (s : List ℕ) (v : Tree d s) where
 
   -- ---- the theorem
 
-  fixed : Root s (rootOf d) → RootFixed s (rootOf d)
-  fixed h = record { zeros = h .zeros; table = h .table }
-
   pub cause-breaks : Valid d s → (n k : ℕ) → Cause d s n k → ⊥
-  cause-breaks u n k (number-4 e h q) = h (subst (RootFixed s) (sym e) (fixed (v .top)))
+  cause-breaks u n k (number-4 e h q) = h (subst (RootFixed s) (sym e) (v .top .fixed))
   cause-breaks u n k (number-5 a r h q) = let w = v .keys (to a k) r in h (record { low = w .0; high = w .1 })
   cause-breaks u n k (number-6 (p, inl e) q) = v .owned .none (p .from) (p .to) (p .nth) (p .reached) (p .stands) (p .keyed ∙ e)
   cause-breaks u n k (number-6 (p, inr (o, w)) q) = w (v .owned .once (p .from) (o .from) (p .to) (o .to) (p .nth) (o .nth) (p .reached) (o .reached) (p .stands) (o .stands) (p .keyed ∙ sym (o .keyed)))

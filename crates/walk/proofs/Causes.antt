@@ -20,8 +20,8 @@ use Rattle.volume.specs.Disks.{rootOf}
 use Rattle.volume.specs.Blocks.{slots, wordOf, slotWord, directory}
 use Rattle.volume.specs.Files.{keysHere, blocksOf, listsOf}
 use Rattle.volume.specs.References.{Kind, to, references}
-use Rattle.volume.specs.Law.{chainKey, Hangs, Lists}
-use Rattle.volume.specs.Breaks.{EntryKind, Link, DataTies, root-7, root-8, root-4, root-11, map-16, bitmap-7, entry-7, entry-8, entry-9, entry-10, entry-11, entry-12, header-14, ListBreaks, list-7, list-8, list-10, list-14, DataBreaks, data-7, data-8, data-15}
+use Rattle.volume.specs.Law.{chainKey, Hangs, Lists, EntryKind}
+use Rattle.volume.specs.Breaks.{Link, DataTies, root-7, root-8, root-4, root-11, map-16, bitmap-7, entry-7, entry-8, entry-9, entry-10, entry-11, entry-12, header-14, ListBreaks, list-7, list-8, list-10, list-14, DataBreaks, data-7, data-8, data-15}
 use Rattle.volume.proofs.Checks.{among}
 use Rattle.volume.proofs.Given.{rootRefusals, entryRefusals, headerRefusals, listRefusals, dataRefusals, root-number, entry-number, header-number, list-number, data-number}
 use Rattle.walk.specs.Nodes.{Node, root, bitmap, entry, list, datum, keyOf, bare, chained, slotNodes, before, keyNodes, listing, listed, contents, leadsTo, keyFault, faultOf, nothing, graph, walkOf}

@@ -48,7 +48,7 @@ module _ (d : Disk) where
 
     -- an entry that is no directory is a file
     pub file-kind : (k : ℕ) → Entry s k → directory s k ≡ false → wordOf s k 127 ≡ 0xFFFFFFFD
-    file-kind k h e = go (h .kind)
+    file-kind k h e = go (h .kind .kind)
       where
         go : (wordOf s k 127 ≡ 2) ⊎ (wordOf s k 127 ≡ 0xFFFFFFFD) → wordOf s k 127 ≡ 0xFFFFFFFD
         go (inl q) = absurd (eqb-false _ _ e q)

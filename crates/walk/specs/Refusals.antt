@@ -14,8 +14,8 @@ use Rattle.volume.specs.Blocks.{slots, wordOf, sumOf, slotWord, directory}
 use Rattle.volume.specs.Names.{nameOf, nameGood, folded, slotOf}
 use Rattle.volume.specs.Files.{blocksOf, listsOf}
 use Rattle.volume.specs.References.{Kind, Ref, to, references}
-use Rattle.volume.specs.Law.{OneBitmap, Valid, chainKey, Hangs, Lists, ListBlock}
-use Rattle.volume.specs.Breaks.{Inside, RootKind, RootFixed, RootSound, RootBreaks, MapBreaks, BitmapBreaks, EntryKind, Link, EntryTies, Placed, EntryBreaks, HeaderSound, HeaderBreaks, ListKind, ListBreaks, IsData, DataTies, DataBreaks}
+use Rattle.volume.specs.Law.{OneBitmap, Valid, chainKey, Hangs, Lists, ListBlock, RootKind, RootFixed, EntryKind, ListKind}
+use Rattle.volume.specs.Breaks.{Inside, RootSound, RootBreaks, MapBreaks, BitmapBreaks, Link, EntryTies, Placed, EntryBreaks, HeaderSound, HeaderBreaks, ListBreaks, IsData, DataTies, DataBreaks}
 use Rattle.walk.specs.Nodes.{Node, root, bitmap, entry, list, datum, keyOf, leadsTo}
 
 -- ---- when it is given, exactly
