@@ -1,12 +1,13 @@
 -- The headline theorems side by side, each cited from the crate that proves it. What the names in them mean is in the specs/ of that crate.
 -- Assumes nothing.
 use Prim.Native.Nat.{ℕ, _+_, _*_, _≤_, _<_}
-use mathlib.Core.Path.{_≡_}
+use mathlib.Core.Path.{_≡_, sym, _∙_}
 use mathlib.Core.Logic.{_≢_, _⊎_, _↔_}
 use mathlib.Core.Bool.{false}
 use mathlib.Core.List.{List, [], _∷_, _++_}
 use lib.ListN.{length, getD, drop, replicate}
 use Rattle.answers.specs.Members.{_∈_}
+use Rattle.answers.specs.Refusals.{refusal}
 use Rattle.answers.specs.declared.Refusal.{Refusal}
 use Rattle.answers.specs.declared.Tested.the-variants.{Passed, Failed}
 use Rattle.answers.specs.Tests.{pick}
@@ -60,11 +61,11 @@ use Rattle.program.specs.Verdicts as programs
 use Rattle.program.proofs.Unique as unique
 use Rattle.program.proofs.Pages as pages
 use Rattle.program.proofs.Refusing as faults
-use Rattle.program.proofs.AsNumbers as checks
 use Rattle.loader.specs.Calls.{callRefusals, loadAnswer, moveAnswer}
 use Rattle.loader.specs.Memory.{amountOf, moved}
-use Rattle.loader.specs.Pages.{imageOf, fileTargets, Adds, Outside, placedHunks}
-use Rattle.loader.specs.Verdicts.{Accepts, Takes, CallWhy}
+use Rattle.loader.specs.Pages.{imageOf, fileTargets, Named, Adds, Outside, placedHunks}
+use Rattle.loader.specs.Verdicts.{Takes, CallWhy}
+use Rattle.loader.proofs.OneHunk as targets
 use Rattle.loader.proofs.PageVerdicts as verdicts
 use Rattle.hunks.specs.declared.Hunk.{Hunk}
 use Rattle.hunks.specs.Calls.{Loads, Moves}
@@ -78,7 +79,7 @@ use Rattle.jufferdeeg.specs.declared.volumes.FindNumbers.{FindNumbers}
 use Rattle.jufferdeeg.specs.declared.volumes.ReadNumbers.{ReadNumbers}
 use Rattle.jufferdeeg.specs.declared.programs.ProgramNumbers.{ProgramNumbers}
 use Rattle.jufferdeeg.specs.Volumes.{findOnFloppy, AuditsFloppy, ReadsFloppy}
-use Rattle.jufferdeeg.specs.Programs.{loadsAs, movesAs, LoadsNumbers, MovesNumbers}
+use Rattle.jufferdeeg.specs.Programs.{LoadsNumbers, MovesNumbers}
 use Rattle.jufferdeeg.proofs.Seen as seen
 use Rattle.jufferdeeg.proofs.SeenMoving as seen-moving
 
@@ -96,26 +97,29 @@ module _ (d : Disk) (s : List ℕ) (n : ℕ) where
   pub accepted-report : (p : Report) → audit.auditOf d s n ≡ audited.Accepted p → Reported d s p
   accepted-report p e = accepting.accepted-report d s n p e
 
-  -- each refusal exactly then, and it clears the claim area
+  -- each refusal if and only if its test says so
   pub audit-refused-exactly : (v k : ℕ) → (audit.auditOf d s n ≡ audit.refuse v k) ↔ Says d s n v k (testOf v)
   audit-refused-exactly v k = refusing.refused-exactly d s n v k
 
-  -- 4 to 16: which field of the law the block breaks, a case for each number; what it says holds of no volume
+  -- 4 to 16: which field of the law the block breaks, a case for each number
   pub audit-refused-cause : (v k : ℕ) → v ∈ audit.walkRefusals → audit.auditOf d s n ≡ audit.refuse v k → Cause d s v k
   audit-refused-cause v k h = refusing.refused-cause d s n v k h
-
-  pub cause-breaks : Volume d s → (v k : ℕ) → Cause d s v k → ⊥
-  cause-breaks w v k c = broken.cause-breaks d s (w .tree) (w .valid) v k c
 
   -- 17: all but the bits is as the law says, and k is the lowest block whose bit is wrong
   pub audit-refused-17 : (k : ℕ) → (audit.auditOf d s n ≡ audit.refuse 17 k) ↔ ((claimBytes d ≤ n) × Tree d s × Valid d s × FirstWrong d s k)
   audit-refused-17 k = refusing.refused-17 d s n k
 
+  -- a refused audit clears the claim area
   pub audit-refused-claims : (r : Audited) (claim : List ℕ) → audit.Audits d s n r claim → (x : Refusal) → r ≡ audited.Refused x → claim ≡ replicate n 0
   audit-refused-claims r claim a x e = accepting.refused-claims d s n r claim a x e
 
   pub audit-determined : (r r′ : Audited) (c c′ : List ℕ) → audit.Audits d s n r c → audit.Audits d s n r′ c′ → (audit.numbersOf r ≡ audit.numbersOf r′) × (r ≡ r′) × (c ≡ c′)
   audit-determined r r′ c c′ a a′ = accepting.audit-determined d s n r r′ c c′ a a′
+
+-- what such a cause says holds of no volume
+module _ (d : Disk) (s : List ℕ) where
+  pub cause-breaks : Volume d s → (v k : ℕ) → Cause d s v k → ⊥
+  cause-breaks w v k c = broken.cause-breaks d s (w .tree) (w .valid) v k c
 
 -- ---- a path, and a read of it at offset o
 
@@ -132,7 +136,7 @@ module _ (d : Disk) (s path : List ℕ) where
   pub found-few : (k z n : ℕ) → (lookup.findOf d s path ≡ found.Directory k n) ⊎ (lookup.findOf d s path ≡ found.File k z n) → n ≤ length (components path) * chainLimit d
   found-few k z n e = counting.found-few d s path k z n e
 
-  -- 19 if and only if the chain has ended and no entry on it has the name; every other refusal exactly then
+  -- 19 if and only if the chain has ended and no entry on it has the name; any refusal if and only if `Refuses` holds
   pub missing-exactly : (i : ℕ) → (lookup.findOf d s path ≡ lookup.refuse 19 i) ↔ lookups.Missing d s path i
   missing-exactly i = missing.missing-exactly d s path i
 
@@ -142,8 +146,8 @@ module _ (d : Disk) (s path : List ℕ) where
   pub find-determined : (r r′ : Found) → lookup.Finds d s path r → lookup.Finds d s path r′ → (lookup.numbersOf r ≡ lookup.numbersOf r′) × (r ≡ r′)
   find-determined r r′ a a′ = finding.find-determined d s path r r′ a a′
 
-  -- bytes if and only if the path leads to a whole file; then the output holds its bytes from the offset on, and after them what it held; every
-  -- refusal exactly then
+  -- bytes if and only if the path leads to a whole file; then the output holds its bytes from the offset on, and after them what it held; a refusal
+  -- if and only if `Refuses` holds
   pub read-exactly : (o n m : ℕ) → (read.readOf d s path o n ≡ reading.Bytes m) ↔ outcomes.Gives d s path o n m
   read-exactly o n m = answers.read-exactly d s path o n m
 
@@ -199,18 +203,23 @@ module _ (file : List ℕ) where
   pub holds-same : (hs hs′ : List paper.Hunk) → paper.Holds file hs → paper.Holds file hs′ → hs ≡ hs′
   holds-same hs hs′ h h′ = unique.holds-same file hs hs′ h h′
 
-  -- each refusal exactly then
+  -- refused if and only if `Says` holds of the file and the refusal
   pub check-refused-exactly : (f : Refusal) → (checkOf file ≡ Refused f) ↔ programs.Says file f
   check-refused-exactly f = faults.refused-exactly file f
 
-  -- a load, which is lent one list of bases: accepted exactly then, and each refusal exactly then
+  -- the file's word at the byte of each target is its offset in its hunk
+  pub targets-named : (hs : List paper.Hunk) → paper.Holds file hs → paper.Each (Named file hs) (fileTargets hs)
+  targets-named = targets.targets-named file
+
+  -- a load, which is lent one list of bases: accepted if and only if the file holds hunks and `Takes` holds of them; refused if and only if `CallWhy`
+  -- holds
   pub load-accepted-exactly : (bases : List ℕ) (m r w t n : ℕ) → (loadAnswer file bases m r w ≡ Accepted t n) ↔ ((hs : List paper.Hunk) × paper.Holds file hs × Takes hs (bases ∷ []) m r w t n)
   load-accepted-exactly bases m r w t n = verdicts.load-accepted file bases m r w t n
 
   pub load-refused-exactly : (bases : List ℕ) (m r w : ℕ) (f : Refusal) → (loadAnswer file bases m r w ≡ Refused f) ↔ CallWhy file (bases ∷ []) m r w f
   load-refused-exactly bases m r w f = verdicts.load-refused file bases m r w f
 
-  -- a move, which is lent the old list and the new
+  -- a move, which is lent the old list and the new: likewise
   pub move-accepted-exactly : (old new : List ℕ) (m r w t n : ℕ) → (moveAnswer file old new m r w ≡ Accepted t n) ↔ ((hs : List paper.Hunk) × paper.Holds file hs × Takes hs (old ∷ new ∷ []) m r w t n)
   move-accepted-exactly old new m r w t n = verdicts.move-accepted file old new m r w t n
 
@@ -264,11 +273,14 @@ module _ (file m : List ℕ) (t : List Hunk) (w : List ℕ) where
       → Moves file A B m′ t′ w′ r1 m1 t1 w1 → Moves file B A m1 t1 w″ r2 m2 t2 w2 → (r1 ≡ Accepted x n) × (r2 ≡ Accepted x n) × (m2 ≡ m′)
   move-back A B x n y k a b = moving.move-back file m t w x n A a B y k b
 
-  pub load-determined : (bases : List ℕ) (r r′ : Answer) (m1 : List ℕ) (t1 : List Hunk) (w1 m2 : List ℕ) (t2 : List Hunk) (w2 : List ℕ) → Loads file bases m t w r m1 t1 w1 → Loads file bases m t w r′ m2 t2 w2 → (numbersOf r ≡ numbersOf r′) × (m1 ≡ m2) × (t1 ≡ t2) × (w1 ≡ w2)
-  load-determined bases = deciding.load-determined file bases m t w
+  -- two outcomes that a promise allows for one input are the same
+  pub load-determined : (bases : List ℕ) (r r′ : Answer) (m1 : List ℕ) (t1 : List Hunk) (w1 m2 : List ℕ) (t2 : List Hunk) (w2 : List ℕ) → Loads file bases m t w r m1 t1 w1 → Loads file bases m t w r′ m2 t2 w2 → (numbersOf r ≡ numbersOf r′) × (r ≡ r′) × (m1 ≡ m2) × (t1 ≡ t2) × (w1 ≡ w2)
+  load-determined bases r r′ m1 t1 w1 m2 t2 w2 a b =
+      let q = deciding.load-determined file bases m t w r r′ m1 t1 w1 m2 t2 w2 a b in (q .0, a .answer ∙ sym (b .answer), q .1, q .2, q .3)
 
-  pub move-determined : (old new : List ℕ) (r r′ : Answer) (m1 : List ℕ) (t1 : List Hunk) (w1 m2 : List ℕ) (t2 : List Hunk) (w2 : List ℕ) → Moves file old new m t w r m1 t1 w1 → Moves file old new m t w r′ m2 t2 w2 → (numbersOf r ≡ numbersOf r′) × (m1 ≡ m2) × (t1 ≡ t2) × (w1 ≡ w2)
-  move-determined old new = deciding.move-determined file old new m t w
+  pub move-determined : (old new : List ℕ) (r r′ : Answer) (m1 : List ℕ) (t1 : List Hunk) (w1 m2 : List ℕ) (t2 : List Hunk) (w2 : List ℕ) → Moves file old new m t w r m1 t1 w1 → Moves file old new m t w r′ m2 t2 w2 → (numbersOf r ≡ numbersOf r′) × (r ≡ r′) × (m1 ≡ m2) × (t1 ≡ t2) × (w1 ≡ w2)
+  move-determined old new r r′ m1 t1 w1 m2 t2 w2 a b =
+      let q = deciding.move-determined file old new m t w r r′ m1 t1 w1 m2 t2 w2 a b in (q .0, a .answer ∙ sym (b .answer), q .1, q .2, q .3)
 
   -- a refused load or move changes no byte of memory and no record
   pub load-keeps : (bases : List ℕ) (f : Refusal) (m1 : List ℕ) (t1 : List Hunk) (w1 : List ℕ) → Loads file bases m t w (Refused f) m1 t1 w1 → (m1 ≡ m) × (t1 ≡ t) × (w1 ≡ replicate (length w) 0)
@@ -281,14 +293,15 @@ module _ (file m : List ℕ) (t : List Hunk) (w : List ℕ) where
 
 -- the audit of an image s with a claim area of n bytes
 module _ (s : List ℕ) (n : ℕ) (r : AuditNumbers) (claim : List ℕ) (a : AuditsFloppy s n r claim) where
-  -- the number is 0 if and only if the audit accepts; with a claim byte for each block, if and only if the image is a volume
-  pub audit-zero : (r .number ≡ 0) ↔ ((p : Report) × (audit.auditOf floppy s n ≡ audited.Accepted p))
+  -- the number is 0 if and only if there is a claim byte for each block and the image is a volume
+  pub audit-zero : (r .number ≡ 0) ↔ ((1760 ≤ n) × Volume floppy s)
   audit-zero = seen.audit-zero s n r claim a
 
-  pub audit-volume : 1760 ≤ n → (r .number ≡ 0) ↔ Volume floppy s
-  audit-volume = seen.audit-volume s n r claim a
+  -- another number v is given at place k if and only if its test says so
+  pub audit-refused-at : (v k : ℕ) → v ≢ 0 → ((r .number ≡ v) × (r .place ≡ k)) ↔ Says floppy s n v k (testOf v)
+  audit-refused-at = seen.audit-refused-at s n r claim a
 
-  -- else it is one of these, nothing is reported, and the claim area is cleared
+  -- a number other than 0 is one of these; nothing is reported then, and the claim area is cleared
   pub audit-number : r .number ∈ (0 ∷ audit.auditRefusals)
   audit-number = seen.audit-number s n r claim a
 
@@ -297,11 +310,15 @@ module _ (s : List ℕ) (n : ℕ) (r : AuditNumbers) (claim : List ℕ) (a : Aud
 
 -- a path
 module _ (s path : List ℕ) (r : FindNumbers) (a : r ≡ findOnFloppy s path) where
-  -- the number is 0 if and only if the path leads to a directory or to a file
-  pub find-zero : (r .number ≡ 0) ↔ (((k : ℕ) × (c : ℕ) × (lookup.findOf floppy s path ≡ found.Directory k c)) ⊎ ((k : ℕ) × (z : ℕ) × (c : ℕ) × (lookup.findOf floppy s path ≡ found.File k z c)))
+  -- the number is 0 if and only if the components lead to the directory of that key, or to the file of that key and size
+  pub find-zero : (r .number ≡ 0) ↔ (((r .kind ≡ 2) × (r .size ≡ 0) × lookups.Opened floppy s path × Trail floppy s (rootOf floppy) (components path) (r .key) (r .compared)) ⊎ ((r .kind ≡ 0xFFFFFFFD) × lookups.IsFile floppy s path (r .key) (r .size) (r .compared)))
   find-zero = seen.find-zero s path r a
 
-  -- else it is one of these, and all values are 0
+  -- another number v is given at place k if and only if `Refuses` holds of them
+  pub find-refused-at : (v k : ℕ) → v ≢ 0 → ((r .number ≡ v) × (r .place ≡ k)) ↔ lookups.Refuses floppy s path v k
+  find-refused-at = seen.find-refused-at s path r a
+
+  -- a number other than 0 is one of these; all values are 0 then
   pub find-number : r .number ∈ (0 ∷ lookup.findRefusals)
   find-number = seen.find-number s path r a
 
@@ -310,11 +327,15 @@ module _ (s path : List ℕ) (r : FindNumbers) (a : r ≡ findOnFloppy s path) w
 
 -- a read at offset o
 module _ (s path : List ℕ) (o : ℕ) (output : List ℕ) (r : ReadNumbers) (output′ : List ℕ) (a : ReadsFloppy s path o output r output′) where
-  -- the number is 0 if and only if bytes are read
-  pub read-zero : (r .number ≡ 0) ↔ ((n : ℕ) × (read.readOf floppy s path o (length output) ≡ reading.Bytes n))
+  -- the number is 0 if and only if the path leads to a whole file, and `count` is what the room and the rest of the file allow
+  pub read-zero : (r .number ≡ 0) ↔ outcomes.Gives floppy s path o (length output) (r .count)
   read-zero = seen.read-zero s path o output r output′ a
 
-  -- else it is one of these, and the output is as before
+  -- another number v is given at place k if and only if `Refuses` holds of them
+  pub read-refused-at : (v k : ℕ) → v ≢ 0 → ((r .number ≡ v) × (r .place ≡ k)) ↔ outcomes.Refuses floppy s path v k
+  read-refused-at = seen.read-refused-at s path o output r output′ a
+
+  -- a number other than 0 is one of these; the output is as before then
   pub read-number : r .number ∈ (0 ∷ read.readRefusals)
   read-number = seen.read-number s path o output r output′ a
 
@@ -323,18 +344,24 @@ module _ (s path : List ℕ) (o : ℕ) (output : List ℕ) (r : ReadNumbers) (ou
 
 -- the check of a program file, which load and move begin with
 module _ (file : List ℕ) (r : Answer) (a : Checks file r) where
-  pub check-zero : (numbersOf r .number ≡ 0) ↔ ((t : ℕ) × (n : ℕ) × (r ≡ Accepted t n))
-  check-zero = checks.zero-exactly file r a
+  -- the number is 0 if and only if the file holds hunks
+  pub check-zero : (numbersOf r .number ≡ 0) ↔ ((hs : List paper.Hunk) × paper.Holds file hs)
+  check-zero = seen.check-zero file r a
 
-  pub check-number : (x : Refusal) → r ≡ Refused x → numbersOf r .number ∈ checkRefusals
-  check-number = checks.number-listed file r a
+  -- else it is one of these
+  pub check-number : numbersOf r .number ∈ (0 ∷ checkRefusals)
+  check-number = seen.check-number file r a
 
 module _ (file m : List ℕ) (t : List Hunk) (w : List ℕ) (r : ProgramNumbers) (m′ : List ℕ) (t′ : List Hunk) (w′ : List ℕ) where
-  -- a load: the number is 0 if and only if it is accepted
-  pub load-zero : (bases : List ℕ) → LoadsNumbers file bases m t w r m′ t′ w′ → (r .number ≡ 0) ↔ Accepts (loadsAs file m t w bases)
+  -- a load: the number is 0 if and only if the file holds hunks and `Takes` holds of them, with their number and bytes
+  pub load-zero : (bases : List ℕ) → LoadsNumbers file bases m t w r m′ t′ w′ → (r .number ≡ 0) ↔ ((hs : List paper.Hunk) × paper.Holds file hs × Takes hs (bases ∷ []) (length m) (length t) (length w) (r .hunks) (r .bytes))
   load-zero = seen.load-zero file m t w r m′ t′ w′
 
-  -- else it is one of these, memory and table are as before, and the work area is cleared
+  -- another number v is given at place k if and only if `CallWhy` holds of them
+  pub load-refused-at : (bases : List ℕ) → LoadsNumbers file bases m t w r m′ t′ w′ → (v k : ℕ) → v ≢ 0 → ((r .number ≡ v) × (r .place ≡ k)) ↔ CallWhy file (bases ∷ []) (length m) (length t) (length w) (refusal v k)
+  load-refused-at = seen.load-refused-at file m t w r m′ t′ w′
+
+  -- a number other than 0 is one of these; memory and table are as before then, and the work area is cleared
   pub load-number : (bases : List ℕ) → LoadsNumbers file bases m t w r m′ t′ w′ → r .number ∈ (0 ∷ callRefusals)
   load-number = seen.load-number file m t w r m′ t′ w′
 
@@ -342,8 +369,11 @@ module _ (file m : List ℕ) (t : List Hunk) (w : List ℕ) (r : ProgramNumbers)
   load-refused = seen.load-refused file m t w r m′ t′ w′
 
   -- a move: likewise
-  pub move-zero : (old new : List ℕ) → MovesNumbers file old new m t w r m′ t′ w′ → (r .number ≡ 0) ↔ Accepts (movesAs file m t w old new)
+  pub move-zero : (old new : List ℕ) → MovesNumbers file old new m t w r m′ t′ w′ → (r .number ≡ 0) ↔ ((hs : List paper.Hunk) × paper.Holds file hs × Takes hs (old ∷ new ∷ []) (length m) (length t) (length w) (r .hunks) (r .bytes))
   move-zero = seen.move-zero file m t w r m′ t′ w′
+
+  pub move-refused-at : (old new : List ℕ) → MovesNumbers file old new m t w r m′ t′ w′ → (v k : ℕ) → v ≢ 0 → ((r .number ≡ v) × (r .place ≡ k)) ↔ CallWhy file (old ∷ new ∷ []) (length m) (length t) (length w) (refusal v k)
+  move-refused-at = seen.move-refused-at file m t w r m′ t′ w′
 
   pub move-number : (old new : List ℕ) → MovesNumbers file old new m t w r m′ t′ w′ → r .number ∈ (0 ∷ callRefusals)
   move-number = seen.move-number file m t w r m′ t′ w′

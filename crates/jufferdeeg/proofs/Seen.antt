@@ -1,32 +1,49 @@
--- What a C program sees: when the number of an exported call is 0, which numbers there are else, and what a refused call leaves. Assumes nothing.
+-- What a C program sees: when the number of an exported call is 0, which numbers there are else, when each of them is given at which place, and what
+-- a refused call leaves. Assumes nothing.
 use Prim.Native.Nat.{ℕ, _≤_}
-use mathlib.Core.Path.{_≡_, refl, sym, ap, subst, _∙_}
+use mathlib.Core.Path.{_≡_, refl, sym, ap, ap₂, _∙_}
 use mathlib.Core.Logic.{_≢_, _↔_, _⊎_, inl, inr}
-use mathlib.Core.List.{List, _∷_}
+use mathlib.Core.List.{List, [], _∷_}
 use lib.ListN.{length, replicate}
 use Rattle.answers.specs.Members.{_∈_}
+use Rattle.answers.specs.Refusals.{refusal}
 use Rattle.answers.specs.declared.Refusal.{Refusal}
-use Rattle.volume.specs.Disks.{floppy}
+use Rattle.volume.specs.Disks.{floppy, rootOf}
 use Rattle.volume.specs.Law.{Volume}
 use Rattle.audit.specs.declared.audit.Report.{Report}
 use Rattle.audit.specs.declared.audit.Audited.{Audited}
 use Rattle.audit.specs.declared.audit.Audited.the-variants as audited
 use Rattle.audit.specs.Audits as audit
+use Rattle.audit.specs.Verdicts.{testOf, Says}
+use Rattle.audit.proofs.Answers.{answers-exactly}
 use Rattle.audit.proofs.Accepting as auditing
+use Rattle.audit.proofs.Refusing as audit-refusing
 use Rattle.audit.proofs.AsNumbers as audit-numbers
 use Rattle.lookup.specs.declared.find.Found.{Found}
 use Rattle.lookup.specs.declared.find.Found.the-variants as found
 use Rattle.lookup.specs.Lookup as lookup
+use Rattle.lookup.specs.Paths.{components}
+use Rattle.lookup.specs.Trails.{Trail}
+use Rattle.lookup.specs.Verdicts as lookups
+use Rattle.lookup.proofs.Refusing as finding
 use Rattle.lookup.proofs.AsNumbers as lookup-numbers
 use Rattle.reading.specs.declared.read.Reading.{Reading}
 use Rattle.reading.specs.declared.read.Reading.the-variants as reading
 use Rattle.reading.specs.Reads as read
+use Rattle.reading.specs.Outcomes as outcomes
+use Rattle.reading.proofs.Answers.{read-exactly}
+use Rattle.reading.proofs.Refusing as unread
 use Rattle.reading.proofs.AsNumbers as read-numbers
 use Rattle.program.specs.declared.check.Answer.{Answer}
 use Rattle.program.specs.declared.check.Answer.the-variants.{Accepted, Refused}
+use Rattle.program.specs.Page as paper
+use Rattle.program.specs.Check.{numbersOf, checkRefusals, Checks}
+use Rattle.program.proofs.Pages.{page}
+use Rattle.program.proofs.AsNumbers as check-numbers
 use Rattle.loader.specs.Memory.{loadOf, moveOf}
 use Rattle.loader.specs.Calls.{callRefusals, effect}
-use Rattle.loader.specs.Verdicts.{Accepts}
+use Rattle.loader.specs.Verdicts.{Accepts, Takes, CallWhy}
+use Rattle.loader.proofs.PageVerdicts as verdicts
 use Rattle.hunks.specs.declared.Hunk.{Hunk}
 use Rattle.hunks.specs.Records.{hunksOf}
 use Rattle.hunks.specs.Calls.{kept}
@@ -38,16 +55,42 @@ use Rattle.jufferdeeg.specs.declared.programs.ProgramNumbers.{ProgramNum
 use Rattle.jufferdeeg.specs.Volumes.{auditNumbers, findNumbers, readNumbers, findOnFloppy, AuditsFloppy, ReadsFloppy}
 use Rattle.jufferdeeg.specs.Programs.{programNumbers, loadsAs, movesAs, LoadsNumbers, MovesNumbers}
 
+-- one condition for another, and that for a third
+chain : {A B C : Type 0} → A ↔ B → B ↔ C → A ↔ C
+chain f g = (λ x. g .0 (f .0 x), λ z. f .1 (g .1 z))
+
 -- ---- the audit of an image s with a claim area of n bytes
 
+-- a number other than 0, with its place, is a refusal's
+audit-says : (x : Audited) (v k : ℕ) → v ≢ 0 → ((auditNumbers x .number ≡ v) × (auditNumbers x .place ≡ k)) ↔ (x ≡ audit.refuse v k)
+audit-says x v k z = (there x, λ e. rw e (refl, refl))
+  where
+    there : (y : Audited) → (auditNumbers y .number ≡ v) × (auditNumbers y .place ≡ k) → y ≡ audit.refuse v k
+    there (audited.Accepted p) (a, b) = absurd (z (sym a))
+    there (audited.Refused f) (a, b) = ap₂ audit.refuse a b
+
 module _ (s : List ℕ) (n : ℕ) (r : AuditNumbers) (claim′ : List ℕ) (a : AuditsFloppy s n r claim′) where
-  -- the number is 0 if and only if the audit accepts
-  pub audit-zero : (r .number ≡ 0) ↔ ((p : Report) × (audit.auditOf floppy s n ≡ audited.Accepted p))
-  audit-zero = rw (a .answer) (audit-numbers.zero-exactly floppy s n _ claim′ (a .behind))
+  -- the number is 0 if and only if the answer is one that accepts
+  audit-accepts : (r .number ≡ 0) ↔ ((p : Report) × (audit.auditOf floppy s n ≡ audited.Accepted p))
+  audit-accepts = rw (a .answer) (audit-numbers.zero-exactly floppy s n _ claim′ (a .behind))
+
+  -- the number is 0 if and only if there is a claim byte for each block and the image is a volume
+  pub audit-zero : (r .number ≡ 0) ↔ ((1760 ≤ n) × Volume floppy s)
+  audit-zero = (there, λ (h, v). audit-accepts .1 (auditing.accepted-exactly floppy s n h .1 v))
+    where
+      there : r .number ≡ 0 → (1760 ≤ n) × Volume floppy s
+      there z =
+          let x = audit-accepts .0 z in
+          let h : 1760 ≤ n = answers-exactly floppy s n (audited.Accepted (x .0)) .0 (x .1) .opened .room in
+          (h, auditing.accepted-exactly floppy s n h .0 x)
 
   -- with a claim byte for each block: if and only if the image is a volume
   pub audit-volume : 1760 ≤ n → (r .number ≡ 0) ↔ Volume floppy s
-  audit-volume h = let v = auditing.accepted-exactly floppy s n h in (λ z. v .0 (audit-zero .0 z), λ w. audit-zero .1 (v .1 w))
+  audit-volume h = (λ z. audit-zero .0 z .1, λ v. audit-zero .1 (h, v))
+
+  -- another number v is given at place k if and only if its test says so
+  pub audit-refused-at : (v k : ℕ) → v ≢ 0 → ((r .number ≡ v) × (r .place ≡ k)) ↔ Says floppy s n v k (testOf v)
+  audit-refused-at v k z = rw (a .answer) (chain (audit-says (audit.auditOf floppy s n) v k z) (audit-refusing.refused-exactly floppy s n v k))
 
   -- the number is 0 or one of these
   pub audit-number : r .number ∈ (0 ∷ audit.auditRefusals)
@@ -62,18 +105,51 @@ module _ (s : List ℕ) (n : ℕ) (r : AuditNumbers) (claim′ : List ℕ) (a : 
   audit-refused z = go (audit.auditOf floppy s n) refl (a .behind .claim)
     where
       go : (x : Audited) → audit.auditOf floppy s n ≡ x → claim′ ≡ audit.leaves floppy s x n → (claim′ ≡ replicate n 0) × (r .directories ≡ 0) × (r .files ≡ 0) × (r .«list_blocks» ≡ 0) × (r .«data_blocks» ≡ 0) × (r .used ≡ 0) × (r .free ≡ 0)
-      go (audited.Accepted p) e c = absurd (z (audit-zero .1 (p, e)))
+      go (audited.Accepted p) e c = absurd (z (audit-accepts .1 (p, e)))
       go (audited.Refused f) e c = let q = a .answer ∙ ap auditNumbers e in (c, rw q refl, rw q refl, rw q refl, rw q refl, rw q refl, rw q refl)
 
 -- ---- a path
+
+-- a number other than 0, with its place, is a refusal's
+find-says : (x : Found) (v k : ℕ) → v ≢ 0 → ((findNumbers x .number ≡ v) × (findNumbers x .place ≡ k)) ↔ (x ≡ lookup.refuse v k)
+find-says x v k z = (there x, λ e. rw e (refl, refl))
+  where
+    there : (y : Found) → (findNumbers y .number ≡ v) × (findNumbers y .place ≡ k) → y ≡ lookup.refuse v k
+    there (found.Directory t c) (a, b) = absurd (z (sym a))
+    there (found.File t y c) (a, b) = absurd (z (sym a))
+    there (found.Refused f) (a, b) = ap₂ lookup.refuse a b
+
+-- the path leads to the directory of that key, with so many entries compared
+abbrev pub FindsDirectory : List ℕ → List ℕ → FindNumbers → Type 0
+FindsDirectory s path r = (r .kind ≡ 2) × (r .size ≡ 0) × lookups.Opened floppy s path × Trail floppy s (rootOf floppy) (components path) (r .key) (r .compared)
+
+-- or to the file of that key and size
+abbrev pub FindsFile : List ℕ → List ℕ → FindNumbers → Type 0
+FindsFile s path r = (r .kind ≡ 0xFFFFFFFD) × lookups.IsFile floppy s path (r .key) (r .size) (r .compared)
 
 module _ (s path : List ℕ) (r : FindNumbers) (a : r ≡ findOnFloppy s path) where
   finds : lookup.Finds floppy s path (lookup.findOf floppy s path)
   finds = record { answer = refl; numbers = refl }
 
+  -- the number is 0 if and only if the answer is a directory or a file
+  find-answers : (r .number ≡ 0) ↔ (((k : ℕ) × (c : ℕ) × (lookup.findOf floppy s path ≡ found.Directory k c)) ⊎ ((k : ℕ) × (z : ℕ) × (c : ℕ) × (lookup.findOf floppy s path ≡ found.File k z c)))
+  find-answers = rw a (lookup-numbers.zero-exactly floppy s path _ finds)
+
   -- the number is 0 if and only if the path leads to a directory or to a file
-  pub find-zero : (r .number ≡ 0) ↔ (((k : ℕ) × (c : ℕ) × (lookup.findOf floppy s path ≡ found.Directory k c)) ⊎ ((k : ℕ) × (z : ℕ) × (c : ℕ) × (lookup.findOf floppy s path ≡ found.File k z c)))
-  find-zero = rw a (lookup-numbers.zero-exactly floppy s path _ finds)
+  pub find-zero : (r .number ≡ 0) ↔ (FindsDirectory s path r ⊎ FindsFile s path r)
+  find-zero = (λ z. there (find-answers .0 z), back)
+    where
+      there : ((k : ℕ) × (c : ℕ) × (lookup.findOf floppy s path ≡ found.Directory k c)) ⊎ ((k : ℕ) × (z : ℕ) × (c : ℕ) × (lookup.findOf floppy s path ≡ found.File k z c)) → FindsDirectory s path r ⊎ FindsFile s path r
+      there (inl (k, c, e)) = let q = finding.directory-exactly floppy s path k c .0 e in inl (rw (a ∙ ap findNumbers e) (refl, refl, q .0, q .1))
+      there (inr (k, z, c, e)) = inr (rw (a ∙ ap findNumbers e) (refl, finding.file-exactly floppy s path k z c .0 e))
+
+      back : FindsDirectory s path r ⊎ FindsFile s path r → r .number ≡ 0
+      back (inl (i, j, o, t)) = find-answers .1 (inl (_, _, finding.directory-exactly floppy s path (r .key) (r .compared) .1 (o, t)))
+      back (inr (i, f)) = find-answers .1 (inr (_, _, _, finding.file-exactly floppy s path (r .key) (r .size) (r .compared) .1 f))
+
+  -- another number v is given at place k if and only if `Refuses` holds of them
+  pub find-refused-at : (v k : ℕ) → v ≢ 0 → ((r .number ≡ v) × (r .place ≡ k)) ↔ lookups.Refuses floppy s path v k
+  find-refused-at v k z = rw a (chain (find-says (lookup.findOf floppy s path) v k z) (finding.refused-exactly floppy s path v k))
 
   -- the number is 0 or one of these
   pub find-number : r .number ∈ (0 ∷ lookup.findRefusals)
@@ -89,16 +165,37 @@ module _ (s path : List ℕ) (r : FindNumbers) (a : r ≡ findOnFloppy s path) w
   find-refused z = go (lookup.findOf floppy s path) refl
     where
       go : (x : Found) → lookup.findOf floppy s path ≡ x → (r .kind ≡ 0) × (r .key ≡ 0) × (r .size ≡ 0) × (r .compared ≡ 0)
-      go (found.Directory k c) e = absurd (z (find-zero .1 (inl (k, c, e))))
-      go (found.File k y c) e = absurd (z (find-zero .1 (inr (k, y, c, e))))
+      go (found.Directory k c) e = absurd (z (find-answers .1 (inl (k, c, e))))
+      go (found.File k y c) e = absurd (z (find-answers .1 (inr (k, y, c, e))))
       go (found.Refused f) e = let q = a ∙ ap findNumbers e in (rw q refl, rw q refl, rw q refl, rw q refl)
 
 -- ---- a read at offset o
 
+-- a number other than 0, with its place, is a refusal's
+read-says : (x : Reading) (v k : ℕ) → v ≢ 0 → ((readNumbers x .number ≡ v) × (readNumbers x .place ≡ k)) ↔ (x ≡ read.refuse v k)
+read-says x v k z = (there x, λ e. rw e (refl, refl))
+  where
+    there : (y : Reading) → (readNumbers y .number ≡ v) × (readNumbers y .place ≡ k) → y ≡ read.refuse v k
+    there (reading.Bytes n) (a, b) = absurd (z (sym a))
+    there (reading.Refused f) (a, b) = ap₂ read.refuse a b
+
 module _ (s path : List ℕ) (o : ℕ) (output : List ℕ) (r : ReadNumbers) (output′ : List ℕ) (a : ReadsFloppy s path o output r output′) where
-  -- the number is 0 if and only if bytes are read
-  pub read-zero : (r .number ≡ 0) ↔ ((n : ℕ) × (read.readOf floppy s path o (length output) ≡ reading.Bytes n))
-  read-zero = rw (a .answer) (read-numbers.zero-exactly floppy s path o output _ output′ (a .behind))
+  -- the number is 0 if and only if the answer is a number of bytes
+  read-answers : (r .number ≡ 0) ↔ ((n : ℕ) × (read.readOf floppy s path o (length output) ≡ reading.Bytes n))
+  read-answers = rw (a .answer) (read-numbers.zero-exactly floppy s path o output _ output′ (a .behind))
+
+  -- the number is 0 if and only if the path leads to a whole file, of which so many bytes are given
+  pub read-zero : (r .number ≡ 0) ↔ outcomes.Gives floppy s path o (length output) (r .count)
+  read-zero = (there, λ g. read-answers .1 (_, read-exactly floppy s path o (length output) (r .count) .1 g))
+    where
+      there : r .number ≡ 0 → outcomes.Gives floppy s path o (length output) (r .count)
+      there z =
+          let x = read-answers .0 z in
+          rw (a .answer ∙ ap readNumbers (x .1)) (read-exactly floppy s path o (length output) (x .0) .0 (x .1))
+
+  -- another number v is given at place k if and only if `Refuses` holds of them
+  pub read-refused-at : (v k : ℕ) → v ≢ 0 → ((r .number ≡ v) × (r .place ≡ k)) ↔ outcomes.Refuses floppy s path v k
+  read-refused-at v k z = rw (a .answer) (chain (read-says (read.readOf floppy s path o (length output)) v k z) (unread.refused-exactly floppy s path o (length output) v k))
 
   -- the number is 0 or one of these
   pub read-number : r .number ∈ (0 ∷ read.readRefusals)
@@ -113,15 +210,36 @@ module _ (s path : List ℕ) (o : ℕ) (output : List ℕ) (r : ReadNumbers) (ou
   read-refused z = go (read.readOf floppy s path o (length output)) refl (a .behind .left)
     where
       go : (x : Reading) → read.readOf floppy s path o (length output) ≡ x → output′ ≡ read.leaves floppy s path o output x → (output′ ≡ output) × (r .count ≡ 0)
-      go (reading.Bytes n) e c = absurd (z (read-zero .1 (n, e)))
+      go (reading.Bytes n) e c = absurd (z (read-answers .1 (n, e)))
       go (reading.Refused f) e c = let q = a .answer ∙ ap readNumbers e in (c, rw q refl)
 
--- ---- a load and a move
+-- ---- a program file: its check, a load and a move
 
 -- 0 or one of these
-program-number : (x : Answer) → ((f : Refusal) → x ≡ Refused f → programNumbers x .number ∈ callRefusals) → programNumbers x .number ∈ (0 ∷ callRefusals)
-program-number (Accepted t n) h = inl refl
-program-number (Refused f) h = inr (h f refl)
+program-number : (ns : List ℕ) (x : Answer) → ((f : Refusal) → x ≡ Refused f → numbersOf x .number ∈ ns) → numbersOf x .number ∈ (0 ∷ ns)
+program-number ns (Accepted t n) h = inl refl
+program-number ns (Refused f) h = inr (h f refl)
+
+-- a number other than 0, with its place, is a refusal's
+program-says : (x : Answer) (v k : ℕ) → v ≢ 0 → ((numbersOf x .number ≡ v) × (numbersOf x .place ≡ k)) ↔ (x ≡ Refused (refusal v k))
+program-says x v k z = (there x, λ e. rw e (refl, refl))
+  where
+    there : (y : Answer) → (numbersOf y .number ≡ v) × (numbersOf y .place ≡ k) → y ≡ Refused (refusal v k)
+    there (Accepted t n) (a, b) = absurd (z (sym a))
+    there (Refused f) (a, b) = ap₂ (λ (v k : ℕ). Refused (refusal v k)) a b
+
+-- what is accepted has the numbers of its answer
+accepted-values : (x : Answer) (r : ProgramNumbers) → r ≡ programNumbers x → Accepts x → x ≡ Accepted (r .hunks) (r .bytes)
+accepted-values x r e (t, n, q) = let p = e ∙ ap programNumbers q in rw p q
+
+module _ (file : List ℕ) (r : Answer) (a : Checks file r) where
+  -- the check's number is 0 if and only if the file holds hunks
+  pub check-zero : (numbersOf r .number ≡ 0) ↔ ((hs : List paper.Hunk) × paper.Holds file hs)
+  check-zero = chain (check-numbers.zero-exactly file r a) (rw (a .answer) (page file))
+
+  -- it is 0 or one of these
+  pub check-number : numbersOf r .number ∈ (0 ∷ checkRefusals)
+  check-number = program-number checkRefusals r (check-numbers.number-listed file r a)
 
 -- what is refused has no values, and what it was lent stays
 refused-keeps : (x : Answer) (r : ProgramNumbers) (m n m′ : List ℕ) (t u t′ : List Hunk) → r ≡ programNumbers x → r .number ≢ 0 → m′ ≡ effect x n m → t′ ≡ kept x u t → (m′ ≡ m) × (t′ ≡ t) × (r .hunks ≡ 0) × (r .bytes ≡ 0)
@@ -130,26 +248,48 @@ refused-keeps (Refused f) r m n m′ t u t′ e z p q = (p, q, rw e refl, rw e r
 
 module _ (file m : List ℕ) (t : List Hunk) (w : List ℕ) (r : ProgramNumbers) (m′ : List ℕ) (t′ : List Hunk) (w′ : List ℕ) where
   module _ (bases : List ℕ) (a : LoadsNumbers file bases m t w r m′ t′ w′) where
-    -- the number is 0 if and only if the load is accepted
-    pub load-zero : (r .number ≡ 0) ↔ Accepts (loadsAs file m t w bases)
-    load-zero = rw (a .answer) (hunk-numbers.load-zero-exactly file m t w _ m′ t′ w′ bases (a .behind))
+    -- the number is 0 if and only if the answer is one that accepts
+    pub load-accepts : (r .number ≡ 0) ↔ Accepts (loadsAs file m t w bases)
+    load-accepts = rw (a .answer) (hunk-numbers.load-zero-exactly file m t w _ m′ t′ w′ bases (a .behind))
+
+    -- the number is 0 if and only if the file holds hunks and `Takes` holds of them, with their number and bytes
+    pub load-zero : (r .number ≡ 0) ↔ ((hs : List paper.Hunk) × paper.Holds file hs × Takes hs (bases ∷ []) (length m) (length t) (length w) (r .hunks) (r .bytes))
+    load-zero =
+        let v = verdicts.load-accepted file bases (length m) (length t) (length w) (r .hunks) (r .bytes) in
+        (λ z. v .0 (accepted-values _ r (a .answer) (load-accepts .0 z)), λ h. load-accepts .1 (_, _, v .1 h))
+
+    -- another number v is given at place k if and only if `CallWhy` holds of them
+    pub load-refused-at : (v k : ℕ) → v ≢ 0 → ((r .number ≡ v) × (r .place ≡ k)) ↔ CallWhy file (bases ∷ []) (length m) (length t) (length w) (refusal v k)
+    load-refused-at v k z =
+        rw (a .answer) (chain (program-says (loadsAs file m t w bases) v k z) (verdicts.load-refused file bases (length m) (length t) (length w) (refusal v k)))
 
     -- the number is 0 or one of these
     pub load-number : r .number ∈ (0 ∷ callRefusals)
-    load-number = rw (a .answer) (program-number (loadsAs file m t w bases) (hunk-numbers.load-listed file m t w _ m′ t′ w′ bases (a .behind)))
+    load-number = rw (a .answer) (program-number callRefusals (loadsAs file m t w bases) (hunk-numbers.load-listed file m t w _ m′ t′ w′ bases (a .behind)))
 
     -- a refused load leaves memory and table, and its work area comes back cleared
     pub load-refused : r .number ≢ 0 → (m′ ≡ m) × (t′ ≡ t) × (w′ ≡ replicate (length w) 0) × (r .hunks ≡ 0) × (r .bytes ≡ 0)
     load-refused z = let k = refused-keeps (loadsAs file m t w bases) r m (loadOf file bases m) m′ t (hunksOf file bases t) t′ (a .answer) z (a .behind .loaded) (a .behind .recorded) in (k .0, k .1, a .behind .clean, k .2, k .3)
 
   module _ (old new : List ℕ) (a : MovesNumbers file old new m t w r m′ t′ w′) where
-    -- the number is 0 if and only if the move is accepted
-    pub move-zero : (r .number ≡ 0) ↔ Accepts (movesAs file m t w old new)
-    move-zero = rw (a .answer) (hunk-numbers.move-zero-exactly file m t w _ m′ t′ w′ old new (a .behind))
+    -- the number is 0 if and only if the answer is one that accepts
+    pub move-accepts : (r .number ≡ 0) ↔ Accepts (movesAs file m t w old new)
+    move-accepts = rw (a .answer) (hunk-numbers.move-zero-exactly file m t w _ m′ t′ w′ old new (a .behind))
+
+    -- the number is 0 if and only if the file holds hunks and `Takes` holds of them, with their number and bytes
+    pub move-zero : (r .number ≡ 0) ↔ ((hs : List paper.Hunk) × paper.Holds file hs × Takes hs (old ∷ new ∷ []) (length m) (length t) (length w) (r .hunks) (r .bytes))
+    move-zero =
+        let v = verdicts.move-accepted file old new (length m) (length t) (length w) (r .hunks) (r .bytes) in
+        (λ z. v .0 (accepted-values _ r (a .answer) (move-accepts .0 z)), λ h. move-accepts .1 (_, _, v .1 h))
+
+    -- another number v is given at place k if and only if `CallWhy` holds of them
+    pub move-refused-at : (v k : ℕ) → v ≢ 0 → ((r .number ≡ v) × (r .place ≡ k)) ↔ CallWhy file (old ∷ new ∷ []) (length m) (length t) (length w) (refusal v k)
+    move-refused-at v k z =
+        rw (a .answer) (chain (program-says (movesAs file m t w old new) v k z) (verdicts.move-refused file old new (length m) (length t) (length w) (refusal v k)))
 
     -- the number is 0 or one of these
     pub move-number : r .number ∈ (0 ∷ callRefusals)
-    move-number = rw (a .answer) (program-number (movesAs file m t w old new) (hunk-numbers.move-listed file m t w _ m′ t′ w′ old new (a .behind)))
+    move-number = rw (a .answer) (program-number callRefusals (movesAs file m t w old new) (hunk-numbers.move-listed file m t w _ m′ t′ w′ old new (a .behind)))
 
     -- a refused move leaves memory and table, and its work area comes back cleared
     pub move-refused : r .number ≢ 0 → (m′ ≡ m) × (t′ ≡ t) × (w′ ≡ replicate (length w) 0) × (r .hunks ≡ 0) × (r .bytes ≡ 0)
