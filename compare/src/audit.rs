@@ -1,4 +1,4 @@
-//! The audit of a volume: every block that it reaches is met once, claimed and tested (the build paper, section
+//! The audit of a volume: every block that it reaches is met once, claimed and tested (docs/FORMAT.md,
 //! "Order of the walk").
 //!
 //! The paper's walk goes down into every directory it meets. Here nothing calls itself: entries that are known of

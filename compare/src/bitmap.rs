@@ -1,4 +1,4 @@
-//! The bitmap block: one bit for each block of the volume, set while the block is free (the build paper, section
+//! The bitmap block: one bit for each block of the volume, set while the block is free (docs/FORMAT.md,
 //! "Blocks of a volume", Bitmap block).
 
 use crate::disk::Disk;

@@ -252,7 +252,7 @@ mod tests {
         assert_eq!(read_out(&titles(), SETTINGS.as_bytes()).err, b"");
     }
 
-    /// The build paper's own case (section "Worked cases"), loaded and moved.
+    /// The case that docs/FORMAT.md works out ("Worked cases"), loaded and moved.
     #[test]
     fn words_and_tables() {
         let text = String::from_utf8(loaded(b"f", &worked_file(), &[0x3000, 0x7000])).expect("a text");

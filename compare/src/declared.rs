@@ -1,7 +1,7 @@
 //! The question of the audit without its walk: is this image a volume, what does it reach, and what does it count?
 //!
 //! References are collected until no new one turns up; that is the set of blocks reached. Then every rule of the
-//! build paper's section "Blocks of a volume" is asked of whatever it speaks of: a block, a whole directory, a whole
+//! docs/FORMAT.md, "Blocks of a volume", is asked of whatever it speaks of: a block, a whole directory, a whole
 //! file, the whole bitmap. Nothing stops at the first fault and nothing depends on an order, and the words are read
 //! here anew instead of by [`blocks`](crate::blocks). Each broken rule is noted with its number and place, so an
 //! audit's refusal has to be among the notes.

@@ -1,6 +1,6 @@
 //! What follows from how many blocks a disk has and what kind it is.
 //!
-//! The build paper gives most of these as plain numbers, scattered over its sections. Here each is said once, as
+//! docs/FORMAT.md gives most of these as plain numbers, scattered over its sections. Here each is said once, as
 //! a consequence of the block count; outside of tests no other module writes one of them down.
 
 use crate::words::BLOCK_BYTES;

@@ -1,6 +1,6 @@
 //! A second opinion on the disks that the Rattle library reads.
 //!
-//! Everything here was written from the build paper alone, without a look at the library's code, so that a
+//! Everything here was written from the rules of the format alone, without a look at the library's code, so that a
 //! misreading has to be made twice before the two agree on it. Where the paper gives a rule as a step by step
 //! recipe, this side prefers another way to the same number.
 //!

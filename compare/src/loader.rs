@@ -1,4 +1,4 @@
-//! Loading and moving a program (the build paper, section "The program file").
+//! Loading and moving a program (docs/FORMAT.md, "The program file").
 //!
 //! Both calls ask everything before they write anything. A load then makes the wanted memory apart and copies it
 //! over; a move goes through the targets one by one in the memory it was lent.
@@ -194,7 +194,7 @@ mod tests {
 
     const PLENTY: Room = Room { memory: 64, records: 3, work: 70 };
 
-    /// The words that the build paper prints for the worked file, hunk by hunk.
+    /// The words that docs/FORMAT.md prints for the worked file, hunk by hunk.
     const FIRST: [u32; 6] = [0x0000_3008, 0x123C_00FF, 0x7001_4E71, 0x4EB9_0000, 0x7006_2239, 0x0000_7008];
     const SECOND: [u32; 4] = [0x2A3C_AAAA, 0xAAAA_4E71, 0x7201_4EF9, 0x0000_300A];
 
@@ -387,7 +387,7 @@ mod tests {
         }
     }
 
-    /// The laws of the build paper's section "What the contracts must decide", and those of moves alone, which hold
+    /// The laws of moving (docs/FORMAT.md, "Bases and room"), and those of moves alone, which hold
     /// whatever memory and table held before.
     #[test]
     fn moves_keep_their_laws() {

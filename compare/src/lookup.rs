@@ -1,4 +1,4 @@
-//! Finding a path on any image, whatever an audit says of it (the build paper, section "Paths and reads").
+//! Finding a path on any image, whatever an audit says of it (docs/FORMAT.md, "Paths and reads").
 //!
 //! A path is first cut into the list of its components, and the list is gone through in a loop. A chain is taken for
 //! the sequence of keys that its links give, which may have no end; the search numbers them and knows where to stop.

@@ -1,4 +1,4 @@
-//! Names of entries: which are allowed, when two are the same, and in which slot one hangs (the build paper,
+//! Names of entries: which are allowed, when two are the same, and in which slot one hangs (docs/FORMAT.md,
 //! section "Blocks of a volume", Name and Hash).
 
 use crate::words::TABLE;

@@ -1,4 +1,4 @@
-//! The check of a program file, and what it holds (the build paper, section "The program file").
+//! The check of a program file, and what it holds (docs/FORMAT.md, "The program file").
 //!
 //! The file is taken apart the way the paper builds it up: a header, then hunks; a hunk is perhaps a name, then a
 //! body, then whatever blocks follow, then its end. Every such piece has a function of its own that takes its words
@@ -29,7 +29,7 @@ pub const HUNKS: u32 = 64;
 /// The most words of a hunk.
 pub const HUNK_WORDS: u32 = 65_536;
 
-/// Why something is turned away, and where (the build paper, section "Numbers").
+/// Why something is turned away, and where (docs/FORMAT.md, "Numbers").
 #[derive(Clone, Copy, Debug, PartialEq, Eq)]
 pub struct Refusal {
     /// The number of the broken rule.

@@ -1,4 +1,4 @@
-//! Good programs and good bases for them, drawn at random (the build paper, section "The program file").
+//! Good programs and good bases for them, drawn at random (docs/FORMAT.md, "The program file").
 //!
 //! A [`Program`] is drawn first and written as a file after, so what a reader must find in the file is known without
 //! reading it. The written words carry their parts in the file with them: that is where harm is done to them, see

@@ -1,4 +1,4 @@
-//! Reading a file on any image, whatever an audit says of it (the build paper, section "Paths and reads").
+//! Reading a file on any image, whatever an audit says of it (docs/FORMAT.md, "Paths and reads").
 //!
 //! A file is had as a whole: its tables first, then all keys in them, then all its bytes. What is asked for is cut
 //! from these at last, so nothing can be copied too early.

@@ -1,4 +1,4 @@
-//! How a file's size decides its blocks (the build paper, section "Blocks of a volume", File, List block and Data
+//! How a file's size decides its blocks (docs/FORMAT.md, "Blocks of a volume", File, List block and Data
 //! block).
 
 use crate::disk::Disk;

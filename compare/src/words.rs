@@ -1,4 +1,4 @@
-//! The words of a block: 128 numbers of 32 bits, highest byte first (the build paper, section "What is built").
+//! The words of a block: 128 numbers of 32 bits, highest byte first (docs/FORMAT.md, "What is built").
 //!
 //! Words are counted as the paper counts them: `word(block, 3)` is its w3.
 

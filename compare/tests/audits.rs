@@ -120,7 +120,7 @@ fn laid_out(rng: &mut Rng, plan: &Plan) -> Volume {
     Volume::new(rng, &DISK, plan, style)
 }
 
-/// The build paper's own case (section "Worked cases"), without the opinions.
+/// The case that docs/FORMAT.md works out ("Worked cases"), without the opinions.
 #[test]
 fn the_empty_volume() {
     let volume = laid_out(&mut Rng::new(90), &empty());

@@ -61,7 +61,7 @@ fn empty_hunks(sizes: &[u32]) -> Vec<u8> {
     bytes(&file)
 }
 
-/// The build paper's own case (section "Worked cases").
+/// The case that docs/FORMAT.md works out ("Worked cases").
 #[test]
 fn the_worked_file() {
     let first = ["00003008", "123C00FF", "70014E71", "4EB90000", "70062239", "00007008"];

@@ -112,7 +112,7 @@ fn sums(memory: &[u8], table: &[u32], work: &[u8]) -> String {
 
 const WORKED_BASES: [u32; 2] = [0x3000, 0x7000];
 
-/// The build paper's own case (section "Worked cases"), without the model.
+/// The case that docs/FORMAT.md works out ("Worked cases"), without the model.
 #[test]
 fn the_worked_case() {
     let first = [0x0000_3008, 0x123C_00FF, 0x7001_4E71, 0x4EB9_0000, 0x7006_2239, 0x0000_7008];

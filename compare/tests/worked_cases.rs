@@ -1,4 +1,4 @@
-//! The cases that the build paper works out itself (section "Worked cases"), and the numbers that it gives for
+//! The cases that docs/FORMAT.md works out ("Worked cases"), and the numbers that it gives for
 //! the one disk of the base.
 
 use compare::audit::{audit, Report};

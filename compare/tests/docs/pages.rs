@@ -13,7 +13,8 @@ pub fn root() -> PathBuf {
 pub fn pages() -> Vec<String> {
     let docs = names_in(&root().join("docs")).into_iter().filter(|name| name.ends_with(".md"));
     let mut pages: Vec<_> = docs.map(|name| format!("docs/{name}")).collect();
-    pages.extend(["README.md", "samples/README.md", "benchmarks/README.md"].map(String::from));
+    let others = ["README.md", "CONTRIBUTING.md", "CHANGELOG.md", "samples/README.md", "benchmarks/README.md"];
+    pages.extend(others.map(String::from));
     pages
 }
 

@@ -1,4 +1,4 @@
--- A refusal is a number and a place (the build paper, "Numbers").
+-- A refusal is a number and a place (docs/FORMAT.md, "Numbers").
 use Prim.Native.Nat.{ℕ}
 use Rattle.answers.specs.declared.Refusal.{Refusal}
 

@@ -1,4 +1,4 @@
--- A list of tests gives 0 where all pass, else the number of the first that fails (the build paper, "Numbers").
+-- A list of tests gives 0 where all pass, else the number of the first that fails (docs/FORMAT.md, "Numbers").
 use Prim.Native.Nat.{ℕ, zero, suc}
 use mathlib.Core.Bool.{Bool, true, false}
 use mathlib.Core.List.{List, [], _∷_}

@@ -1,4 +1,4 @@
--- What an audit answers, and what it leaves in the claim area (the build paper, "Order of the walk" and "Numbers"): the image's length, the
+-- What an audit answers, and what it leaves in the claim area (docs/FORMAT.md, "Order of the walk" and "Numbers"): the image's length, the
 -- claim area, the boot tag, then the walk from the root, and the bitmap last.
 use Prim.Native.Nat.{ℕ, _+_, _-_}
 use mathlib.Core.Path.{_≡_}

@@ -1,4 +1,4 @@
--- What an audit's answer means, said of blocks, kinds and bits (the build paper, "Order of the walk" and "Numbers"): the six numbers of a
+-- What an audit's answer means, said of blocks, kinds and bits (docs/FORMAT.md, "Order of the walk" and "Numbers"): the six numbers of a
 -- report, the claim area after it, and the cause of each refusal.
 use Prim.Native.Nat.{ℕ, zero, suc, _+_, _≤_, _<_}
 use mathlib.Core.Path.{_≡_}

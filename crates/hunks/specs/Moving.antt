@@ -1,4 +1,4 @@
--- What the laws of moving speak of, for tables of structs: equal room, and loads that are accepted (the build paper, "The program file").
+-- What the laws of moving speak of, for tables of structs: equal room, and loads that are accepted (docs/FORMAT.md, "Bases and room").
 use Prim.Native.Nat.{ℕ}
 use mathlib.Core.Path.{_≡_}
 use mathlib.Core.List.{List}

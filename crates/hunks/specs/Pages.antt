@@ -1,4 +1,4 @@
--- The hunk table, and an accepted call, in the terms of the page: the records of a list of hunks that stand end to end (the build paper,
+-- The hunk table, and an accepted call, in the terms of the page: the records of a list of hunks that stand end to end (docs/FORMAT.md,
 -- "The program file").
 use Prim.Native.Nat.{ℕ, _+_, _*_}
 use mathlib.Core.Path.{_≡_}

@@ -72,7 +72,7 @@ audit-says x v k z = (there x, λ e. rw e (refl, refl))
 module _ (s : List ℕ) (n : ℕ) (r : AuditNumbers) (claim′ : List ℕ) (a : AuditsFloppy s n r claim′) where
   -- the number is 0 if and only if the answer is one that accepts
   audit-accepts : (r .number ≡ 0) ↔ ((p : Report) × (audit.auditOf floppy s n ≡ audited.Accepted p))
-  audit-accepts = rw (a .answer) (audit-numbers.zero-exactly floppy s n _ claim′ (a .behind))
+  audit-accepts = rw (a .answer) (audit-numbers.zero-exactly floppy s n _ claim′ (a .call))
 
   -- the number is 0 if and only if there is a claim byte for each block and the image is a volume
   pub audit-zero : (r .number ≡ 0) ↔ ((1760 ≤ n) × Volume floppy s)
@@ -94,7 +94,7 @@ module _ (s : List ℕ) (n : ℕ) (r : AuditNumbers) (claim′ : List ℕ) (a : 
 
   -- the number is 0 or one of these
   pub audit-number : r .number ∈ (0 ∷ audit.auditRefusals)
-  audit-number = rw (a .answer) (go (audit.auditOf floppy s n) (audit-numbers.number-listed floppy s n _ claim′ (a .behind)))
+  audit-number = rw (a .answer) (go (audit.auditOf floppy s n) (audit-numbers.number-listed floppy s n _ claim′ (a .call)))
     where
       go : (x : Audited) → ((f : Refusal) → x ≡ audited.Refused f → audit.numbersOf x .number ∈ audit.auditRefusals) → auditNumbers x .number ∈ (0 ∷ audit.auditRefusals)
       go (audited.Accepted p) h = inl refl
@@ -102,7 +102,7 @@ module _ (s : List ℕ) (n : ℕ) (r : AuditNumbers) (claim′ : List ℕ) (a : 
 
   -- a refused audit reports nothing, and its claim area comes back cleared
   pub audit-refused : r .number ≢ 0 → (claim′ ≡ replicate n 0) × (r .directories ≡ 0) × (r .files ≡ 0) × (r .«list_blocks» ≡ 0) × (r .«data_blocks» ≡ 0) × (r .used ≡ 0) × (r .free ≡ 0)
-  audit-refused z = go (audit.auditOf floppy s n) refl (a .behind .claim)
+  audit-refused z = go (audit.auditOf floppy s n) refl (a .call .claim)
     where
       go : (x : Audited) → audit.auditOf floppy s n ≡ x → claim′ ≡ audit.leaves floppy s x n → (claim′ ≡ replicate n 0) × (r .directories ≡ 0) × (r .files ≡ 0) × (r .«list_blocks» ≡ 0) × (r .«data_blocks» ≡ 0) × (r .used ≡ 0) × (r .free ≡ 0)
       go (audited.Accepted p) e c = absurd (z (audit-accepts .1 (p, e)))
@@ -182,7 +182,7 @@ read-says x v k z = (there x, λ e. rw e (refl, refl))
 module _ (s path : List ℕ) (o : ℕ) (output : List ℕ) (r : ReadNumbers) (output′ : List ℕ) (a : ReadsFloppy s path o output r output′) where
   -- the number is 0 if and only if the answer is a number of bytes
   read-answers : (r .number ≡ 0) ↔ ((n : ℕ) × (read.readOf floppy s path o (length output) ≡ reading.Bytes n))
-  read-answers = rw (a .answer) (read-numbers.zero-exactly floppy s path o output _ output′ (a .behind))
+  read-answers = rw (a .answer) (read-numbers.zero-exactly floppy s path o output _ output′ (a .call))
 
   -- the number is 0 if and only if the path leads to a whole file, of which so many bytes are given
   pub read-zero : (r .number ≡ 0) ↔ outcomes.Gives floppy s path o (length output) (r .count)
@@ -199,7 +199,7 @@ module _ (s path : List ℕ) (o : ℕ) (output : List ℕ) (r : ReadNumbers) (ou
 
   -- the number is 0 or one of these
   pub read-number : r .number ∈ (0 ∷ read.readRefusals)
-  read-number = rw (a .answer) (go (read.readOf floppy s path o (length output)) (read-numbers.number-listed floppy s path o output _ output′ (a .behind)))
+  read-number = rw (a .answer) (go (read.readOf floppy s path o (length output)) (read-numbers.number-listed floppy s path o output _ output′ (a .call)))
     where
       go : (x : Reading) → ((f : Refusal) → x ≡ reading.Refused f → read.numbersOf x .number ∈ read.readRefusals) → readNumbers x .number ∈ (0 ∷ read.readRefusals)
       go (reading.Bytes n) h = inl refl
@@ -207,7 +207,7 @@ module _ (s path : List ℕ) (o : ℕ) (output : List ℕ) (r : ReadNumbers) (ou
 
   -- a refused read leaves the output
   pub read-refused : r .number ≢ 0 → (output′ ≡ output) × (r .count ≡ 0)
-  read-refused z = go (read.readOf floppy s path o (length output)) refl (a .behind .left)
+  read-refused z = go (read.readOf floppy s path o (length output)) refl (a .call .left)
     where
       go : (x : Reading) → read.readOf floppy s path o (length output) ≡ x → output′ ≡ read.leaves floppy s path o output x → (output′ ≡ output) × (r .count ≡ 0)
       go (reading.Bytes n) e c = absurd (z (read-answers .1 (n, e)))
@@ -250,7 +250,7 @@ module _ (file m : List ℕ) (t : List Hunk) (w : List ℕ) (r : ProgramNumbers)
   module _ (bases : List ℕ) (a : LoadsNumbers file bases m t w r m′ t′ w′) where
     -- the number is 0 if and only if the answer is one that accepts
     pub load-accepts : (r .number ≡ 0) ↔ Accepts (loadsAs file m t w bases)
-    load-accepts = rw (a .answer) (hunk-numbers.load-zero-exactly file m t w _ m′ t′ w′ bases (a .behind))
+    load-accepts = rw (a .answer) (hunk-numbers.load-zero-exactly file m t w _ m′ t′ w′ bases (a .call))
 
     -- the number is 0 if and only if the file holds hunks and `Takes` holds of them, with their number and bytes
     pub load-zero : (r .number ≡ 0) ↔ ((hs : List paper.Hunk) × paper.Holds file hs × Takes hs (bases ∷ []) (length m) (length t) (length w) (r .hunks) (r .bytes))
@@ -265,16 +265,16 @@ module _ (file m : List ℕ) (t : List Hunk) (w : List ℕ) (r : ProgramNumbers)
 
     -- the number is 0 or one of these
     pub load-number : r .number ∈ (0 ∷ callRefusals)
-    load-number = rw (a .answer) (program-number callRefusals (loadsAs file m t w bases) (hunk-numbers.load-listed file m t w _ m′ t′ w′ bases (a .behind)))
+    load-number = rw (a .answer) (program-number callRefusals (loadsAs file m t w bases) (hunk-numbers.load-listed file m t w _ m′ t′ w′ bases (a .call)))
 
     -- a refused load leaves memory and table, and its work area comes back cleared
     pub load-refused : r .number ≢ 0 → (m′ ≡ m) × (t′ ≡ t) × (w′ ≡ replicate (length w) 0) × (r .hunks ≡ 0) × (r .bytes ≡ 0)
-    load-refused z = let k = refused-keeps (loadsAs file m t w bases) r m (loadOf file bases m) m′ t (hunksOf file bases t) t′ (a .answer) z (a .behind .loaded) (a .behind .recorded) in (k .0, k .1, a .behind .clean, k .2, k .3)
+    load-refused z = let k = refused-keeps (loadsAs file m t w bases) r m (loadOf file bases m) m′ t (hunksOf file bases t) t′ (a .answer) z (a .call .loaded) (a .call .recorded) in (k .0, k .1, a .call .clean, k .2, k .3)
 
   module _ (old new : List ℕ) (a : MovesNumbers file old new m t w r m′ t′ w′) where
     -- the number is 0 if and only if the answer is one that accepts
     pub move-accepts : (r .number ≡ 0) ↔ Accepts (movesAs file m t w old new)
-    move-accepts = rw (a .answer) (hunk-numbers.move-zero-exactly file m t w _ m′ t′ w′ old new (a .behind))
+    move-accepts = rw (a .answer) (hunk-numbers.move-zero-exactly file m t w _ m′ t′ w′ old new (a .call))
 
     -- the number is 0 if and only if the file holds hunks and `Takes` holds of them, with their number and bytes
     pub move-zero : (r .number ≡ 0) ↔ ((hs : List paper.Hunk) × paper.Holds file hs × Takes hs (old ∷ new ∷ []) (length m) (length t) (length w) (r .hunks) (r .bytes))
@@ -289,8 +289,8 @@ module _ (file m : List ℕ) (t : List Hunk) (w : List ℕ) (r : ProgramNumbers)
 
     -- the number is 0 or one of these
     pub move-number : r .number ∈ (0 ∷ callRefusals)
-    move-number = rw (a .answer) (program-number callRefusals (movesAs file m t w old new) (hunk-numbers.move-listed file m t w _ m′ t′ w′ old new (a .behind)))
+    move-number = rw (a .answer) (program-number callRefusals (movesAs file m t w old new) (hunk-numbers.move-listed file m t w _ m′ t′ w′ old new (a .call)))
 
     -- a refused move leaves memory and table, and its work area comes back cleared
     pub move-refused : r .number ≢ 0 → (m′ ≡ m) × (t′ ≡ t) × (w′ ≡ replicate (length w) 0) × (r .hunks ≡ 0) × (r .bytes ≡ 0)
-    move-refused z = let k = refused-keeps (movesAs file m t w old new) r m (moveOf file old new m) m′ t (hunksOf file new t) t′ (a .answer) z (a .behind .shifted) (a .behind .recorded) in (k .0, k .1, a .behind .clean, k .2, k .3)
+    move-refused z = let k = refused-keeps (movesAs file m t w old new) r m (moveOf file old new m) m′ t (hunksOf file new t) t′ (a .answer) z (a .call .shifted) (a .call .recorded) in (k .0, k .1, a .call .clean, k .2, k .3)

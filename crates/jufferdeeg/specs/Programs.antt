@@ -25,8 +25,8 @@ module _ (file memory : List ℕ) (table : List Hunk) (work : List ℕ) where
 
 pub record LoadsNumbers (file bases memory : List ℕ) (table : List Hunk) (work : List ℕ) (r : ProgramNumbers) (memory′ : List ℕ) (table′ : List Hunk) (work′ : List ℕ) : Type 0 where
   pub answer : r ≡ programNumbers (loadsAs file memory table work bases)
-  pub behind : Loads file bases memory table work (loadsAs file memory table work bases) memory′ table′ work′
+  pub call : Loads file bases memory table work (loadsAs file memory table work bases) memory′ table′ work′
 
 pub record MovesNumbers (file old new memory : List ℕ) (table : List Hunk) (work : List ℕ) (r : ProgramNumbers) (memory′ : List ℕ) (table′ : List Hunk) (work′ : List ℕ) : Type 0 where
   pub answer : r ≡ programNumbers (movesAs file memory table work old new)
-  pub behind : Moves file old new memory table work (movesAs file memory table work old new) memory′ table′ work′
+  pub call : Moves file old new memory table work (movesAs file memory table work old new) memory′ table′ work′

@@ -33,7 +33,7 @@ readNumbers a =
 -- of an audit of image s with a claim area of n bytes
 pub record AuditsFloppy (s : List ℕ) (n : ℕ) (r : AuditNumbers) (claim′ : List ℕ) : Type 0 where
   pub answer : r ≡ auditNumbers (audit.auditOf floppy s n)
-  pub behind : audit.Audits floppy s n (audit.auditOf floppy s n) claim′
+  pub call : audit.Audits floppy s n (audit.auditOf floppy s n) claim′
 
 abbrev pub findOnFloppy : List ℕ → List ℕ → FindNumbers
 findOnFloppy s path = findNumbers (lookup.findOf floppy s path)
@@ -41,4 +41,4 @@ findOnFloppy s path = findNumbers (lookup.findOf floppy s path)
 -- of a read at offset o
 pub record ReadsFloppy (s path : List ℕ) (o : ℕ) (output : List ℕ) (r : ReadNumbers) (output′ : List ℕ) : Type 0 where
   pub answer : r ≡ readNumbers (read.readOf floppy s path o (length output))
-  pub behind : read.Reads floppy s path o output (read.readOf floppy s path o (length output)) output′
+  pub call : read.Reads floppy s path o output (read.readOf floppy s path o (length output)) output′

@@ -1,4 +1,4 @@
--- What a load and a move answer, and what they leave: the file's own faults, then bases, room, near targets (the build paper, "The program
+-- What a load and a move answer, and what they leave: the file's own faults, then bases, room, near targets (docs/FORMAT.md, "The program
 -- file" and "Numbers"). A refused call leaves memory and table; the work area comes back all 0.
 use Prim.Native.Nat.{ℕ, _*_, _/_, _%_, _≤_}
 use mathlib.Core.Path.{_≡_}

@@ -1,4 +1,4 @@
--- Loaded memory: hunks end to end, their stored words, zeros up to their sizes, and each target with its amount (the build paper, "The
+-- Loaded memory: hunks end to end, their stored words, zeros up to their sizes, and each target with its amount (docs/FORMAT.md, "The
 -- program file").
 use Prim.Native.Nat.{ℕ, _+_, _-_, _%_, _^_, _<_, _≤_}
 use mathlib.Core.List.{List, [], _∷_, _++_}

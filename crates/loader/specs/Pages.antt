@@ -1,4 +1,4 @@
--- A load in the terms of the page: records, memory and targets of a list of hunks that stand end to end (the build paper, "The program file").
+-- A load in the terms of the page: records, memory and targets of a list of hunks that stand end to end (docs/FORMAT.md, "The program file").
 use Prim.Native.Nat.{ℕ, zero, suc, _+_, _-_, _*_, _/_, _%_, _^_, _<_, _≤_}
 use mathlib.Core.Path.{_≡_}
 use mathlib.Core.Logic.{_⊎_}

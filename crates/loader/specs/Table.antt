@@ -1,4 +1,4 @@
--- The hunk table: a record of four numbers for each hunk, in order: kind, place, size in words, base (the build paper, "The program file").
+-- The hunk table: a record of four numbers for each hunk, in order: kind, place, size in words, base (docs/FORMAT.md, "The program file").
 use Prim.Native.Nat.{ℕ, _+_, _*_}
 use mathlib.Core.List.{List, _++_}
 use lib.ListN.{set, take, drop, replicate}

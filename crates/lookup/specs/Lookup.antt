@@ -1,5 +1,5 @@
 -- A lookup: image length, the path's form, boot tag, the root up to its name; then component by component, each in the directory that
--- the one before it led to (the build paper, "Paths and reads" and "Numbers").
+-- the one before it led to (docs/FORMAT.md, "Paths and reads" and "Numbers").
 use Prim.Native.Nat.{ℕ, _+_}
 use mathlib.Core.Path.{_≡_}
 use mathlib.Core.List.{List, [], _∷_}

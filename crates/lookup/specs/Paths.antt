@@ -1,5 +1,5 @@
 -- A path is components split by '/'. It has at most 255 bytes, and each component is 1 to 30 bytes without ':'; the empty path has no
--- component (the build paper, "Paths and reads"; refusal 18).
+-- component (docs/FORMAT.md, "Paths and reads"; refusal 18).
 use Prim.Native.Nat.{ℕ, _+_}
 use mathlib.Core.Bool.{Bool, false}
 use mathlib.Core.List.{List, [], _∷_, _++_}

@@ -1,5 +1,5 @@
 -- One component in a directory: the chain of its name's slot is searched place by place. Each entry is tested, counted, and compared; the
--- first with an equal folded name ends the search (the build paper, "Paths and reads").
+-- first with an equal folded name ends the search (docs/FORMAT.md, "Paths and reads").
 use Prim.Native.Nat.{ℕ, zero, suc, _+_}
 use mathlib.Core.List.{List, [], _∷_}
 use lib.Dec.{ltb, eqb}

@@ -1,4 +1,4 @@
--- A hunk that is begun: what of it stands before a word of the file, and which word may not come next (the build paper, "The program file",
+-- A hunk that is begun: what of it stands before a word of the file, and which word may not come next (docs/FORMAT.md, "The program file",
 -- and "Numbers", 35 to 38). A case is named after the word that comes next.
 use Prim.Native.Nat.{ℕ, _+_, _^_, _<_, _≤_}
 use mathlib.Core.Path.{_≡_}

@@ -1,4 +1,4 @@
--- The check of a program file: its faults in file order, or the number of its hunks and the bytes that they take (the build paper, "Numbers").
+-- The check of a program file: its faults in file order, or the number of its hunks and the bytes that they take (docs/FORMAT.md, "Numbers").
 use Prim.Native.Nat.{ℕ, _+_, _-_, _/_, _%_}
 use mathlib.Core.Path.{_≡_}
 use mathlib.Core.List.{List, [], _∷_}

@@ -1,4 +1,4 @@
--- The reader of the hunks: what it expects, and where each word takes it (the build paper, "The program file"). It knows the number t of hunks
+-- The reader of the hunks: what it expects, and where each word takes it (docs/FORMAT.md, "The program file"). It knows the number t of hunks
 -- and their sizes; a word that may not stand there gives a refusal's number.
 use Prim.Native.Nat.{ℕ, _+_, _-_, _*_, _%_}
 use lib.Dec.{ltb, leb, eqb}

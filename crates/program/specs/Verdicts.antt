@@ -1,4 +1,4 @@
--- What a refusal of the check says of the file: `Says` (the build paper, "Numbers").
+-- What a refusal of the check says of the file: `Says` (docs/FORMAT.md, "Numbers").
 use Prim.Native.Nat.{ℕ, _+_, _*_, _%_, _<_, _≤_}
 use mathlib.Core.Path.{_≡_}
 use mathlib.Core.Logic.{_≢_, _⊎_}

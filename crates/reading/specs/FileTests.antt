@@ -1,4 +1,4 @@
--- The tests of a file before it is read: its header's own, then all of its blocks in the audit's order, without claims (the build paper,
+-- The tests of a file before it is read: its header's own, then all of its blocks in the audit's order, without claims (docs/FORMAT.md,
 -- "Paths and reads"). The blocks, their order and their tests are the audit's.
 use Prim.Native.Nat.{ℕ, zero, suc, _+_, _-_}
 use mathlib.Core.List.{List, [], _∷_, _++_}

@@ -1,5 +1,5 @@
 -- What a read's answer says, in the words of the law: when bytes are given, and how many; what the output holds then; and why a read is
--- refused, with which number at which block (the build paper, "Paths and reads" and "Numbers").
+-- refused, with which number at which block (docs/FORMAT.md, "Paths and reads" and "Numbers").
 use Prim.Native.Nat.{ℕ, suc, _+_, _-_, _*_, _/_, _≤_, _<_, min}
 use mathlib.Core.Path.{_≡_}
 use mathlib.Core.List.{List, _∷_}

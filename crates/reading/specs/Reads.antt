@@ -1,4 +1,4 @@
--- A read: the path's lookup, the tests of the file's blocks, and then its bytes from an offset on (the build paper, "Paths and reads"). Nothing is
+-- A read: the path's lookup, the tests of the file's blocks, and then its bytes from an offset on (docs/FORMAT.md, "Paths and reads"). Nothing is
 -- copied before all is tested; a directory is no file.
 use Prim.Native.Nat.{ℕ, _-_}
 use mathlib.Core.Path.{_≡_}

@@ -1,4 +1,4 @@
--- The floppy's numbers are those that the build paper writes. Assumes nothing.
+-- The floppy's numbers are those that docs/FORMAT.md writes. Assumes nothing.
 use Prim.Native.Nat.{ℕ, _≤_}
 use mathlib.Core.Path.{_≡_, refl}
 use mathlib.Core.Logic.{_↔_}

@@ -1,4 +1,4 @@
--- The worked cases that the build paper stars hold, all in one statement. Assumes nothing.
+-- The worked cases that docs/FORMAT.md stars hold, all in one statement. Assumes nothing.
 use mathlib.Core.Path.{refl}
 use Rattle.answers.specs.Tests.{pick}
 use Rattle.volume.specs.Disks.{floppy, dataBytes}

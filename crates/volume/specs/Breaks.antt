@@ -1,4 +1,4 @@
--- What each number says of a block, in the words of the law (the build paper, "Numbers"): for each kind of block a constructor for each number. It
+-- What each number says of a block, in the words of the law (docs/FORMAT.md, "Numbers"): for each kind of block a constructor for each number. It
 -- names the rule that is broken, and those that hold because they are tested before it.
 use Prim.Native.Nat.{ℕ, _≤_, _<_}
 use mathlib.Core.Path.{_≡_}

@@ -1,4 +1,4 @@
--- A disk has a number of blocks and a kind, the last byte of its boot tag. All its other numbers follow from these two (the build paper,
+-- A disk has a number of blocks and a kind, the last byte of its boot tag. All its other numbers follow from these two (docs/FORMAT.md,
 -- "What is built"): nothing above this file knows them as numbers, but `Floppy` and what is said of the exported calls.
 use Prim.Native.Nat.{ℕ, _+_, _-_, _*_, _/_, _≤_}
 use mathlib.Core.Path.{_≡_}

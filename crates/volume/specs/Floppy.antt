@@ -1,4 +1,4 @@
--- The numbers of an 880 KB floppy as the build paper writes them.
+-- The numbers of an 880 KB floppy as docs/FORMAT.md writes them.
 use Prim.Native.Nat.{ℕ, _≤_}
 use mathlib.Core.Path.{_≡_}
 use mathlib.Core.Logic.{_↔_}

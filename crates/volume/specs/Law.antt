@@ -1,4 +1,4 @@
--- The law of a volume: one field for each rule of the build paper's "Blocks of a volume". It mentions no walk. What is reached, and that
+-- The law of a volume: one field for each rule of docs/FORMAT.md, "Blocks of a volume". It mentions no walk. What is reached, and that
 -- each block is owned once, is said of `references` by crate `reach`. `Tree` is all of the law but w78 and the bits; `Volume` is `Tree`, w78
 -- and the bits.
 use Prim.Native.Nat.{ℕ, zero, suc, _+_, _-_, _*_, _≤_, _<_}

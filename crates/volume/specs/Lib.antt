@@ -19,5 +19,5 @@ pub mod Rules
 pub mod Breaks
 -- the starred worked cases
 pub mod Stars
--- the floppy's numbers, as the build paper writes them
+-- the floppy's numbers, as docs/FORMAT.md writes them
 pub mod Floppy

@@ -1,4 +1,4 @@
--- The tests of one block of each kind, in the order in which they are made, each with its number (the build paper, "Order of the walk" and
+-- The tests of one block of each kind, in the order in which they are made, each with its number (docs/FORMAT.md, "Order of the walk" and
 -- "Numbers"). What a block is asked as, and by whom, comes as arguments; 5, 6 and 13 belong to the walk.
 use Prim.Native.Nat.{ℕ, zero, suc, _+_}
 use mathlib.Core.Bool.{Bool, true, false}

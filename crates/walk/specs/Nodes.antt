@@ -1,4 +1,4 @@
--- A volume as a graph: what each block leads to, in the order of the walk, and the tests that it must pass (the build paper, "Order of the
+-- A volume as a graph: what each block leads to, in the order of the walk, and the tests that it must pass (docs/FORMAT.md, "Order of the
 -- walk"). A node is a key with the kind that its reference asks for, and what the tests of that kind must know.
 use Prim.Native.Nat.{ℕ, zero, suc, _+_, _-_}
 use native.Mathlib.Omega.{arith}

@@ -1,4 +1,4 @@
--- What a refusal of the walk means: a number v, and the key k of a block (the build paper, "Order of the walk" and "Numbers"). `FirstRefusal`
+-- What a refusal of the walk means: a number v, and the key k of a block (docs/FORMAT.md, "Order of the walk" and "Numbers"). `FirstRefusal`
 -- says exactly when it is given, in the order of the walk. `Cause` leaves the order out and names, number by number, the field of the law that
 -- block k breaks.
 use Prim.Native.Nat.{ℕ, suc, _-_, _*_, _<_}

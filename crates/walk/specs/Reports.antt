@@ -1,4 +1,4 @@
--- What an accepted walk hands back, said of blocks and kinds alone: a claim byte for each block, and the counts (the build paper, "Order of
+-- What an accepted walk hands back, said of blocks and kinds alone: a claim byte for each block, and the counts (docs/FORMAT.md, "Order of
 -- the walk").
 use Prim.Native.Nat.{ℕ, suc, _+_, _<_}
 use mathlib.Core.Path.{_≡_}

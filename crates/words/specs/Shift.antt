@@ -1,4 +1,4 @@
--- Relocation: amounts are added, modulo 2^32, to words of a list of bytes (the build paper, "The program file").
+-- Relocation: amounts are added, modulo 2^32, to words of a list of bytes (docs/FORMAT.md, "The program file").
 use Prim.Native.Nat.{ℕ}
 use mathlib.Core.List.{List, [], _∷_}
 use Rattle.words.specs.Word.{addAt}

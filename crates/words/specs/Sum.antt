@@ -1,4 +1,4 @@
--- A block's sum: its 128 words added up, modulo 2^32 (the build paper, "Blocks of a volume", Sum).
+-- A block's sum: its 128 words added up, modulo 2^32 (docs/FORMAT.md, "Blocks of a volume", Sum).
 use Prim.Native.Nat.{ℕ, zero, suc, _+_, _*_, _%_, _^_}
 use mathlib.Core.List.{List}
 use Rattle.words.specs.Word.{wordAt}

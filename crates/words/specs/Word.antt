@@ -1,4 +1,4 @@
--- Every number on a disk and in a program file is a big-endian word of 32 bits: four bytes, the highest first (the build paper, "What is built").
+-- Every number on a disk and in a program file is a big-endian word of 32 bits: four bytes, the highest first (docs/FORMAT.md, "What is built").
 use Prim.Native.Nat.{ℕ, zero, suc, _+_, _*_, _/_, _%_, _^_, _<_}
 use mathlib.Core.List.{List, [], _∷_}
 use lib.ListN.{getD, set}
