@@ -82,7 +82,7 @@ fn change(rng: &mut Rng, words: &[Written], part: Part, values: &[u32]) -> Fault
     changed(rng, words, index, value)
 }
 
-/// The file with more words in front of this one; the fault is `fault` words behind the first of them.
+/// The file with more words in front of this one; the fault is `fault` words after the first of them.
 fn inserted(words: &[Written], index: usize, more: &[u32], fault: usize) -> Faulty {
     let (front, back) = words.split_at(index);
     let more: Vec<u8> = more.iter().flat_map(|word| word.to_be_bytes()).collect();
@@ -203,7 +203,7 @@ fn near(rng: &mut Rng, words: &[Written], how: Near, by: i32) -> Faulty {
 }
 
 /// The offset at fault, `new` being one that came to others. These get on with each other: it is the new one if it has a neighbour in front of
-/// it, else its first neighbour behind it.
+/// it, else its first neighbour after it.
 fn first_of_two(words: &[Written], new: usize) -> Option<usize> {
     let (hunk, offset) = (words[new].hunk, words[new].value);
     let neighbour = |index: &usize| {
@@ -272,7 +272,7 @@ pub const CAUSES: &[Cause] = &[
         Some((bytes, end))
     }),
     cause(31, "group longer than the file", |rng, words| {
-        // cut behind the group, lest the words behind it are taken for offsets
+        // cut after the group, lest the words after it are taken for offsets
         let length = some(rng, words, Part::GroupLength)?;
         let end = length + 2 + words[length].value as usize;
         let mut words = words[..end].to_vec();

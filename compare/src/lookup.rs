@@ -252,7 +252,7 @@ mod tests {
         assert_eq!(find(&DISK, &image, b"Mary").map(|found| found.key), Ok(key(&volume, b"Mary")));
     }
 
-    /// A bad entry stops the search for itself and for those behind it, not for those before it.
+    /// A bad entry stops the search for itself and for those after it, not for those before it.
     #[test]
     fn an_entry_is_tested_before_its_name_is_compared() {
         let volume = small();
@@ -315,7 +315,7 @@ mod tests {
     fn chains_without_an_end() {
         let volume = small();
         let keys = [&b"cp"[..], b"Mary", b"dc"].map(|name| key(&volume, name));
-        // of three that go around the 1,757th is the second, of two behind the first it is the last
+        // of three that go around the 1,757th is the second, of two after the first it is the last
         for (to, place) in [(keys[0], keys[1]), (keys[1], keys[2]), (keys[2], keys[2])] {
             let image = changed(&volume, keys[2], &[(124, to)]);
             let missing = b"hw";

@@ -77,7 +77,7 @@ fn numbers(body: &[u8]) -> Option<Vec<u32>> {
     whole.then(|| body.chunks(4).map(number).collect())
 }
 
-/// The first number of a body, and the bytes behind it.
+/// The first number of a body, and the bytes after it.
 fn number_first(body: &[u8]) -> Option<(usize, &[u8])> {
     let (&four, rest) = body.split_first_chunk()?;
     Some((u32::from_be_bytes(four) as usize, rest))

@@ -50,7 +50,7 @@ pub fn slot(name: &[u8]) -> u32 {
 }
 
 /// Writes a name into a header or root block; an invalid one too, if its length fits in a byte and its letters
-/// in the block. What stands behind the name stays.
+/// in the block. What stands after the name stays.
 pub fn put_name(block: &mut [u8], name: &[u8]) {
     block[PLACE] = u8::try_from(name.len()).expect("a length of one byte");
     block[PLACE + 1..][..name.len()].copy_from_slice(name);

@@ -153,7 +153,7 @@ impl<'a> Paths<'a> {
         Question::new("an entry", &components, Ok(self.found(number)))
     }
 
-    /// A name that a directory lacks, at times with more behind it.
+    /// A name that a directory lacks, at times with more after it.
     fn lacking(&self, rng: &mut Rng, what: &'static str, within: Option<usize>, name: &[u8]) -> Question {
         let mut components = self.components(within);
         let place = components.len();

@@ -144,7 +144,7 @@ pub fn file(words: &[Written]) -> Vec<u8> {
     words.iter().flat_map(|word| word.value.to_be_bytes()).collect()
 }
 
-/// Puts words one behind the other.
+/// Puts words one after the other.
 struct Writer {
     words: Vec<Written>,
     hunk: usize,

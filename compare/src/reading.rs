@@ -193,7 +193,7 @@ mod tests {
         hold_refused(&changed(&volume.image, key, &[(125, 0)]), b"Mary/box", 10, key);
     }
 
-    /// Every rule about a file's blocks, broken far behind what is asked for too.
+    /// Every rule about a file's blocks, broken far after what is asked for too.
     #[test]
     fn every_block_of_the_file_is_tested() {
         let volume = volume();

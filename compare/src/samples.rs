@@ -69,7 +69,7 @@ fn code() -> Hunk {
     }
 }
 
-/// The line; behind it the addresses of the line and of the routine that shows it, both over two words. Three words
+/// The line; after it the addresses of the line and of the routine that shows it, both over two words. Three words
 /// of the hunk are not stored.
 fn data() -> Hunk {
     let line = text_words(b"ON AIR 20:00   CHANNEL 4");

@@ -12,7 +12,7 @@ fn text(name: &str) -> String {
     read_to_string(&path).unwrap_or_else(|e| panic!("{path}: {e}"))
 }
 
-/// What stands between the first `open` behind `name` and the `close` behind that, without comments.
+/// What stands between the first `open` after `name` and the `close` after that, without comments.
 fn inside(text: &str, name: &str, open: char, close: char) -> String {
     let from = text.find(name).unwrap_or_else(|| panic!("there is no {name}"));
     let rest = &text[from + name.len()..];

@@ -707,7 +707,7 @@ struct Target {
     slots: [u32; 2],
 }
 
-/// A target of this size, behind and before others on its chains.
+/// A target of this size, after and before others on its chains.
 fn target(rng: &mut Rng, size: u32) -> Target {
     let mut plan = empty();
     plan.add(rng, None, Some(30), Kind::File(3));
@@ -784,7 +784,7 @@ fn every_word(rng: &mut Rng) -> Talk {
     talk
 }
 
-/// Damage to each block of a file in turn, with reads of what lies before it, in it and behind it.
+/// Damage to each block of a file in turn, with reads of what lies before it, in it and after it.
 fn in_the_middle(rng: &mut Rng) -> Talk {
     let mut talk = Talk::default();
     let Target { volume, path, file, found, .. } = target(rng, 150 * 488 - 7);

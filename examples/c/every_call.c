@@ -47,7 +47,7 @@ static void find(size_t image_bytes, const char *path) {
     printf("find \"%s\": number %u, place %zu, kind %X, key %u, size %u, compared %u\n", path, f.number, f.place, f.kind, f.key, f.size, f.compared);
 }
 
-/* Reads into room that is full of AA, and says whether what is behind the bytes is so still. */
+/* Reads into room that is full of AA, and says whether what is after the bytes is so still. */
 static size_t read_file(size_t image_bytes, const char *path, size_t offset) {
     memset(file, 0xAA, sizeof file);
     struct jufferdeeg_reading r = jufferdeeg_read(image, image_bytes, (const uint8_t *)path, strlen(path), offset, file, sizeof file);

@@ -13,7 +13,7 @@ pub fn root() -> PathBuf {
 pub fn pages() -> Vec<String> {
     let docs = names_in(&root().join("docs")).into_iter().filter(|name| name.ends_with(".md"));
     let mut pages: Vec<_> = docs.map(|name| format!("docs/{name}")).collect();
-    let others = ["README.md", "CONTRIBUTING.md", "CHANGELOG.md", "samples/README.md", "benchmarks/README.md"];
+    let others = ["README.md", "CONTRIBUTING.md", "CHANGELOG.md", "samples/README.md", "speed/README.md"];
     pages.extend(others.map(String::from));
     pages
 }

@@ -88,7 +88,7 @@ fn main() {
         ["plot", file] => print!("{}", plot::plot(&std::fs::read_to_string(file).expect("a file of numbers"))),
         ["repeat", name, side, times] if repeat(name, side, times).is_some() => {}
         _ => {
-            eprintln!("benchmarks time | growth | plot FILE | repeat audit|chain|read|load|move Rattle|Rust TIMES")
+            eprintln!("speed time | growth | plot FILE | repeat audit|chain|read|load|move Rattle|Rust TIMES")
         }
     }
 }

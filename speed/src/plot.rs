@@ -13,7 +13,7 @@ struct Row {
 
 fn rows(text: &str) -> Vec<Row> {
     let row = |line: &str| {
-        // what grows may have commas in it, the numbers behind it have none
+        // what grows may have commas in it, the numbers after it have none
         let mut parts = line.rsplitn(4, ',');
         let mut number = || parts.next().and_then(|part| part.parse().ok());
         let (rust, rattle, grown) = (number()?, number()?, number()?);
