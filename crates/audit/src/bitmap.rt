@@ -35,7 +35,7 @@ fn counted(n: u32, free: bool) -> u32
 }
 
 // Every bit of the bitmap block `page`, upward.
-pub fn check_bits(disk: Disk, image: &[u8], page: u32, claim: &[u8]) -> Mapped
+pub(crate) fn check_bits(disk: Disk, image: &[u8], page: u32, claim: &[u8]) -> Mapped
     requires { ⌜ (Sized disk) × (length (now image) ≡ imageBytes disk) × (length (now claim) ≡ claimBytes disk) × (page < disk .blocks) ⌝ }
     ensures { λ r. ⌜ r ≡ bitsOf disk (now (image .entry)) page (now (claim .entry)) ⌝ }
 {

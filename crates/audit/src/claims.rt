@@ -21,7 +21,7 @@ pub enum Walked {
 }
 
 // The walk stops at a block.
-pub fn stopped(number: u32, key: u32) -> Walked
+pub(crate) fn stopped(number: u32, key: u32) -> Walked
     ensures { λ r. ⌜ r ≡ Walked.Stopped (record { number = number; place = key }) ⌝ }
 {
     Walked::Stopped(Refusal {
@@ -31,7 +31,7 @@ pub fn stopped(number: u32, key: u32) -> Walked
 }
 
 // Claims a key: 0, or the number of what is wrong with it.
-pub fn claim_key(disk: Disk, claim: &mut [u8], key: u32) -> u32
+pub(crate) fn claim_key(disk: Disk, claim: &mut [u8], key: u32) -> u32
     requires { ⌜ length (now claim) ≡ claimBytes disk ⌝ }
     ensures { λ r. ⌜ Claims disk (now (claim .entry)) key r (now (claim .exit)) ⌝ }
 {
@@ -59,7 +59,7 @@ fn root_tests(disk: Disk, image: &[u8]) -> u32
 }
 
 // The root: its claim and its tests.
-pub fn meet_root(disk: Disk, image: &[u8], claim: &mut [u8]) -> u32
+pub(crate) fn meet_root(disk: Disk, image: &[u8], claim: &mut [u8]) -> u32
     requires { ⌜ (length (now image) ≡ imageBytes disk) × (length (now claim) ≡ claimBytes disk) ⌝ }
     ensures { λ r. ⌜ Met disk (now (image .entry)) root (now (claim .entry)) r (now (claim .exit)) ⌝ }
 {
@@ -71,7 +71,7 @@ pub fn meet_root(disk: Disk, image: &[u8], claim: &mut [u8]) -> u32
 }
 
 // The bitmap block.
-pub fn meet_bitmap(disk: Disk, image: &[u8], claim: &mut [u8], key: u32) -> u32
+pub(crate) fn meet_bitmap(disk: Disk, image: &[u8], claim: &mut [u8], key: u32) -> u32
     requires { ⌜ (length (now image) ≡ imageBytes disk) × (length (now claim) ≡ claimBytes disk) ⌝ }
     ensures { λ r. ⌜ Met disk (now (image .entry)) (bitmap key) (now (claim .entry)) r (now (claim .exit)) ⌝ }
 {

@@ -140,7 +140,13 @@ fn walk_entry(
 }
 
 // What is in a directory, slot by slot.
-pub fn walk_directory(disk: Disk, image: &[u8], claim: &mut [u8], key: u32, n: Counts) -> Walked
+pub(crate) fn walk_directory(
+    disk: Disk,
+    image: &[u8],
+    claim: &mut [u8],
+    key: u32,
+    n: Counts,
+) -> Walked
     requires { ⌜ (Ready disk (now image) (now claim) n) × (key < disk .blocks) ⌝ }
     ensures { λ r. ⌜ Walks disk (now (image .entry)) (slotNodes (now (image .entry)) key 0 slots) [] n (now (claim .entry)) r (now (claim .exit)) ⌝ }
 {

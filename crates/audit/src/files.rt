@@ -119,7 +119,13 @@ fn walk_list(disk: Disk, image: &[u8], claim: &mut [u8], b: Lister, n: Counts) -
 }
 
 // A file's blocks; its header is claimed and has passed its tests.
-pub fn walk_file(disk: Disk, image: &[u8], claim: &mut [u8], header: u32, n: Counts) -> Walked
+pub(crate) fn walk_file(
+    disk: Disk,
+    image: &[u8],
+    claim: &mut [u8],
+    header: u32,
+    n: Counts,
+) -> Walked
     requires { ⌜ (Ready disk (now image) (now claim) n) × (header < disk .blocks) × (fileFault disk (now image) header ≡ 0) ⌝ }
     ensures { λ r. ⌜ Walks disk (now (image .entry)) (listed disk (now (image .entry)) header header 0 header) [] n (now (claim .entry)) r (now (claim .exit)) ⌝ }
 {

@@ -71,7 +71,7 @@ fn entry_bad(file: &[u8], bases: &[u32], i: usize) -> bool
 }
 
 // The first bad entry of a list of bases; entries count from `from`.
-pub fn bases_fault(file: &[u8], bases: &[u32], from: usize) -> Tested
+pub(crate) fn bases_fault(file: &[u8], bases: &[u32], from: usize) -> Tested
     requires { ⌜ (Sound (now file)) × (from ≤ 64) ⌝ }
     ensures { λ r. ⌜ r ≡ basesFault (now (file .entry)) (now (bases .entry)) from ⌝ }
 {

@@ -27,7 +27,7 @@ fn store_act(memory: &mut [u8], a: Act)
 }
 
 // Stores the words of all hunks.
-pub fn store_all(file: &[u8], memory: &mut [u8])
+pub(crate) fn store_all(file: &[u8], memory: &mut [u8])
     requires { ⌜ (Sound (now file)) × (length (now file) % 4 ≡ 0) × (loadedOf (now file) ≤ length (now memory)) ⌝ }
     ensures { λ _. ⌜ now (memory .exit) ≡ placed (now (memory .entry)) (actsOf (now (file .entry))) ⌝ }
 {
@@ -64,7 +64,7 @@ fn add_act(memory: &mut [u8], amounts: &[u32], a: Act)
 }
 
 // Adds to each target the amount of its hunk.
-pub fn add_all(file: &[u8], memory: &mut [u8], amounts: &[u32])
+pub(crate) fn add_all(file: &[u8], memory: &mut [u8], amounts: &[u32])
     requires { ⌜ (Sound (now file)) × (length (now file) % 4 ≡ 0) × (loadedOf (now file) ≤ length (now memory)) × (totalOf (now file) ≤ length (now amounts)) ⌝ }
     ensures { λ _. ⌜ now (memory .exit) ≡ shiftAll (now (memory .entry)) (targetsOf (now (file .entry))) (amountOf (now (amounts .entry))) ⌝ }
 {

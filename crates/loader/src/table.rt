@@ -31,7 +31,7 @@ fn write_act(file: &[u8], bases: &[u32], table: &mut [u32], a: Act)
 }
 
 // Writes the record of each hunk.
-pub fn write_all(file: &[u8], bases: &[u32], table: &mut [u32])
+pub(crate) fn write_all(file: &[u8], bases: &[u32], table: &mut [u32])
     requires { ⌜ (Sound (now file)) × (length (now file) % 4 ≡ 0) × (totalOf (now file) ≤ length (now bases)) × (4 * totalOf (now file) ≤ length (now table)) ⌝ }
     ensures { λ _. ⌜ now (table .exit) ≡ listed (now (file .entry)) (now (bases .entry)) (now (table .entry)) (actsOf (now (file .entry))) ⌝ }
 {

@@ -47,7 +47,7 @@ fn refused_at(number: u32, key: u32) -> Step
 }
 
 // The first entry of a directory with this name.
-pub fn search(disk: Disk, image: &[u8], directory: u32, name: &[u8]) -> Step
+pub(crate) fn search(disk: Disk, image: &[u8], directory: u32, name: &[u8]) -> Step
     requires { ⌜ Searches disk (now image) directory (now name) ⌝ }
     ensures { λ r. ⌜ r ≡ searchOf disk (now (image .entry)) directory (now (name .entry)) ⌝ }
 {

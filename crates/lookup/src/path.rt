@@ -12,7 +12,7 @@ ghost use Rattle.lookup.specs.Parts.{FirstSlash};
 const LONGEST_PATH: usize = 255;
 
 // The place of the first '/', or the path's end.
-pub fn first_slash(path: &[u8]) -> usize
+pub(crate) fn first_slash(path: &[u8]) -> usize
     ensures { λ r. ⌜ FirstSlash (now (path .entry)) r ⌝ }
 {
     let mut i: usize = 0;
@@ -58,7 +58,7 @@ fn components_fault(path: &[u8], component: usize) -> Tested
 }
 
 // The form of a whole path.
-pub fn path_fault(path: &[u8]) -> Tested
+pub(crate) fn path_fault(path: &[u8]) -> Tested
     ensures { λ r. ⌜ r ≡ pathFault (now (path .entry)) ⌝ }
 {
     if LONGEST_PATH < path.len() {

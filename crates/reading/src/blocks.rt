@@ -126,7 +126,7 @@ fn test_blocks(disk: Disk, image: &[u8], header: u32) -> Tested
 }
 
 // All tests of a file, by its header.
-pub fn test_file(disk: Disk, image: &[u8], header: u32) -> Tested
+pub(crate) fn test_file(disk: Disk, image: &[u8], header: u32) -> Tested
     requires { ⌜ (Sized disk) × (length (now image) ≡ imageBytes disk) × (header < disk .blocks) ⌝ }
     ensures { λ r. ⌜ r ≡ blocksFault disk (now (image .entry)) header ⌝ }
 {

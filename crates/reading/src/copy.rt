@@ -62,7 +62,7 @@ fn seek(disk: Disk, image: &[u8], header: u32, offset: usize) -> u32
 }
 
 // Copies what a tested file has after `offset`, as much as there is room for, and gives the number of bytes.
-pub fn copy_file(
+pub(crate) fn copy_file(
     disk: Disk,
     image: &[u8],
     header: u32,

@@ -83,16 +83,16 @@ module _ (d : Disk) (s : List ℕ) where
     abbrev n : ℕ
     n = keysHere (blocksOf d s h - m)
 
-    abbrev behind : List ℕ
-    behind = listsFrom s b (listBlocks (blocksOf d s h - m))
+    abbrev blocks-after : List ℕ
+    blocks-after = listsFrom s b (listBlocks (blocksOf d s h - m))
 
-    split : keysOf d s h ≡ t .keys ++ (keysDown s b 0 n ++ keysFrom s (blocksOf d s h - m - slots) behind)
+    split : keysOf d s h ≡ t .keys ++ (keysDown s b 0 n ++ keysFrom s (blocksOf d s h - m - slots) blocks-after)
     unfolding keysFrom
     split = t .keyed
 
     key-at : (i : ℕ) → i < n → At (m + i) (keyWord s b i) (keysOf d s h)
     key-at i g =
-        let a = at-left (keyWord s b i) i (keysDown s b 0 n) (keysFrom s (blocksOf d s h - m - slots) behind) (down-at s b 0 n i i (omega arith) g) in
+        let a = at-left (keyWord s b i) i (keysDown s b 0 n) (keysFrom s (blocksOf d s h - m - slots) blocks-after) (down-at s b 0 n i i (omega arith) g) in
         subst (At (m + i) (keyWord s b i)) (sym split) (at-right (keyWord s b i) (m + i) i (t .keys) _ (omega (arith, t .long)) a)
 
     before-at : (i : ℕ) → i < suc n → At (m + i) (before s b c i) (h ∷ keysOf d s h)
@@ -148,7 +148,7 @@ module _ (d : Disk) (s : List ℕ) where
             keyed′ : keysOf d s h ≡ (t .keys ++ keysDown s b 0 n) ++ keysFrom s (blocksOf d s h - (m + n)) rest
             keyed′ =
                 split
-                ∙ ap (λ x. t .keys ++ (keysDown s b 0 n ++ x)) (ap (λ y. keysFrom s y behind) f ∙ ap (keysFrom s (blocksOf d s h - (m + n))) (ap (listsFrom s b) e ∙ after))
+                ∙ ap (λ x. t .keys ++ (keysDown s b 0 n ++ x)) (ap (λ y. keysFrom s y blocks-after) f ∙ ap (keysFrom s (blocksOf d s h - (m + n))) (ap (listsFrom s b) e ∙ after))
                 ∙ sym (append-assoc (t .keys) (keysDown s b 0 n) (keysFrom s (blocksOf d s h - (m + n)) rest))
 
     listed-stood : (x : Node) → x ∈ listed d s h b m c → Stood x
