@@ -14,7 +14,7 @@ use std::collections::{BTreeMap, BTreeSet};
 
 use names::{library, Found, Kind, ALLOWED, KINDS};
 use pages::{all_spans, root, rows, spans_of, Row, Span};
-use tree::text;
+use tree::{names_in, text};
 
 const CONTRACTS: &str = "docs/CONTRACTS.md";
 const WRONG_PROGRAMS: &str = "docs/WRONG-PROGRAMS.md";
@@ -106,6 +106,40 @@ fn theorems_stand_somewhere() {
     assert!(!stands_there("accepted-exactly", "`audit`, `Refusing`"));
     assert!(!stands_there("accepted-exactly", "`walk`, `Accepting`"));
     assert!(!stands_there("never-accepted", "`audit`, `Accepting`"));
+}
+
+/// The public functions of a file that have a `requires`. A function's head ends with a line that is just `{`.
+fn asking_in(code: &str) -> Vec<String> {
+    let heads = code.split("pub fn ").skip(1).filter_map(|rest| Some(&rest[..rest.find("{\n")?]));
+    let asks = heads.filter(|head| head.contains("\n    requires {") || head.contains("\n        requires {"));
+    asks.filter_map(|head| Some(head[..head.find('(')?].to_string())).collect()
+}
+
+/// Those of all crates that are libraries.
+fn asking() -> BTreeSet<String> {
+    let crates = library().crates.iter().map(|name| format!("crates/{name}/src"));
+    let libraries = crates.filter(|folder| root().join(folder).join("lib.rt").exists());
+    libraries
+        .flat_map(|src| names_in(&root().join(&src)).into_iter().map(move |file| format!("{src}/{file}")))
+        .flat_map(|path| asking_in(&page(&path)))
+        .collect()
+}
+
+/// The page lists the public functions that ask something, all of them and no others.
+#[test]
+fn what_asks_is_listed() {
+    let rows = rows(&page(CONTRACTS));
+    let cells = rows.iter().filter(|row| row.cell("why").is_some()).filter_map(|row| row.cell("function"));
+    let last = |name: String| name.rsplit("::").next().unwrap_or_default().to_string();
+    let listed: BTreeSet<_> = cells.flat_map(spans_in).map(last).collect();
+    assert_eq!(listed, asking());
+    assert!(listed.len() >= 20, "{CONTRACTS} lists {} functions", listed.len());
+}
+
+#[test]
+fn a_requires_is_seen() {
+    let code = "pub fn a(n: u32)\n    requires { n }\n    ensures { n }\n{\n}\n\npub(crate) fn b()\n    requires { n }\n{\n}\n\n// pub\npub fn c()\n{\n}\n";
+    assert_eq!(asking_in(code), ["a"]);
 }
 
 /// A wrong program: its crate, its name, and whether the gate tries it.
