@@ -3,5 +3,7 @@
 pub mod Tests
 -- refusals, as definitions write them
 pub mod Refusals
+-- the numbers of refusals, by name
+pub mod Numbers
 -- what a list holds
 pub mod Members

@@ -5,6 +5,7 @@ use mathlib.Core.Path.{_≡_}
 use mathlib.Core.List.{List, [], _∷_, _++_}
 use lib.Dec.{eqb, ltb}
 use lib.ListN.{length, replicate}
+use Rattle.answers.specs.Numbers as fault
 use Rattle.answers.specs.Tests.{pick}
 use Rattle.answers.specs.Refusals.{refusal}
 use Rattle.words.specs.Word.{wordAt}
@@ -36,11 +37,11 @@ numbersOf (Refused r) = record { number = r .number; place = r .place; report = 
 
 -- the numbers of the walk's refusals
 abbrev pub walkRefusals : List ℕ
-walkRefusals = 4 ∷ 5 ∷ 6 ∷ 7 ∷ 8 ∷ 9 ∷ 10 ∷ 11 ∷ 12 ∷ 13 ∷ 14 ∷ 15 ∷ 16 ∷ []
+walkRefusals = fault.rootWords ∷ fault.badKey ∷ fault.claimedTwice ∷ fault.blockSum ∷ fault.blockType ∷ fault.isLink ∷ fault.wrongTies ∷ fault.badName ∷ fault.wrongSlot ∷ fault.doubleName ∷ fault.fileLayout ∷ fault.dataLayout ∷ fault.bitmapWords ∷ []
 
 -- and of all that an audit gives
 abbrev pub auditRefusals : List ℕ
-auditRefusals = 1 ∷ 2 ∷ 3 ∷ (walkRefusals ++ (17 ∷ []))
+auditRefusals = fault.imageLength ∷ fault.claimArea ∷ fault.bootTag ∷ (walkRefusals ++ (fault.wrongBit ∷ []))
 
 abbrev pub refuse : ℕ → ℕ → Audited
 refuse v k = Refused (refusal v k)
@@ -54,7 +55,7 @@ reportOf c free =
 
 abbrev pub mapped : Counts → Mapped → Audited
 mapped c (Right free) = Accepted (reportOf c free)
-mapped c (Wrong k) = refuse 17 k
+mapped c (Wrong k) = refuse fault.wrongBit k
 
 -- the bitmap, once the walk is through
 abbrev pub walked : Disk → List ℕ → Outcome Counts → Audited
@@ -65,9 +66,9 @@ walked d s (refused v k) = refuse v k
 unfoldable pub auditOf : Disk → List ℕ → ℕ → Audited
 auditOf d s n =
     pick (eqb (length s) (imageBytes d))
-    (pick (ltb n (claimBytes d)) (refuse 2 0)
-    (pick (eqb (wordAt s 0) (tagOf d)) (walked d s (walkOf d s)) (refuse 3 0)))
-    (refuse 1 0)
+    (pick (ltb n (claimBytes d)) (refuse fault.claimArea 0)
+    (pick (eqb (wordAt s 0) (tagOf d)) (walked d s (walkOf d s)) (refuse fault.bootTag 0)))
+    (refuse fault.imageLength 0)
 
 -- ---- the claim area
 

@@ -7,6 +7,7 @@ use mathlib.Core.Bool.{true, false}
 use mathlib.Core.List.{List, map}
 use lib.Dec.{eqb}
 use lib.ListN.{length, getD}
+use Rattle.answers.specs.Numbers as fault
 use Rattle.answers.specs.Tests.{pick}
 use Rattle.words.specs.Word.{wordAt}
 use Rattle.reach.specs.References.{_∈_, Uniq, Reached}
@@ -72,7 +73,7 @@ pub data Test : Type 0 where
   size area tag walk bits : Test
 
 abbrev pub testOf : ℕ → Test
-testOf v = pick (eqb v 1) size (pick (eqb v 2) area (pick (eqb v 3) tag (pick (eqb v 17) bits walk)))
+testOf v = pick (eqb v fault.imageLength) size (pick (eqb v fault.claimArea) area (pick (eqb v fault.bootTag) tag (pick (eqb v fault.wrongBit) bits walk)))
 
 -- of an image s and a claim area of n bytes: when a test refuses with v at place k
 abbrev pub Says : Disk → List ℕ → ℕ → ℕ → ℕ → Test → Type 0

@@ -1,4 +1,5 @@
 // The audit of a disk's image.
+use answers::Fault;
 use crate::bitmap::Mapped;
 use crate::bitmap::check_bits;
 use crate::claims::Walked;
@@ -96,7 +97,7 @@ fn audit_within(disk: Disk, image: &[u8], claim: &mut [u8]) -> Audited
             let m = check_bits(disk, image, page, claim);
             match m {
                 Mapped::Right(free) => Audited::Accepted(reported(c, free)),
-                Mapped::Wrong(key) => refused(17, key),
+                Mapped::Wrong(key) => refused(Fault::WRONG_BIT, key),
             }
         }
     }
@@ -123,15 +124,15 @@ fn audit_on(disk: Disk, image: &[u8], claim: &mut [u8]) -> Audited
 {
     wipe(claim);
     if image.len() != disk.image_bytes() {
-        return refused(1, 0);
+        return refused(Fault::IMAGE_LENGTH, 0);
     }
     if claim.len() < disk.claim_bytes() {
-        return refused(2, 0);
+        return refused(Fault::CLAIM_AREA, 0);
     }
     if disk.has_tag(image) {
         return audit_tagged(disk, image, claim);
     }
-    refused(3, 0)
+    refused(Fault::BOOT_TAG, 0)
 }
 
 // Audits the image of an 880 KB floppy of the old file system.

@@ -1,4 +1,5 @@
 // The claim area: a byte for each block, 1 where the walk has met it.
+use answers::Fault;
 use answers::Refusal;
 use volume::disk::Disk;
 use volume::root::bitmap_fault;
@@ -38,12 +39,12 @@ pub(crate) fn claim_key(disk: Disk, claim: &mut [u8], key: u32) -> u32
     if disk.in_range(key) {
         let at = key as usize;
         if claim[at] != 0 {
-            return 6;
+            return Fault::CLAIMED_TWICE;
         }
         claim[at] = 1;
         return 0;
     }
-    5
+    Fault::BAD_KEY
 }
 
 // The root's tests, its words about the bitmap last.

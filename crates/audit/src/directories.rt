@@ -1,4 +1,5 @@
 // The walk through a directory, slot by slot and along each chain; what is in an entry is walked before its link is followed.
+use answers::Fault;
 use crate::claims::Walked;
 use crate::claims::claim_key;
 use crate::claims::stopped;
@@ -60,7 +61,7 @@ fn hangs_fault(disk: Disk, image: &[u8], key: u32, directory: u32, slot: u32, pl
     }
     let head = word_of(image, directory, Block::FIRST_SLOT + slot as usize);
     if is_twin(disk, image, key, head, place) {
-        return 13;
+        return Fault::DOUBLE_NAME;
     }
     if is_directory(image, key) {
         return 0;

@@ -5,6 +5,7 @@ use mathlib.Core.List.{List}
 use mathlib.Core.Bool.{Bool, true, false}
 use lib.Dec.{ltb, eqb}
 use lib.ListN.{length}
+use Rattle.answers.specs.Numbers as fault
 use Rattle.answers.specs.Tests.{pick}
 use Rattle.answers.specs.Refusals.{refusal}
 use Rattle.answers.specs.declared.Tested.{Tested}
@@ -42,8 +43,8 @@ entryBad file bases i =
 unfoldable pub basesFrom : List ℕ → List ℕ → ℕ → ℕ → ℕ → Tested
 basesFrom file bases from i zero = Passed
 basesFrom file bases from i (suc n) =
-    pick (entryBad file bases i) (Failed (refusal 40 (from + i))) (basesFrom file bases from (i + 1) n)
+    pick (entryBad file bases i) (Failed (refusal fault.badBase (from + i))) (basesFrom file bases from (i + 1) n)
 
 unfoldable pub basesFault : List ℕ → List ℕ → ℕ → Tested
 basesFault file bases from =
-    pick (eqb (length bases) (totalOf file)) (basesFrom file bases from 0 (totalOf file)) (Failed (refusal 40 from))
+    pick (eqb (length bases) (totalOf file)) (basesFrom file bases from 0 (totalOf file)) (Failed (refusal fault.badBase from))

@@ -5,6 +5,7 @@ use mathlib.Core.Path.{_≡_}
 use mathlib.Core.List.{List, [], _∷_, _++_}
 use lib.Dec.{ltb}
 use lib.ListN.{length, take, drop, replicate}
+use Rattle.answers.specs.Numbers as fault
 use Rattle.answers.specs.Tests.{pick}
 use Rattle.answers.specs.Refusals.{refusal}
 use Rattle.answers.specs.declared.Tested.{Tested}
@@ -23,14 +24,14 @@ use Rattle.loader.specs.Near.{clashOf}
 
 -- the numbers of all refusals of a load, and of a move: the check's, and those of bases, room and near targets
 abbrev pub callRefusals : List ℕ
-callRefusals = checkRefusals ++ (40 ∷ 41 ∷ 42 ∷ [])
+callRefusals = checkRefusals ++ (fault.badBase ∷ fault.shortRoom ∷ fault.nearTargets ∷ [])
 
 -- n bytes of memory and of work area, and t records
 abbrev pub roomFault : ℕ → ℕ → ℕ → ℕ → ℕ → Tested
 roomFault t n memory records work =
-    pick (ltb memory n) (Failed (refusal 41 0))
-    (pick (ltb records t) (Failed (refusal 41 0))
-    (pick (ltb work n) (Failed (refusal 41 0)) Passed))
+    pick (ltb memory n) (Failed (refusal fault.shortRoom 0))
+    (pick (ltb records t) (Failed (refusal fault.shortRoom 0))
+    (pick (ltb work n) (Failed (refusal fault.shortRoom 0)) Passed))
 
 -- a further test of what is accepted so far
 abbrev pub also : Answer → Tested → Answer

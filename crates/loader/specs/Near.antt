@@ -7,6 +7,7 @@ use mathlib.Core.Bool.{Bool, true, false}
 use lib.Dec.{ltb}
 use Rattle.words.specs.Word.{wordAt, setWord}
 use Rattle.words.specs.Shift.{Target}
+use Rattle.answers.specs.Numbers as fault
 use Rattle.answers.specs.Tests.{pick}
 use Rattle.answers.specs.Refusals.{refusal}
 use Rattle.answers.specs.declared.Tested.{Tested}
@@ -25,7 +26,7 @@ nearAny p (q ∷ qs) = pick (near p q) true (nearAny p qs)
 -- the first target too near one of those before it
 unfoldable pub clash : List ℕ → List Target → Tested
 clash seen [] = Passed
-clash seen (t ∷ ts) = pick (nearAny (t .place) seen) (Failed (refusal 42 (t .byte))) (clash (t .place ∷ seen) ts)
+clash seen (t ∷ ts) = pick (nearAny (t .place) seen) (Failed (refusal fault.nearTargets (t .byte))) (clash (t .place ∷ seen) ts)
 
 abbrev pub clashOf : List ℕ → Tested
 clashOf file = clash [] (targetsOf file)

@@ -5,6 +5,7 @@ use mathlib.Core.Path.{_≡_}
 use mathlib.Core.Logic.{_≢_, _⊎_}
 use mathlib.Core.List.{List, [], _∷_, _++_}
 use lib.ListN.{length}
+use Rattle.answers.specs.Numbers as fault
 use Rattle.answers.specs.Refusals.{refusal}
 use Rattle.answers.specs.Members.{_∈_}
 use Rattle.answers.specs.declared.Refusal.{Refusal}
@@ -117,4 +118,4 @@ Refuses42 hs lists memory records work p =
 abbrev pub CallWhy : List ℕ → List (List ℕ) → ℕ → ℕ → ℕ → Refusal → Type 0
 CallWhy file lists memory records work f =
     (checkOf file ≡ Refused f)
-    ⊎ ((hs : List Hunk) × Holds file hs × (p : ℕ) × (((f ≡ refusal 40 p) × Refuses40 hs lists p) ⊎ ((f ≡ refusal 41 p) × Refuses41 hs lists memory records work p) ⊎ ((f ≡ refusal 42 p) × Refuses42 hs lists memory records work p)))
+    ⊎ ((hs : List Hunk) × Holds file hs × (p : ℕ) × (((f ≡ refusal fault.badBase p) × Refuses40 hs lists p) ⊎ ((f ≡ refusal fault.shortRoom p) × Refuses41 hs lists memory records work p) ⊎ ((f ≡ refusal fault.nearTargets p) × Refuses42 hs lists memory records work p)))

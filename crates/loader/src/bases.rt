@@ -1,4 +1,5 @@
 // Lists of bases: where each hunk is to stand.
+use answers::Fault;
 use answers::Refusal;
 use answers::Tested;
 use program::header::size;
@@ -78,7 +79,7 @@ pub(crate) fn bases_fault(file: &[u8], bases: &[u32], from: usize) -> Tested
     let t = total(file) as usize;
     if bases.len() != t {
         return Tested::Failed(Refusal {
-            number: 40,
+            number: Fault::BAD_BASE,
             place: from,
         });
     }
@@ -86,7 +87,7 @@ pub(crate) fn bases_fault(file: &[u8], bases: &[u32], from: usize) -> Tested
     while i < t {
         if entry_bad(file, bases, i) {
             return Tested::Failed(Refusal {
-                number: 40,
+                number: Fault::BAD_BASE,
                 place: from + i,
             });
         }

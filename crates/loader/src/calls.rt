@@ -1,4 +1,5 @@
 // Load and move on plain slices, with no demands on what is lent.
+use answers::Fault;
 use crate::bases::bases_fault;
 use crate::marks::mark_all;
 use crate::memory::add_all;
@@ -29,7 +30,7 @@ fn short() -> Tested
     ensures { λ r. ⌜ r ≡ Tested.Failed (refusal 41 0) ⌝ }
 {
     Tested::Failed(Refusal {
-        number: 41,
+        number: Fault::SHORT_ROOM,
         place: 0,
     })
 }

@@ -1,4 +1,5 @@
 // Two targets of one hunk less than 4 bytes apart, found by marks in the work area.
+use answers::Fault;
 use answers::Refusal;
 use answers::Tested;
 use program::act::Act;
@@ -58,7 +59,7 @@ pub(crate) fn mark_all(file: &[u8], work: &mut [u8]) -> Tested
         };
         if mark_act(work, act_of(c, at, w)) {
             return Tested::Failed(Refusal {
-                number: 42,
+                number: Fault::NEAR_TARGETS,
                 place: at,
             });
         }

@@ -5,6 +5,7 @@ use mathlib.Core.Path.{_≡_}
 use mathlib.Core.List.{List, [], _∷_}
 use lib.Dec.{eqb}
 use lib.ListN.{length}
+use Rattle.answers.specs.Numbers as fault
 use Rattle.answers.specs.Tests.{pick}
 use Rattle.answers.specs.Refusals.{refusal}
 use Rattle.answers.specs.declared.Tested.{Tested}
@@ -38,7 +39,7 @@ numbersOf (Refused r) = record { number = r .number; place = r .place; kind = 0;
 
 -- the numbers of all refusals of a lookup
 abbrev pub findRefusals : List ℕ
-findRefusals = 1 ∷ 3 ∷ 4 ∷ 5 ∷ 6 ∷ 7 ∷ 8 ∷ 9 ∷ 10 ∷ 11 ∷ 12 ∷ 18 ∷ 19 ∷ 20 ∷ []
+findRefusals = fault.imageLength ∷ fault.bootTag ∷ fault.rootWords ∷ fault.badKey ∷ fault.claimedTwice ∷ fault.blockSum ∷ fault.blockType ∷ fault.isLink ∷ fault.wrongTies ∷ fault.badName ∷ fault.wrongSlot ∷ fault.pathForm ∷ fault.notFound ∷ fault.wrongKind ∷ []
 
 abbrev pub refuse : ℕ → ℕ → Found
 refuse v at = Refused (refusal v at)
@@ -46,11 +47,11 @@ refuse v at = Refused (refusal v at)
 -- component i leads to the file k: it is found if no component is left, else it is used as a directory
 abbrev pub fileAt : List ℕ → ℕ → ℕ → List (List ℕ) → ℕ → Found
 fileAt s i n [] k = File k (sizeOf s k) n
-fileAt s i n (c ∷ cs) k = refuse 20 i
+fileAt s i n (c ∷ cs) k = refuse fault.wrongKind i
 
 -- what component i leads to, n entries compared before it, the components cs after it; `below` goes on in a directory
 abbrev pub stepped : List ℕ → ℕ → ℕ → List (List ℕ) → (ℕ → ℕ → Found) → Step → Found
-stepped s i n cs below Ended = refuse 19 i
+stepped s i n cs below Ended = refuse fault.notFound i
 stepped s i n cs below (Fault r) = Refused r
 stepped s i n cs below (At k m) = pick (directory s k) (below k (n + m)) (fileAt s i (n + m) cs k)
 
@@ -72,8 +73,8 @@ and (Failed r) a = Refused r
 unfoldable pub findOf : Disk → List ℕ → List ℕ → Found
 findOf d s path =
     pick (eqb (length s) (imageBytes d))
-    (and (pathFault path) (pick (eqb (wordAt s 0) (tagOf d)) (fromRoot d s path) (refuse 3 0)))
-    (refuse 1 0)
+    (and (pathFault path) (pick (eqb (wordAt s 0) (tagOf d)) (fromRoot d s path) (refuse fault.bootTag 0)))
+    (refuse fault.imageLength 0)
 
 -- ---- the promise
 

@@ -5,6 +5,7 @@ use mathlib.Core.Bool.{Bool, false}
 use mathlib.Core.List.{List, [], _∷_, _++_}
 use lib.Dec.{leb, ltb, eqb}
 use lib.ListN.{length}
+use Rattle.answers.specs.Numbers as fault
 use Rattle.answers.specs.Tests.{pick}
 use Rattle.answers.specs.Refusals.{refusal}
 use Rattle.answers.specs.declared.Tested.{Tested}
@@ -45,7 +46,7 @@ isComponent c = pick (leb 1 (length c)) (pick (leb (length c) longest) (allowed 
 -- the first that may not, counted on from i
 unfoldable pub componentsFault : ℕ → List (List ℕ) → Tested
 componentsFault i [] = Passed
-componentsFault i (c ∷ cs) = pick (isComponent c) (componentsFault (i + 1) cs) (Failed (refusal 18 i))
+componentsFault i (c ∷ cs) = pick (isComponent c) (componentsFault (i + 1) cs) (Failed (refusal fault.pathForm i))
 
 unfoldable pub pathFault : List ℕ → Tested
-pathFault path = pick (ltb longestPath (length path)) (Failed (refusal 18 0)) (componentsFault 0 (components path))
+pathFault path = pick (ltb longestPath (length path)) (Failed (refusal fault.pathForm 0)) (componentsFault 0 (components path))

@@ -3,6 +3,7 @@
 use Prim.Native.Nat.{ℕ, zero, suc, _+_}
 use mathlib.Core.List.{List, [], _∷_}
 use lib.Dec.{ltb, eqb}
+use Rattle.answers.specs.Numbers as fault
 use Rattle.answers.specs.Tests.{pick, must, tests}
 use Rattle.answers.specs.Refusals.{refusal}
 use Rattle.volume.specs.declared.disk.Disk.{Disk}
@@ -21,7 +22,7 @@ placeKey d s t name p = chainKey s (slotWord s t (slotOf d name)) p
 
 -- the tests of key k at place p of the chain of slot i: key range, chain limit, and the entry's own
 unfoldable pub placeFault : Disk → List ℕ → ℕ → ℕ → ℕ → ℕ → ℕ
-placeFault d s t i p k = tests (keyFault d k ∷ must (ltb p (chainLimit d)) 6 ∷ entryFault d s k t i ∷ [])
+placeFault d s t i p k = tests (keyFault d k ∷ must (ltb p (chainLimit d)) fault.claimedTwice ∷ entryFault d s k t i ∷ [])
 
 -- at place p the key is k, and v is what its tests say; `on` is what the places after it give
 abbrev pub visit : Disk → List ℕ → List ℕ → ℕ → ℕ → ℕ → Step → Step

@@ -5,6 +5,7 @@ use mathlib.Core.Logic.{_≢_}
 use mathlib.Core.Bool.{true, false}
 use mathlib.Core.List.{List, [], _∷_, _++_}
 use lib.ListN.{length}
+use Rattle.answers.specs.Numbers as fault
 use Rattle.reach.specs.References.{_∈_}
 use Rattle.words.specs.Word.{wordAt}
 use Rattle.volume.specs.declared.disk.Disk.{Disk}
@@ -99,15 +100,15 @@ pub record AsDirectory (d : Disk) (s path : List ℕ) (i : ℕ) : Type 0 where
 
 -- the refusal v at k
 pub data Refuses (d : Disk) (s path : List ℕ) (v k : ℕ) : Type 0 where
-  number-1 : length s ≢ imageBytes d → v ≡ 1 → k ≡ 0 → Refuses d s path v k
-  number-18 : length s ≡ imageBytes d → BadForm path k → v ≡ 18 → Refuses d s path v k
-  number-3 : length s ≡ imageBytes d → GoodForm path → wordAt s 0 ≢ tagOf d → v ≡ 3 → k ≡ 0 → Refuses d s path v k
+  number-1 : length s ≢ imageBytes d → v ≡ fault.imageLength → k ≡ 0 → Refuses d s path v k
+  number-18 : length s ≡ imageBytes d → BadForm path k → v ≡ fault.pathForm → Refuses d s path v k
+  number-3 : length s ≡ imageBytes d → GoodForm path → wordAt s 0 ≢ tagOf d → v ≡ fault.bootTag → k ≡ 0 → Refuses d s path v k
   -- 7, 8, 4 and 11: the root breaks the law as that number says
   of-root : length s ≡ imageBytes d → GoodForm path → wordAt s 0 ≡ tagOf d → RootBreaks s (rootOf d) v → k ≡ rootOf d → Refuses d s path v k
-  number-5 : Stands d s path k → (Inside d k → ⊥) → v ≡ 5 → Refuses d s path v k
+  number-5 : Stands d s path k → (Inside d k → ⊥) → v ≡ fault.badKey → Refuses d s path v k
   -- as many entries as a chain may have were compared
-  number-6 : (h : Stands d s path k) → Inside d k → h .place ≡ chainLimit d → v ≡ 6 → Refuses d s path v k
+  number-6 : (h : Stands d s path k) → Inside d k → h .place ≡ chainLimit d → v ≡ fault.claimedTwice → Refuses d s path v k
   -- 7 to 12: the entry breaks the law as that number says
   of-entry : (h : Stands d s path k) → Inside d k → h .place < chainLimit d → EntryBreaks d s k (h .comes .parent) (slotOf d (h .comes .name)) v → Refuses d s path v k
-  number-19 : Missing d s path k → v ≡ 19 → Refuses d s path v k
-  number-20 : AsDirectory d s path k → v ≡ 20 → Refuses d s path v k
+  number-19 : Missing d s path k → v ≡ fault.notFound → Refuses d s path v k
+  number-20 : AsDirectory d s path k → v ≡ fault.wrongKind → Refuses d s path v k

@@ -1,4 +1,5 @@
 // One component: its name is looked for on the chain of its slot.
+use answers::Fault;
 use answers::Refusal;
 use volume::block::Block;
 use volume::block::word_of;
@@ -32,9 +33,9 @@ fn place_fault(disk: Disk, image: &[u8], directory: u32, slot: u32, compared: u3
         if compared < disk.chain_limit() {
             return entry_fault(disk, image, key, directory, slot);
         }
-        return 6;
+        return Fault::CLAIMED_TWICE;
     }
-    5
+    Fault::BAD_KEY
 }
 
 fn refused_at(number: u32, key: u32) -> Step

@@ -1,4 +1,5 @@
 // A path to an entry.
+use answers::Fault;
 use crate::chain::Step;
 use crate::chain::search;
 use crate::path::first_slash;
@@ -51,7 +52,7 @@ fn lookup(
     let end = first_slash(path);
     let step = search(disk, image, directory, &path[..end]);
     match step {
-        Step::Ended => refused(19, component),
+        Step::Ended => refused(Fault::NOT_FOUND, component),
         Step::Fault(fault) => Found::Refused(fault),
         Step::At(key, here) => {
             let all = compared + here;
@@ -64,7 +65,7 @@ fn lookup(
                 return Found::Directory(key, all);
             }
             if end < path.len() {
-                return refused(20, component);
+                return refused(Fault::WRONG_KIND, component);
             }
             Found::File(key, word_of(image, key, Block::SIZE), all)
         }
@@ -93,7 +94,7 @@ pub fn find_on(disk: Disk, image: &[u8], path: &[u8]) -> Found
     ensures { λ r. ⌜ r ≡ findOf disk (now (image .entry)) (now (path .entry)) ⌝ }
 {
     if image.len() != disk.image_bytes() {
-        return refused(1, 0);
+        return refused(Fault::IMAGE_LENGTH, 0);
     }
     let form = path_fault(path);
     if let Tested::Failed(fault) = form {
@@ -102,7 +103,7 @@ pub fn find_on(disk: Disk, image: &[u8], path: &[u8]) -> Found
     if disk.has_tag(image) {
         return from_root(disk, image, path);
     }
-    refused(3, 0)
+    refused(Fault::BOOT_TAG, 0)
 }
 
 // What a path leads to on a floppy.

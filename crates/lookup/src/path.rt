@@ -1,4 +1,5 @@
 // Paths: components split by '/', and the form that they must have.
+use answers::Fault;
 use answers::Refusal;
 use answers::Tested;
 use volume::name::LONGEST;
@@ -52,7 +53,7 @@ fn components_fault(path: &[u8], component: usize) -> Tested
         return Tested::Passed;
     }
     Tested::Failed(Refusal {
-        number: 18,
+        number: Fault::PATH_FORM,
         place: component,
     })
 }
@@ -63,7 +64,7 @@ pub(crate) fn path_fault(path: &[u8]) -> Tested
 {
     if LONGEST_PATH < path.len() {
         return Tested::Failed(Refusal {
-            number: 18,
+            number: Fault::PATH_FORM,
             place: 0,
         });
     }

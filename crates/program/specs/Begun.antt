@@ -5,6 +5,7 @@ use mathlib.Core.Path.{_≡_}
 use mathlib.Core.Logic.{_≢_, _⊎_}
 use mathlib.Core.List.{List, [], _∷_, _++_}
 use lib.ListN.{length}
+use Rattle.answers.specs.Numbers as fault
 use Rattle.program.specs.Page.{Name, Body, Group, Symbol, Part, joined, counted, nameWords, bodyWords, groupWords, symbolWords, partWords, Each, bodyCount, storedWords, OffsetFits, GroupFits, SymbolFits, PartFits}
 
 -- ---- what stands there
@@ -94,10 +95,10 @@ BegunFits t size (afterBody x b ps p) =
 
 -- in one of t hunks, which stores m words
 abbrev pub PartWrong : ℕ → ℕ → ℕ → ℕ → PartBegun → Type 0
-PartWrong t m w v aPart = (v ≡ 35) × (w ≢ 0x3EC) × (w ≢ 0x3F0) × (w ≢ 0x3F1) × (w ≢ 0x3F2)
-PartWrong t m w v (aNumber gs n) = (v ≡ 38) × (t ≤ w)
-PartWrong t m w v (anOffset gs n k os) = (v ≡ 38) × (OffsetFits m w → ⊥)
-PartWrong t m w v (aSymbol us) = (v ≡ 37) × (2 ^ 24 ≤ w)
+PartWrong t m w v aPart = (v ≡ fault.misplacedBlock) × (w ≢ 0x3EC) × (w ≢ 0x3F0) × (w ≢ 0x3F1) × (w ≢ 0x3F2)
+PartWrong t m w v (aNumber gs n) = (v ≡ fault.badTarget) × (t ≤ w)
+PartWrong t m w v (anOffset gs n k os) = (v ≡ fault.badTarget) × (OffsetFits m w → ⊥)
+PartWrong t m w v (aSymbol us) = (v ≡ fault.symbolType) × (2 ^ 24 ≤ w)
 PartWrong t m w v (aCount gs) = ⊥
 PartWrong t m w v (symbolWord us n ws) = ⊥
 PartWrong t m w v debugLength = ⊥
@@ -105,9 +106,9 @@ PartWrong t m w v (debugWord n ws) = ⊥
 
 -- in one of t hunks, of this size
 abbrev pub Wrong : ℕ → ℕ → ℕ → ℕ → Begun → Type 0
-Wrong t size w v first = (v ≡ 35) × (w ≢ 0x3E8) × (w ≢ 0x3E9) × (w ≢ 0x3EA) × (w ≢ 0x3EB)
-Wrong t size w v (aBody ws) = (v ≡ 35) × (w ≢ 0x3E9) × (w ≢ 0x3EA) × (w ≢ 0x3EB)
-Wrong t size w v (bodyLength x k) = (v ≡ 36) × (size < w)
+Wrong t size w v first = (v ≡ fault.misplacedBlock) × (w ≢ 0x3E8) × (w ≢ 0x3E9) × (w ≢ 0x3EA) × (w ≢ 0x3EB)
+Wrong t size w v (aBody ws) = (v ≡ fault.misplacedBlock) × (w ≢ 0x3E9) × (w ≢ 0x3EA) × (w ≢ 0x3EB)
+Wrong t size w v (bodyLength x k) = (v ≡ fault.bodyLength) × (size < w)
 Wrong t size w v (afterBody x b ps p) = PartWrong t (length (storedWords b)) w v p
 Wrong t size w v nameLength = ⊥
 Wrong t size w v (nameWord n ws) = ⊥

@@ -5,6 +5,7 @@ use mathlib.Core.List.{List, [], _∷_}
 use lib.Dec.{eqb}
 use lib.ListN.{length}
 use Rattle.words.specs.Word.{wordsAt}
+use Rattle.answers.specs.Numbers as fault
 use Rattle.answers.specs.Tests.{pick}
 use Rattle.answers.specs.Refusals.{refusal}
 use Rattle.answers.specs.declared.Tested.{Tested}
@@ -32,7 +33,7 @@ numbersOf (Refused r) = record { number = r .number; place = r .place; hunks = 0
 
 -- the numbers of all refusals of a check
 abbrev pub checkRefusals : List ℕ
-checkRefusals = 30 ∷ 31 ∷ 32 ∷ 33 ∷ 34 ∷ 35 ∷ 36 ∷ 37 ∷ 38 ∷ 39 ∷ []
+checkRefusals = fault.fileLength ∷ fault.earlyEnd ∷ fault.headerWord ∷ fault.libraryName ∷ fault.hunkSize ∷ fault.misplacedBlock ∷ fault.bodyLength ∷ fault.symbolType ∷ fault.badTarget ∷ fault.trailingWords ∷ []
 
 abbrev pub refuse : ℕ → ℕ → Answer
 refuse v at = Refused (refusal v at)
@@ -40,18 +41,18 @@ refuse v at = Refused (refusal v at)
 -- the words are over, at the file's end: a word is missing unless the last hunk has ended
 abbrev pub endedOf : ℕ → Cursor → Mode → Answer
 endedOf end c End = Accepted (c .hunk) (c .place)
-endedOf end c Begin = refuse 31 end
-endedOf end c NameLength = refuse 31 end
-endedOf end c Body = refuse 31 end
-endedOf end c (Length k) = refuse 31 end
-endedOf end c (Stored i) = refuse 31 end
-endedOf end c Part = refuse 31 end
-endedOf end c Count = refuse 31 end
-endedOf end c (Number n) = refuse 31 end
-endedOf end c (Offset n k) = refuse 31 end
-endedOf end c Symbol = refuse 31 end
-endedOf end c DebugLength = refuse 31 end
-endedOf end c (Skip n a) = refuse 31 end
+endedOf end c Begin = refuse fault.earlyEnd end
+endedOf end c NameLength = refuse fault.earlyEnd end
+endedOf end c Body = refuse fault.earlyEnd end
+endedOf end c (Length k) = refuse fault.earlyEnd end
+endedOf end c (Stored i) = refuse fault.earlyEnd end
+endedOf end c Part = refuse fault.earlyEnd end
+endedOf end c Count = refuse fault.earlyEnd end
+endedOf end c (Number n) = refuse fault.earlyEnd end
+endedOf end c (Offset n k) = refuse fault.earlyEnd end
+endedOf end c Symbol = refuse fault.earlyEnd end
+endedOf end c DebugLength = refuse fault.earlyEnd end
+endedOf end c (Skip n a) = refuse fault.earlyEnd end
 
 abbrev pub next : Next → ℕ → (Cursor → Answer) → Answer
 next (On d) at f = f d
@@ -81,8 +82,8 @@ and (Failed r) a = Refused r
 
 unfoldable pub checkOf : List ℕ → Answer
 checkOf file =
-    pick (eqb (length file) 0) (refuse 30 0)
-    (pick (eqb (length file % 4) 0) (and (heads file 0 5) (and (heads file 5 (totalOf file)) (walkOf file))) (refuse 30 0))
+    pick (eqb (length file) 0) (refuse fault.fileLength 0)
+    (pick (eqb (length file % 4) 0) (and (heads file 0 5) (and (heads file 5 (totalOf file)) (walkOf file))) (refuse fault.fileLength 0))
 
 -- ---- the promise
 

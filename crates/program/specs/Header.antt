@@ -5,6 +5,7 @@ use mathlib.Core.List.{List}
 use lib.Dec.{ltb, leb, eqb}
 use lib.ListN.{length}
 use Rattle.words.specs.Word.{wordAt}
+use Rattle.answers.specs.Numbers as fault
 use Rattle.answers.specs.Tests.{pick, must}
 use Rattle.answers.specs.Refusals.{refusal}
 use Rattle.answers.specs.declared.Tested.{Tested}
@@ -25,12 +26,12 @@ startAt file = 20 + 4 * totalOf file
 -- the fault of the header's word i where the file has t hunks, or 0
 abbrev pub headFault : ℕ → ℕ → ℕ → ℕ
 headFault t i w =
-    pick (eqb i 0) (must (eqb w 0x3F3) 32)
-    (pick (eqb i 1) (must (eqb w 0) 33)
-    (pick (eqb i 2) (pick (eqb w 0) 32 (must (leb w 64) 32))
-    (pick (eqb i 3) (must (eqb w 0) 32)
-    (pick (eqb i 4) (must (eqb (w + 1) t) 32)
-    (must (leb w 65536) 34)))))
+    pick (eqb i 0) (must (eqb w 0x3F3) fault.headerWord)
+    (pick (eqb i 1) (must (eqb w 0) fault.libraryName)
+    (pick (eqb i 2) (pick (eqb w 0) fault.headerWord (must (leb w 64) fault.headerWord))
+    (pick (eqb i 3) (must (eqb w 0) fault.headerWord)
+    (pick (eqb i 4) (must (eqb (w + 1) t) fault.headerWord)
+    (must (leb w 65536) fault.hunkSize)))))
 
 -- a number other than 0 fails there; else it goes on
 abbrev pub judge : ℕ → ℕ → Tested → Tested
@@ -41,5 +42,5 @@ judge (suc e) at h = Failed (refusal (suc e) at)
 unfoldable pub heads : List ℕ → ℕ → ℕ → Tested
 heads file i zero = Passed
 heads file i (suc n) =
-    pick (ltb (length file) (4 * i + 4)) (Failed (refusal 31 (length file)))
+    pick (ltb (length file) (4 * i + 4)) (Failed (refusal fault.earlyEnd (length file)))
     (judge (headFault (totalOf file) i (wordAt file (4 * i))) (4 * i) (heads file (i + 1) n))

@@ -2,6 +2,7 @@
 -- and their sizes; a word that may not stand there gives a refusal's number.
 use Prim.Native.Nat.{ℕ, _+_, _-_, _*_, _%_}
 use lib.Dec.{ltb, leb, eqb}
+use Rattle.answers.specs.Numbers as fault
 use Rattle.answers.specs.Tests.{pick}
 use Rattle.program.specs.declared.reader.Cursor.{Cursor}
 use Rattle.program.specs.declared.reader.After.{After}
@@ -33,7 +34,7 @@ abbrev pub bodyOf : Cursor → ℕ → Next
 bodyOf c w =
     pick (eqb w 0x3E9) (on c (Length w))
     (pick (eqb w 0x3EA) (on c (Length w))
-    (pick (eqb w 0x3EB) (on c (Length w)) (Bad 35)))
+    (pick (eqb w 0x3EB) (on c (Length w)) (Bad fault.misplacedBlock)))
 
 -- a name block, or the body
 abbrev pub beginOf : Cursor → ℕ → Next
@@ -50,21 +51,21 @@ countOf c w = pick (eqb w 0) (on c Part) (on c (Number (w - 1)))
 abbrev pub offsetOf : Cursor → ℕ → ℕ → ℕ → Next
 offsetOf c n k w =
     pick (eqb (w % 2) 0)
-    (pick (ltb (4 * c .stored) (w + 4)) (Bad 38) (pick (eqb n 0) (on c Count) (on c (Offset (n - 1) k))))
-    (Bad 38)
+    (pick (ltb (4 * c .stored) (w + 4)) (Bad fault.badTarget) (pick (eqb n 0) (on c Count) (on c (Offset (n - 1) k))))
+    (Bad fault.badTarget)
 
 -- a type byte of 0 and a length of 24 bits; then the name's words and a value
 abbrev pub symbolOf : Cursor → ℕ → Next
-symbolOf c w = pick (eqb w 0) (on c Part) (pick (leb 0x1000000 w) (Bad 37) (on c (Skip w after.Symbol)))
+symbolOf c w = pick (eqb w 0) (on c Part) (pick (leb 0x1000000 w) (Bad fault.symbolType) (on c (Skip w after.Symbol)))
 
 -- the number of one of t hunks
 abbrev pub numberOf : ℕ → Cursor → ℕ → ℕ → Next
-numberOf t c n w = pick (ltb w t) (on c (Offset n w)) (Bad 38)
+numberOf t c n w = pick (ltb w t) (on c (Offset n w)) (Bad fault.badTarget)
 
 -- at most as many words as the hunk's size; bss stores none of them
 abbrev pub lengthOf : (ℕ → ℕ) → Cursor → ℕ → ℕ → Next
 lengthOf size c kind w =
-    pick (ltb (size (c .hunk)) w) (Bad 36)
+    pick (ltb (size (c .hunk)) w) (Bad fault.bodyLength)
     (storedFrom (record { mode = Part; hunk = c .hunk; place = c .place; stored = pick (eqb kind 0x3EB) 0 w }) 0)
 
 module _ (t : ℕ) (size : ℕ → ℕ) where
@@ -79,7 +80,7 @@ module _ (t : ℕ) (size : ℕ → ℕ) where
       pick (eqb w 0x3EC) (on c Count)
       (pick (eqb w 0x3F0) (on c Symbol)
       (pick (eqb w 0x3F1) (on c DebugLength)
-      (pick (eqb w 0x3F2) (endOf c) (Bad 35))))
+      (pick (eqb w 0x3F2) (endOf c) (Bad fault.misplacedBlock))))
 
   abbrev pub turn : Cursor → ℕ → Mode → Next
   turn c w Begin = beginOf c w
@@ -94,7 +95,7 @@ module _ (t : ℕ) (size : ℕ → ℕ) where
   turn c w Symbol = symbolOf c w
   turn c w DebugLength = skip c w after.Part
   turn c w (Skip n a) = skip c n a
-  turn c w End = Bad 39
+  turn c w End = Bad fault.trailingWords
 
   -- the reader takes the word w
   unfoldable pub stepOf : Cursor → ℕ → Next

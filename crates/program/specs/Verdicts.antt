@@ -5,6 +5,7 @@ use mathlib.Core.Logic.{_≢_, _⊎_}
 use mathlib.Core.List.{List, [], _∷_, _++_}
 use lib.ListN.{length}
 use Rattle.words.specs.Word.{wordAt, wordsAt}
+use Rattle.answers.specs.Numbers as fault
 use Rattle.answers.specs.Refusals.{refusal}
 use Rattle.answers.specs.declared.Refusal.{Refusal}
 use Rattle.program.specs.Page.{Hunk, joined, hunkWords, HunkFits}
@@ -36,7 +37,7 @@ Fine file j = (4 * j + 4 ≤ length file) × (faultAt file j ≡ 0)
 -- word j is missing, or it is there and has a fault
 abbrev pub HeadFails : List ℕ → ℕ → Refusal → Type 0
 HeadFails file j f =
-    ((length file < 4 * j + 4) × (f ≡ refusal 31 (length file)))
+    ((length file < 4 * j + 4) × (f ≡ refusal fault.earlyEnd (length file)))
     ⊎ ((4 * j + 4 ≤ length file) × (faultAt file j ≢ 0) × (f ≡ refusal (faultAt file j) (4 * j)))
 
 pub record HeadWord (file : List ℕ) (f : Refusal) : Type 0 where
@@ -92,19 +93,19 @@ pub record MoreWords (file : List ℕ) (f : Refusal) : Type 0 where
   pub at : ℕ
   pub whole : AllHunks file hunks at
   pub there : at < length file
-  pub said : f ≡ refusal 39 at
+  pub said : f ≡ refusal fault.trailingWords at
 
 -- 31: the file ends before the last hunk does
 pub record MissingWord (file : List ℕ) (f : Refusal) : Type 0 where
   pub hunks : List Hunk
   pub begun : Begun
   pub before : Before file hunks begun (length file)
-  pub said : f ≡ refusal 31 (length file)
+  pub said : f ≡ refusal fault.earlyEnd (length file)
 
 -- ---- any refusal: one of these, in this order
 
 abbrev pub Says : List ℕ → Refusal → Type 0
 Says file f =
-    (BadLength file × (f ≡ refusal 30 0))
+    (BadLength file × (f ≡ refusal fault.fileLength 0))
     ⊎ (GoodLength file × HeadWord file f)
     ⊎ (GoodLength file × Headed file × (WrongWord file f ⊎ MoreWords file f ⊎ MissingWord file f))

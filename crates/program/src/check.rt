@@ -1,4 +1,5 @@
 // The check of a whole program file: its own faults, in file order.
+use answers::Fault;
 use crate::header::WORDS;
 use crate::header::head_words;
 use crate::header::total;
@@ -40,7 +41,7 @@ fn ended(file: &[u8], c: Cursor) -> Answer
     if let Mode::End = m {
         return Answer::Accepted(c.hunk, c.place);
     }
-    refused(31, file.len())
+    refused(Fault::EARLY_END, file.len())
 }
 
 // The hunks, to the end of the file.
@@ -72,10 +73,10 @@ pub fn check(file: &[u8]) -> Answer
     ensures { λ r. ⌜ Checks (now (file .entry)) r ⌝ }
 {
     if file.len() == 0 {
-        return refused(30, 0);
+        return refused(Fault::FILE_LENGTH, 0);
     }
     if file.len() % 4 != 0 {
-        return refused(30, 0);
+        return refused(Fault::FILE_LENGTH, 0);
     }
     let a = head_words(file, 0, WORDS);
     if let Tested::Failed(f) = a {

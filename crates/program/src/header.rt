@@ -1,4 +1,5 @@
 // A program file's header: five words, and the size of each hunk.
+use answers::Fault;
 use answers::Refusal;
 use answers::Tested;
 ghost use mathlib.Core.Path.{_≡_};
@@ -37,28 +38,28 @@ fn head_fault(file: &[u8], i: usize, w: u32) -> u32
     ensures { λ r. ⌜ r ≡ headFault (totalOf (now (file .entry))) i w ⌝ }
 {
     if i == 0 {
-        return if w == HEADER { 0 } else { 32 };
+        return if w == HEADER { 0 } else { Fault::HEADER_WORD };
     }
     if i == 1 {
-        return if w == 0 { 0 } else { 33 };
+        return if w == 0 { 0 } else { Fault::LIBRARY_NAME };
     }
     if i == 2 {
         return if w == 0 {
-            32
+            Fault::HEADER_WORD
         } else if w <= MOST_HUNKS {
             0
         } else {
-            32
+            Fault::HEADER_WORD
         };
     }
     if i == 3 {
-        return if w == 0 { 0 } else { 32 };
+        return if w == 0 { 0 } else { Fault::HEADER_WORD };
     }
     if i == 4 {
         let more = w as u64 + 1;
-        return if more == total(file) as u64 { 0 } else { 32 };
+        return if more == total(file) as u64 { 0 } else { Fault::HEADER_WORD };
     }
-    if w <= LARGEST { 0 } else { 34 }
+    if w <= LARGEST { 0 } else { Fault::HUNK_SIZE }
 }
 
 // n words of the header from word `from` on.
@@ -71,7 +72,7 @@ pub(crate) fn head_words(file: &[u8], from: usize, n: usize) -> Tested
     while 0 < left {
         if file.len() < 4 * i + 4 {
             return Tested::Failed(Refusal {
-                number: 31,
+                number: Fault::EARLY_END,
                 place: file.len(),
             });
         }

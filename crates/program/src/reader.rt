@@ -1,4 +1,5 @@
 // The reader of a program file's hunks, one word a step.
+use answers::Fault;
 use crate::header::size;
 use crate::header::total;
 ghost use mathlib.Core.Path.{_≡_};
@@ -147,7 +148,7 @@ fn body(c: Cursor, w: u32) -> Next
     if w == BSS {
         return to(c, Mode::Length(w));
     }
-    Next::Bad(35)
+    Next::Bad(Fault::MISPLACED_BLOCK)
 }
 
 // Before the stored word i, or after the last.
@@ -184,7 +185,7 @@ fn body_length(file: &[u8], c: Cursor, kind: u32, w: u32) -> Next
 {
     let h = c.hunk;
     if size(file, h) < w {
-        return Next::Bad(36);
+        return Next::Bad(Fault::BODY_LENGTH);
     }
     let d = Cursor {
         mode: Mode::Part,
@@ -235,7 +236,7 @@ fn part(file: &[u8], c: Cursor, w: u32) -> Next
     if w == END {
         return hunk_end(file, c);
     }
-    Next::Bad(35)
+    Next::Bad(Fault::MISPLACED_BLOCK)
 }
 
 fn count(c: Cursor, w: u32) -> Next
@@ -254,7 +255,7 @@ fn number(file: &[u8], c: Cursor, n: u32, w: u32) -> Next
     if w < total(file) {
         return to(c, Mode::Offset(n, w));
     }
-    Next::Bad(38)
+    Next::Bad(Fault::BAD_TARGET)
 }
 
 // An even offset of a word that the hunk stores.
@@ -262,11 +263,11 @@ fn offset(c: Cursor, n: u32, k: u32, w: u32) -> Next
     ensures { λ r. ⌜ r ≡ offsetOf c n k w ⌝ }
 {
     if w % 2 != 0 {
-        return Next::Bad(38);
+        return Next::Bad(Fault::BAD_TARGET);
     }
     let bytes = 4 * c.stored as u64;
     if bytes < w as u64 + 4 {
-        return Next::Bad(38);
+        return Next::Bad(Fault::BAD_TARGET);
     }
     if n != 0 {
         return to(c, Mode::Offset(n - 1, k));
@@ -282,7 +283,7 @@ fn symbol(c: Cursor, w: u32) -> Next
         return to(c, Mode::Part);
     }
     if 0x1000000 <= w {
-        return Next::Bad(37);
+        return Next::Bad(Fault::SYMBOL_TYPE);
     }
     to(c, Mode::Skip(w, After::Symbol))
 }
@@ -316,7 +317,7 @@ pub fn step(file: &[u8], c: Cursor, w: u32) -> Next
         Mode::Symbol => symbol(c, w),
         Mode::DebugLength => skipped(c, w, After::Part),
         Mode::Skip(n, a) => skipped(c, n, a),
-        Mode::End => Next::Bad(39),
+        Mode::End => Next::Bad(Fault::TRAILING_WORDS),
     }
 }
 

@@ -5,6 +5,7 @@ use mathlib.Core.Path.{_≡_}
 use mathlib.Core.List.{List, _∷_}
 use lib.ListN.{length, getD}
 use Rattle.reach.specs.References.{At, _∈_}
+use Rattle.answers.specs.Numbers as fault
 use Rattle.answers.specs.Refusals.{refusal}
 use Rattle.volume.specs.declared.disk.Disk.{Disk}
 use Rattle.volume.specs.Disks.{firstKey}
@@ -59,7 +60,7 @@ pub record GoodData (d : Disk) (s : List ℕ) (h i k c : ℕ) : Type 0 where
 
 -- or it is not: 5, or 7, 8, 15 as each of them says
 pub data BadData (d : Disk) (s : List ℕ) (h i k c v : ℕ) : Type 0 where
-  data-key : (Inside d k → ⊥) → v ≡ 5 → BadData d s h i k c v
+  data-key : (Inside d k → ⊥) → v ≡ fault.badKey → BadData d s h i k c v
   data-itself : Inside d k → DataBreaks d s k h (suc i) (wordOf s c 4) v → BadData d s h i k c v
 
 -- list block j, from 0, is block k, and as the law says: the keys still to come are those after the header's and the earlier list blocks'
@@ -69,7 +70,7 @@ pub record GoodList (d : Disk) (s : List ℕ) (h j k : ℕ) : Type 0 where
 
 -- or it is not: 5, or 7, 8, 10, 14 as each of them says
 pub data BadList (d : Disk) (s : List ℕ) (h j k v : ℕ) : Type 0 where
-  list-key : (Inside d k → ⊥) → v ≡ 5 → BadList d s h j k v
+  list-key : (Inside d k → ⊥) → v ≡ fault.badKey → BadList d s h j k v
   list-itself : Inside d k → ListBreaks s k h (blocksOf d s h - slots * suc j) v → BadList d s h j k v
 
 -- its first n data blocks and its first m list blocks are good
@@ -87,6 +88,6 @@ pub data Fails (d : Disk) (s : List ℕ) (h v k : ℕ) : Type 0 where
 -- the path leads to no file; or the file's header breaks the law, 14; or its header is good and another of its blocks is not
 pub data Refuses (d : Disk) (s path : List ℕ) (v k : ℕ) : Type 0 where
   of-lookup : findOf d s path ≡ found.Refused (refusal v k) → Refuses d s path v k
-  of-directory : (t c : ℕ) → findOf d s path ≡ found.Directory t c → v ≡ 20 → k ≡ lastComponent path → Refuses d s path v k
+  of-directory : (t c : ℕ) → findOf d s path ≡ found.Directory t c → v ≡ fault.wrongKind → k ≡ lastComponent path → Refuses d s path v k
   of-header : (z c : ℕ) → findOf d s path ≡ found.File k z c → HeaderBreaks d s k v → Refuses d s path v k
   of-block : (h z c : ℕ) → findOf d s path ≡ found.File h z c → HeaderSound d s h → Fails d s h v k → Refuses d s path v k

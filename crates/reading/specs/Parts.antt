@@ -9,6 +9,7 @@ use Rattle.volume.specs.Blocks.{keyWord, wordOf}
 use Rattle.volume.specs.Disks.{fileLimit}
 use Rattle.volume.specs.Files.{keysOf, sizeOf}
 use Rattle.reading.specs.Bytes.{filledBy, part}
+use Rattle.answers.specs.Numbers as fault
 use Rattle.answers.specs.declared.Tested.{Tested}
 use Rattle.answers.specs.declared.Tested.the-variants.{Passed}
 use Rattle.walk.specs.declared.Lister.{Lister}
@@ -45,5 +46,5 @@ pub record ListTested (d : Disk) (s : List ℕ) (b : Lister) (r : Tested) : Type
 -- what is handed back where no file is found; a file is never handed back
 abbrev pub handed : List ℕ → Found → Reading
 handed path (found.Refused r) = Refused r
-handed path (found.Directory k c) = refuse 20 (lastComponent path)
-handed path (found.File k z c) = refuse 20 (lastComponent path)
+handed path (found.Directory k c) = refuse fault.wrongKind (lastComponent path)
+handed path (found.File k z c) = refuse fault.wrongKind (lastComponent path)

@@ -4,6 +4,7 @@ use Prim.Native.Nat.{ℕ, _-_}
 use mathlib.Core.Path.{_≡_}
 use mathlib.Core.List.{List, [], _∷_, _++_}
 use lib.ListN.{length}
+use Rattle.answers.specs.Numbers as fault
 use Rattle.answers.specs.Refusals.{refusal}
 use Rattle.answers.specs.declared.Tested.{Tested}
 use Rattle.answers.specs.declared.Tested.the-variants.{Passed, Failed}
@@ -29,7 +30,7 @@ numbersOf (Refused r) = record { number = r .number; place = r .place; count = 0
 
 -- the numbers of all refusals of a read: the lookup's, and those of the file's own blocks
 abbrev pub readRefusals : List ℕ
-readRefusals = findRefusals ++ (14 ∷ 15 ∷ [])
+readRefusals = findRefusals ++ (fault.fileLayout ∷ fault.dataLayout ∷ [])
 
 abbrev pub refuse : ℕ → ℕ → Reading
 refuse v k = Refused (refusal v k)
@@ -47,7 +48,7 @@ tested d s k o n (Failed r) = Refused r
 
 abbrev pub reads : Disk → List ℕ → List ℕ → ℕ → ℕ → Found → Reading
 reads d s path o n (found.File k z c) = tested d s k o n (blocksFault d s k)
-reads d s path o n (found.Directory k c) = refuse 20 (lastComponent path)
+reads d s path o n (found.Directory k c) = refuse fault.wrongKind (lastComponent path)
 reads d s path o n (found.Refused r) = Refused r
 
 unfoldable pub readOf : Disk → List ℕ → List ℕ → ℕ → ℕ → Reading

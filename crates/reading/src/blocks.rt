@@ -1,4 +1,5 @@
 // The tests of a file's blocks, in the audit's order and without claims.
+use answers::Fault;
 use answers::Refusal;
 use answers::Tested;
 use volume::block::Block;
@@ -41,7 +42,7 @@ fn test_data(disk: Disk, image: &[u8], key: u32, header: u32, n: u32, last: u32)
         let named = word_of(image, last, Block::FOLLOWING);
         return data_fault(disk, image, key, header, size, n, named);
     }
-    5
+    Fault::BAD_KEY
 }
 
 // The data blocks that one block lists.
@@ -74,7 +75,7 @@ fn test_list(disk: Disk, image: &[u8], b: Lister) -> u32
         let size = word_of(image, b.header, Block::SIZE);
         return list_fault(image, b.key, b.header, disk.data_blocks(size) - b.done);
     }
-    5
+    Fault::BAD_KEY
 }
 
 // A list block and what it lists.

@@ -1,4 +1,5 @@
 // A read: a path to a file, the tests of its blocks, and its bytes from an offset on.
+use answers::Fault;
 use crate::blocks::test_file;
 use crate::copy::copy_file;
 use answers::Refusal;
@@ -51,7 +52,7 @@ fn handed_back(found: Found, path: &[u8]) -> Reading
 {
     let Found::Refused(r) = found else {
         return Reading::Refused(Refusal {
-            number: 20,
+            number: Fault::WRONG_KIND,
             place: last_component(path),
         });
     };

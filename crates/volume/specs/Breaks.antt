@@ -5,6 +5,7 @@ use mathlib.Core.Path.{_≡_}
 use mathlib.Core.Logic.{_≢_, _⊎_}
 use mathlib.Core.Bool.{true, false}
 use mathlib.Core.List.{List, [], _∷_}
+use Rattle.answers.specs.Numbers as fault
 use Rattle.reach.specs.References.{At, _∈_}
 use Rattle.volume.specs.declared.disk.Disk.{Disk}
 use Rattle.volume.specs.Disks.{firstKey, rootOf, fileLimit}
@@ -30,20 +31,20 @@ pub record RootSound (s : List ℕ) (r : ℕ) : Type 0 where
   pub name : nameGood s r ≡ true
 
 pub data RootBreaks (s : List ℕ) (r v : ℕ) : Type 0 where
-  root-7 : sumOf s r ≢ 0 → v ≡ 7 → RootBreaks s r v
-  root-8 : sumOf s r ≡ 0 → (RootKind s r → ⊥) → v ≡ 8 → RootBreaks s r v
-  root-4 : sumOf s r ≡ 0 → RootKind s r → (RootFixed s r → ⊥) → v ≡ 4 → RootBreaks s r v
-  root-11 : sumOf s r ≡ 0 → RootKind s r → RootFixed s r → nameGood s r ≡ false → v ≡ 11 → RootBreaks s r v
+  root-7 : sumOf s r ≢ 0 → v ≡ fault.blockSum → RootBreaks s r v
+  root-8 : sumOf s r ≡ 0 → (RootKind s r → ⊥) → v ≡ fault.blockType → RootBreaks s r v
+  root-4 : sumOf s r ≡ 0 → RootKind s r → (RootFixed s r → ⊥) → v ≡ fault.rootWords → RootBreaks s r v
+  root-11 : sumOf s r ≡ 0 → RootKind s r → RootFixed s r → nameGood s r ≡ false → v ≡ fault.badName → RootBreaks s r v
 
 -- ---- the root's words beside the bitmap key, w78 or w80 to w104: 16
 
 pub data MapBreaks (d : Disk) (s : List ℕ) (v : ℕ) : Type 0 where
-  map-16 : (Valid d s → ⊥) ⊎ (OneBitmap s (rootOf d) → ⊥) → v ≡ 16 → MapBreaks d s v
+  map-16 : (Valid d s → ⊥) ⊎ (OneBitmap s (rootOf d) → ⊥) → v ≡ fault.bitmapWords → MapBreaks d s v
 
 -- ---- the bitmap block, k: 7
 
 pub data BitmapBreaks (s : List ℕ) (k v : ℕ) : Type 0 where
-  bitmap-7 : sumOf s k ≢ 0 → v ≡ 7 → BitmapBreaks s k v
+  bitmap-7 : sumOf s k ≢ 0 → v ≡ fault.blockSum → BitmapBreaks s k v
 
 -- ---- an entry, block k, on the chain of slot i of the directory t: 7 to 12
 
@@ -66,13 +67,13 @@ pub record Placed (d : Disk) (s : List ℕ) (k t i : ℕ) : Type 0 where
   pub slot : slotOf d (nameOf s k) ≡ i
 
 pub data EntryBreaks (d : Disk) (s : List ℕ) (k t i v : ℕ) : Type 0 where
-  entry-7 : sumOf s k ≢ 0 → v ≡ 7 → EntryBreaks d s k t i v
+  entry-7 : sumOf s k ≢ 0 → v ≡ fault.blockSum → EntryBreaks d s k t i v
   -- no link either
-  entry-8 : sumOf s k ≡ 0 → (EntryKind s k → ⊥) → (Link s k → ⊥) → v ≡ 8 → EntryBreaks d s k t i v
-  entry-9 : sumOf s k ≡ 0 → Link s k → v ≡ 9 → EntryBreaks d s k t i v
-  entry-10 : sumOf s k ≡ 0 → EntryKind s k → (EntryTies s k t → ⊥) → v ≡ 10 → EntryBreaks d s k t i v
-  entry-11 : sumOf s k ≡ 0 → EntryKind s k → EntryTies s k t → nameGood s k ≡ false → v ≡ 11 → EntryBreaks d s k t i v
-  entry-12 : sumOf s k ≡ 0 → Entry s k → EntryTies s k t → slotOf d (nameOf s k) ≢ i → v ≡ 12 → EntryBreaks d s k t i v
+  entry-8 : sumOf s k ≡ 0 → (EntryKind s k → ⊥) → (Link s k → ⊥) → v ≡ fault.blockType → EntryBreaks d s k t i v
+  entry-9 : sumOf s k ≡ 0 → Link s k → v ≡ fault.isLink → EntryBreaks d s k t i v
+  entry-10 : sumOf s k ≡ 0 → EntryKind s k → (EntryTies s k t → ⊥) → v ≡ fault.wrongTies → EntryBreaks d s k t i v
+  entry-11 : sumOf s k ≡ 0 → EntryKind s k → EntryTies s k t → nameGood s k ≡ false → v ≡ fault.badName → EntryBreaks d s k t i v
+  entry-12 : sumOf s k ≡ 0 → Entry s k → EntryTies s k t → slotOf d (nameOf s k) ≢ i → v ≡ fault.wrongSlot → EntryBreaks d s k t i v
 
 -- ---- a file, by its header h: 14
 
@@ -83,7 +84,7 @@ pub record HeaderSound (d : Disk) (s : List ℕ) (h : ℕ) : Type 0 where
   pub empty : blocksOf d s h ≡ 0 → wordOf s h 4 ≡ 0
 
 pub data HeaderBreaks (d : Disk) (s : List ℕ) (h v : ℕ) : Type 0 where
-  header-14 : (HeaderSound d s h → ⊥) → v ≡ 14 → HeaderBreaks d s h v
+  header-14 : (HeaderSound d s h → ⊥) → v ≡ fault.fileLayout → HeaderBreaks d s h v
 
 -- ---- a list block, k, of the file h, n keys still to come: 7, 8, 10, 14
 
@@ -94,10 +95,10 @@ pub record ListSound (s : List ℕ) (k h n : ℕ) : Type 0 where
   pub lists : Lists s k n
 
 pub data ListBreaks (s : List ℕ) (k h n v : ℕ) : Type 0 where
-  list-7 : sumOf s k ≢ 0 → v ≡ 7 → ListBreaks s k h n v
-  list-8 : sumOf s k ≡ 0 → (ListKind s k → ⊥) → v ≡ 8 → ListBreaks s k h n v
-  list-10 : sumOf s k ≡ 0 → ListKind s k → (ListBlock s h k → ⊥) → v ≡ 10 → ListBreaks s k h n v
-  list-14 : sumOf s k ≡ 0 → ListBlock s h k → (Lists s k n → ⊥) → v ≡ 14 → ListBreaks s k h n v
+  list-7 : sumOf s k ≢ 0 → v ≡ fault.blockSum → ListBreaks s k h n v
+  list-8 : sumOf s k ≡ 0 → (ListKind s k → ⊥) → v ≡ fault.blockType → ListBreaks s k h n v
+  list-10 : sumOf s k ≡ 0 → ListKind s k → (ListBlock s h k → ⊥) → v ≡ fault.wrongTies → ListBreaks s k h n v
+  list-14 : sumOf s k ≡ 0 → ListBlock s h k → (Lists s k n → ⊥) → v ≡ fault.fileLayout → ListBreaks s k h n v
 
 -- ---- data block n of the file h, block k; `named` is the w4 of the block before it: 7, 8, 15
 
@@ -113,6 +114,6 @@ pub record DataTies (d : Disk) (s : List ℕ) (k h n named : ℕ) : Type 0 where
   pub last : n ≡ blocksOf d s h → wordOf s k 4 ≡ 0
 
 pub data DataBreaks (d : Disk) (s : List ℕ) (k h n named v : ℕ) : Type 0 where
-  data-7 : sumOf s k ≢ 0 → v ≡ 7 → DataBreaks d s k h n named v
-  data-8 : sumOf s k ≡ 0 → wordOf s k 0 ≢ 8 → v ≡ 8 → DataBreaks d s k h n named v
-  data-15 : sumOf s k ≡ 0 → wordOf s k 0 ≡ 8 → (DataTies d s k h n named → ⊥) → v ≡ 15 → DataBreaks d s k h n named v
+  data-7 : sumOf s k ≢ 0 → v ≡ fault.blockSum → DataBreaks d s k h n named v
+  data-8 : sumOf s k ≡ 0 → wordOf s k 0 ≢ 8 → v ≡ fault.blockType → DataBreaks d s k h n named v
+  data-15 : sumOf s k ≡ 0 → wordOf s k 0 ≡ 8 → (DataTies d s k h n named → ⊥) → v ≡ fault.dataLayout → DataBreaks d s k h n named v

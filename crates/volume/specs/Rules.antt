@@ -5,6 +5,7 @@ use mathlib.Core.Bool.{Bool, true, false}
 use mathlib.Core.List.{List, [], _∷_, _++_}
 use lib.Dec.{leb, eqb}
 use Rattle.volume.specs.declared.disk.Disk.{Disk}
+use Rattle.answers.specs.Numbers as fault
 use Rattle.answers.specs.Tests.{pick, must, never, tests}
 use Rattle.volume.specs.Disks.{rootOf, fileLimit}
 use Rattle.volume.specs.Blocks.{slots, wordOf, sumOf, directory}
@@ -15,24 +16,24 @@ use Rattle.volume.specs.Files.{dataBlocks, heldOf, keysHere, sizeOf, blo
 
 abbrev pub rootTypes : List ℕ → ℕ → List ℕ
 rootTypes s r =
-    must (eqb (sumOf s r) 0) 7
-    ∷ must (eqb (wordOf s r 0) 2) 8
-    ∷ must (eqb (wordOf s r 127) 1) 8
+    must (eqb (sumOf s r) 0) fault.blockSum
+    ∷ must (eqb (wordOf s r 0) 2) fault.blockType
+    ∷ must (eqb (wordOf s r 127) 1) fault.blockType
     ∷ []
 
 abbrev pub rootWords : List ℕ → ℕ → List ℕ
 rootWords s r =
-    must (eqb (wordOf s r 1) 0) 4
-    ∷ must (eqb (wordOf s r 2) 0) 4
-    ∷ must (eqb (wordOf s r 3) slots) 4
-    ∷ must (eqb (wordOf s r 4) 0) 4
-    ∷ must (eqb (wordOf s r 124) 0) 4
-    ∷ must (eqb (wordOf s r 125) 0) 4
-    ∷ must (eqb (wordOf s r 126) 0) 4
+    must (eqb (wordOf s r 1) 0) fault.rootWords
+    ∷ must (eqb (wordOf s r 2) 0) fault.rootWords
+    ∷ must (eqb (wordOf s r 3) slots) fault.rootWords
+    ∷ must (eqb (wordOf s r 4) 0) fault.rootWords
+    ∷ must (eqb (wordOf s r 124) 0) fault.rootWords
+    ∷ must (eqb (wordOf s r 125) 0) fault.rootWords
+    ∷ must (eqb (wordOf s r 126) 0) fault.rootWords
     ∷ []
 
 abbrev pub rootRules : List ℕ → ℕ → List ℕ
-rootRules s r = rootTypes s r ++ (rootWords s r ++ (must (nameGood s r) 11 ∷ []))
+rootRules s r = rootTypes s r ++ (rootWords s r ++ (must (nameGood s r) fault.badName ∷ []))
 
 unfoldable pub rootFault : Disk → List ℕ → ℕ
 rootFault d s = tests (rootRules s (rootOf d))
@@ -46,8 +47,8 @@ allZero s k i (suc n) = pick (eqb (wordOf s k i) 0) (allZero s k (suc i) n) fals
 
 abbrev pub mapRules : List ℕ → ℕ → List ℕ
 mapRules s r =
-    must (eqb (wordOf s r 78) 0xFFFFFFFF) 16
-    ∷ must (allZero s r 80 25) 16
+    must (eqb (wordOf s r 78) 0xFFFFFFFF) fault.bitmapWords
+    ∷ must (allZero s r 80 25) fault.bitmapWords
     ∷ []
 
 unfoldable pub mapFault : Disk → List ℕ → ℕ
@@ -56,31 +57,31 @@ mapFault d s = tests (mapRules s (rootOf d))
 -- ---- the bitmap block
 
 unfoldable pub bitmapFault : List ℕ → ℕ → ℕ
-bitmapFault s k = must (eqb (sumOf s k) 0) 7
+bitmapFault s k = must (eqb (sumOf s k) 0) fault.blockSum
 
 -- ---- an entry, block k, on the chain of a slot of the directory t
 
 abbrev pub entryTypes : List ℕ → ℕ → List ℕ
 entryTypes s k =
-    must (eqb (sumOf s k) 0) 7
-    ∷ must (eqb (wordOf s k 0) 2) 8
-    ∷ never (eqb (wordOf s k 127) 3) 9
-    ∷ never (eqb (wordOf s k 127) 4) 9
-    ∷ never (eqb (wordOf s k 127) 0xFFFFFFFC) 9
-    ∷ pick (directory s k) 0 (must (eqb (wordOf s k 127) 0xFFFFFFFD) 8)
+    must (eqb (sumOf s k) 0) fault.blockSum
+    ∷ must (eqb (wordOf s k 0) 2) fault.blockType
+    ∷ never (eqb (wordOf s k 127) 3) fault.isLink
+    ∷ never (eqb (wordOf s k 127) 4) fault.isLink
+    ∷ never (eqb (wordOf s k 127) 0xFFFFFFFC) fault.isLink
+    ∷ pick (directory s k) 0 (must (eqb (wordOf s k 127) 0xFFFFFFFD) fault.blockType)
     ∷ []
 
 abbrev pub entryWords : List ℕ → ℕ → ℕ → List ℕ
 entryWords s k t =
-    must (eqb (wordOf s k 1) k) 10
-    ∷ must (eqb (wordOf s k 125) t) 10
-    ∷ pick (directory s k) (must (eqb (wordOf s k 126) 0) 10) 0
+    must (eqb (wordOf s k 1) k) fault.wrongTies
+    ∷ must (eqb (wordOf s k 125) t) fault.wrongTies
+    ∷ pick (directory s k) (must (eqb (wordOf s k 126) 0) fault.wrongTies) 0
     ∷ []
 
 abbrev pub entryName : Disk → List ℕ → ℕ → ℕ → List ℕ
 entryName d s k slot =
-    must (nameGood s k) 11
-    ∷ must (eqb (slotOf d (nameOf s k)) slot) 12
+    must (nameGood s k) fault.badName
+    ∷ must (eqb (slotOf d (nameOf s k)) slot) fault.wrongSlot
     ∷ []
 
 unfoldable pub entryFault : Disk → List ℕ → ℕ → ℕ → ℕ → ℕ
@@ -90,31 +91,31 @@ entryFault d s k t slot = tests (entryTypes s k ++ (entryWords s k t ++ entryNam
 
 abbrev pub countRules : List ℕ → ℕ → ℕ → List ℕ
 countRules s k n =
-    must (eqb (wordOf s k 2) (keysHere n)) 14
-    ∷ pick (leb n slots) (must (eqb (wordOf s k 126) 0) 14) (never (eqb (wordOf s k 126) 0) 14)
+    must (eqb (wordOf s k 2) (keysHere n)) fault.fileLayout
+    ∷ pick (leb n slots) (must (eqb (wordOf s k 126) 0) fault.fileLayout) (never (eqb (wordOf s k 126) 0) fault.fileLayout)
     ∷ []
 
 -- ---- a file's own tests, of its header k
 
 -- an empty file has no first data block
 abbrev pub emptyRules : Disk → List ℕ → ℕ → ℕ → List ℕ
-emptyRules d s k n = pick (eqb n 0) (must (eqb (wordOf s k 4) 0) 14) 0 ∷ []
+emptyRules d s k n = pick (eqb n 0) (must (eqb (wordOf s k 4) 0) fault.fileLayout) 0 ∷ []
 
 unfoldable pub fileFault : Disk → List ℕ → ℕ → ℕ
 fileFault d s k =
     tests
-    (must (leb (sizeOf s k) (fileLimit d)) 14
+    (must (leb (sizeOf s k) (fileLimit d)) fault.fileLayout
     ∷ (countRules s k (blocksOf d s k) ++ emptyRules d s k (blocksOf d s k)))
 
 -- ---- a list block of the file h
 
 abbrev pub listWords : List ℕ → ℕ → ℕ → List ℕ
 listWords s k h =
-    must (eqb (sumOf s k) 0) 7
-    ∷ must (eqb (wordOf s k 0) 16) 8
-    ∷ must (eqb (wordOf s k 127) 0xFFFFFFFD) 8
-    ∷ must (eqb (wordOf s k 1) k) 10
-    ∷ must (eqb (wordOf s k 125) h) 10
+    must (eqb (sumOf s k) 0) fault.blockSum
+    ∷ must (eqb (wordOf s k 0) 16) fault.blockType
+    ∷ must (eqb (wordOf s k 127) 0xFFFFFFFD) fault.blockType
+    ∷ must (eqb (wordOf s k 1) k) fault.wrongTies
+    ∷ must (eqb (wordOf s k 125) h) fault.wrongTies
     ∷ []
 
 unfoldable pub listFault : List ℕ → ℕ → ℕ → ℕ → ℕ
@@ -124,17 +125,17 @@ listFault s k h n = tests (listWords s k h ++ countRules s k n)
 
 abbrev pub dataWords : Disk → List ℕ → ℕ → ℕ → ℕ → ℕ → List ℕ
 dataWords d s k h z n =
-    must (eqb (sumOf s k) 0) 7
-    ∷ must (eqb (wordOf s k 0) 8) 8
-    ∷ must (eqb (wordOf s k 1) h) 15
-    ∷ must (eqb (wordOf s k 2) n) 15
-    ∷ must (eqb (wordOf s k 3) (heldOf d z n)) 15
+    must (eqb (sumOf s k) 0) fault.blockSum
+    ∷ must (eqb (wordOf s k 0) 8) fault.blockType
+    ∷ must (eqb (wordOf s k 1) h) fault.dataLayout
+    ∷ must (eqb (wordOf s k 2) n) fault.dataLayout
+    ∷ must (eqb (wordOf s k 3) (heldOf d z n)) fault.dataLayout
     ∷ []
 
 abbrev pub dataLinks : Disk → List ℕ → ℕ → ℕ → ℕ → ℕ → List ℕ
 dataLinks d s k z n named =
-    must (eqb named k) 15
-    ∷ pick (eqb n (dataBlocks d z)) (must (eqb (wordOf s k 4) 0) 15) 0
+    must (eqb named k) fault.dataLayout
+    ∷ pick (eqb n (dataBlocks d z)) (must (eqb (wordOf s k 4) 0) fault.dataLayout) 0
     ∷ []
 
 unfoldable pub dataFault : Disk → List ℕ → ℕ → ℕ → ℕ → ℕ → ℕ → ℕ

@@ -1,4 +1,5 @@
 // The tests of an entry, a directory or a file header.
+use answers::Fault;
 use crate::block::Block;
 use crate::block::sum_of;
 use crate::block::word_of;
@@ -24,26 +25,26 @@ fn types_fault(image: &[u8], key: u32) -> u32
     ensures { λ r. ⌜ r ≡ tests (entryTypes (now (image .entry)) key) ⌝ }
 {
     if sum_of(image, key) != 0 {
-        return 7;
+        return Fault::BLOCK_SUM;
     }
     if word_of(image, key, Block::TYPE) != Block::HEADER_TYPE {
-        return 8;
+        return Fault::BLOCK_TYPE;
     }
     let kind = word_of(image, key, Block::KIND);
     if kind == Block::SOFT_LINK {
-        return 9;
+        return Fault::IS_LINK;
     }
     if kind == Block::DIRECTORY_LINK {
-        return 9;
+        return Fault::IS_LINK;
     }
     if kind == Block::FILE_LINK {
-        return 9;
+        return Fault::IS_LINK;
     }
     if kind == Block::DIRECTORY {
         return 0;
     }
     if kind != Block::FILE {
-        return 8;
+        return Fault::BLOCK_TYPE;
     }
     0
 }
@@ -54,16 +55,16 @@ fn words_fault(image: &[u8], key: u32, directory: u32) -> u32
     ensures { λ r. ⌜ r ≡ tests (entryWords (now (image .entry)) key directory) ⌝ }
 {
     if word_of(image, key, Block::OWN_KEY) != key {
-        return 10;
+        return Fault::WRONG_TIES;
     }
     if word_of(image, key, Block::PARENT) != directory {
-        return 10;
+        return Fault::WRONG_TIES;
     }
     if word_of(image, key, Block::KIND) != Block::DIRECTORY {
         return 0;
     }
     if word_of(image, key, Block::LIST) != 0 {
-        return 10;
+        return Fault::WRONG_TIES;
     }
     0
 }
@@ -75,11 +76,11 @@ fn name_fault(disk: Disk, image: &[u8], key: u32, slot: u32) -> u32
 {
     if name_good(image, key) {
         if slot_of(disk, image, key) != slot {
-            return 12;
+            return Fault::WRONG_SLOT;
         }
         return 0;
     }
-    11
+    Fault::BAD_NAME
 }
 
 // An entry on the chain of a slot of a directory.

@@ -1,4 +1,5 @@
 // Files: how many blocks a size takes, and the tests of headers, list blocks and data blocks.
+use answers::Fault;
 use crate::block::Block;
 use crate::block::sum_of;
 use crate::block::word_of;
@@ -51,17 +52,17 @@ fn count_fault(image: &[u8], key: u32, n: u32) -> u32
     ensures { λ r. ⌜ r ≡ tests (countRules (now (image .entry)) key n) ⌝ }
 {
     if word_of(image, key, Block::COUNT) != keys_here(n) {
-        return 14;
+        return Fault::FILE_LAYOUT;
     }
     let more = word_of(image, key, Block::LIST);
     if n <= SLOTS {
         if more != 0 {
-            return 14;
+            return Fault::FILE_LAYOUT;
         }
         return 0;
     }
     if more == 0 {
-        return 14;
+        return Fault::FILE_LAYOUT;
     }
     0
 }
@@ -75,7 +76,7 @@ fn empty_fault(disk: Disk, image: &[u8], key: u32, n: u32) -> u32
         return 0;
     }
     if word_of(image, key, Block::FIRST_DATA) != 0 {
-        return 14;
+        return Fault::FILE_LAYOUT;
     }
     0
 }
@@ -87,7 +88,7 @@ pub fn file_fault(disk: Disk, image: &[u8], key: u32) -> u32
 {
     let size = word_of(image, key, Block::SIZE);
     if disk.file_limit() < size {
-        return 14;
+        return Fault::FILE_LAYOUT;
     }
     let n = disk.data_blocks(size);
     let f = count_fault(image, key, n);
@@ -103,19 +104,19 @@ fn list_words_fault(image: &[u8], key: u32, header: u32) -> u32
     ensures { λ r. ⌜ r ≡ tests (listWords (now (image .entry)) key header) ⌝ }
 {
     if sum_of(image, key) != 0 {
-        return 7;
+        return Fault::BLOCK_SUM;
     }
     if word_of(image, key, Block::TYPE) != Block::LIST_TYPE {
-        return 8;
+        return Fault::BLOCK_TYPE;
     }
     if word_of(image, key, Block::KIND) != Block::FILE {
-        return 8;
+        return Fault::BLOCK_TYPE;
     }
     if word_of(image, key, Block::OWN_KEY) != key {
-        return 10;
+        return Fault::WRONG_TIES;
     }
     if word_of(image, key, Block::PARENT) != header {
-        return 10;
+        return Fault::WRONG_TIES;
     }
     0
 }
@@ -138,19 +139,19 @@ fn data_words_fault(disk: Disk, image: &[u8], key: u32, header: u32, size: u32, 
     ensures { λ r. ⌜ r ≡ tests (dataWords disk (now (image .entry)) key header size n) ⌝ }
 {
     if sum_of(image, key) != 0 {
-        return 7;
+        return Fault::BLOCK_SUM;
     }
     if word_of(image, key, Block::TYPE) != Block::DATA_TYPE {
-        return 8;
+        return Fault::BLOCK_TYPE;
     }
     if word_of(image, key, Block::HEADER) != header {
-        return 15;
+        return Fault::DATA_LAYOUT;
     }
     if word_of(image, key, Block::NUMBER) != n {
-        return 15;
+        return Fault::DATA_LAYOUT;
     }
     if word_of(image, key, Block::HELD) != disk.held(size, n) {
-        return 15;
+        return Fault::DATA_LAYOUT;
     }
     0
 }
@@ -161,13 +162,13 @@ fn data_links_fault(disk: Disk, image: &[u8], key: u32, size: u32, n: u32, named
     ensures { λ r. ⌜ r ≡ tests (dataLinks disk (now (image .entry)) key size n named) ⌝ }
 {
     if named != key {
-        return 15;
+        return Fault::DATA_LAYOUT;
     }
     if n != disk.data_blocks(size) {
         return 0;
     }
     if word_of(image, key, Block::FOLLOWING) != 0 {
-        return 15;
+        return Fault::DATA_LAYOUT;
     }
     0
 }

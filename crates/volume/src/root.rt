@@ -1,4 +1,5 @@
 // The tests of the root, and of the bitmap block that it names.
+use answers::Fault;
 use crate::block::Block;
 use crate::block::sum_of;
 use crate::block::word_of;
@@ -16,13 +17,13 @@ fn types_fault(image: &[u8], root: u32) -> u32
     ensures { λ r. ⌜ r ≡ tests (rootTypes (now (image .entry)) root) ⌝ }
 {
     if sum_of(image, root) != 0 {
-        return 7;
+        return Fault::BLOCK_SUM;
     }
     if word_of(image, root, Block::TYPE) != Block::HEADER_TYPE {
-        return 8;
+        return Fault::BLOCK_TYPE;
     }
     if word_of(image, root, Block::KIND) != Block::ROOT_KIND {
-        return 8;
+        return Fault::BLOCK_TYPE;
     }
     0
 }
@@ -33,25 +34,25 @@ fn words_fault(image: &[u8], root: u32) -> u32
     ensures { λ r. ⌜ r ≡ tests (rootWords (now (image .entry)) root) ⌝ }
 {
     if word_of(image, root, Block::OWN_KEY) != 0 {
-        return 4;
+        return Fault::ROOT_WORDS;
     }
     if word_of(image, root, Block::COUNT) != 0 {
-        return 4;
+        return Fault::ROOT_WORDS;
     }
     if word_of(image, root, Block::TABLE) != Block::SLOTS as u32 {
-        return 4;
+        return Fault::ROOT_WORDS;
     }
     if word_of(image, root, Block::FIRST_DATA) != 0 {
-        return 4;
+        return Fault::ROOT_WORDS;
     }
     if word_of(image, root, Block::NEXT) != 0 {
-        return 4;
+        return Fault::ROOT_WORDS;
     }
     if word_of(image, root, Block::PARENT) != 0 {
-        return 4;
+        return Fault::ROOT_WORDS;
     }
     if word_of(image, root, Block::LIST) != 0 {
-        return 4;
+        return Fault::ROOT_WORDS;
     }
     0
 }
@@ -73,7 +74,7 @@ pub fn root_fault(disk: Disk, image: &[u8]) -> u32
     if name_good(image, root) {
         return 0;
     }
-    11
+    Fault::BAD_NAME
 }
 
 // How many words after the bitmap's key are 0.
@@ -101,12 +102,12 @@ pub fn map_fault(disk: Disk, image: &[u8]) -> u32
 {
     let root = disk.root();
     if word_of(image, root, Block::MAP_VALID) != 0xFFFFFFFF {
-        return 16;
+        return Fault::BITMAP_WORDS;
     }
     if unused_zero(image, root) {
         return 0;
     }
-    16
+    Fault::BITMAP_WORDS
 }
 
 // The bitmap block.
@@ -115,7 +116,7 @@ pub fn bitmap_fault(image: &[u8], key: u32) -> u32
     ensures { λ r. ⌜ r ≡ bitmapFault (now (image .entry)) key ⌝ }
 {
     if sum_of(image, key) != 0 {
-        return 7;
+        return Fault::BLOCK_SUM;
     }
     0
 }

@@ -4,6 +4,7 @@ use Prim.Native.Nat.{ℕ, zero, suc, _+_, _-_}
 use native.Mathlib.Omega.{arith}
 use mathlib.Core.Bool.{Bool, true, false}
 use mathlib.Core.List.{List, [], _∷_, _++_}
+use Rattle.answers.specs.Numbers as fault
 use Rattle.answers.specs.Tests.{pick, must, never, first}
 use Rattle.reach.specs.Walk.{Graph, Outcome, audit}
 use Rattle.volume.specs.declared.disk.Disk.{Disk}
@@ -98,11 +99,11 @@ twin d s k head (suc p) = pick (same d (nameOf s (chainKey s head p)) (nameOf s 
 
 -- a key lies after the boot blocks, in the volume
 abbrev pub keyFault : Disk → ℕ → ℕ
-keyFault d k = must (inRange d k) 5
+keyFault d k = must (inRange d k) fault.badKey
 
 -- the tests of an entry: its own, no earlier name, and those of a file
 unfoldable pub hangsFault : Disk → List ℕ → ℕ → ℕ → ℕ → ℕ → ℕ
-hangsFault d s k t i p = first (entryFault d s k t i) (first (never (twin d s k (slotWord s t i) p) 13) (pick (directory s k) 0 (fileFault d s k)))
+hangsFault d s k t i p = first (entryFault d s k t i) (first (never (twin d s k (slotWord s t i) p) fault.doubleName) (pick (directory s k) 0 (fileFault d s k)))
 
 unfoldable pub faultOf : Disk → List ℕ → Node → ℕ
 faultOf d s root = first (rootFault d s) (mapFault d s)
@@ -140,7 +141,7 @@ graph d s =
     record {
       references = record { root = root; key = keyOf d; refs = leadsTo d s };
       before = λ n. keyFault d (keyOf d n);
-      taken = 6;
+      taken = fault.claimedTwice;
       taken-refuses = omega arith;
       after = faultOf d s;
       note = noted s;

@@ -6,6 +6,7 @@ use mathlib.Core.Path.{_≡_}
 use mathlib.Core.Logic.{_≢_, _⊎_}
 use mathlib.Core.Bool.{true, false}
 use mathlib.Core.List.{List, [], _∷_, _++_, map}
+use Rattle.answers.specs.Numbers as fault
 use Rattle.reach.specs.References.{At, _∈_, Reached}
 use Rattle.reach.specs.Law.{Twice}
 use Rattle.volume.specs.declared.disk.Disk.{Disk}
@@ -30,15 +31,15 @@ NodeBreaks d s root v = RootBreaks s (rootOf d) v ⊎ (RootSound s (rootOf d) ×
 NodeBreaks d s (bitmap k) v = BitmapBreaks s k v
 NodeBreaks d s (entry k t i p) v =
     EntryBreaks d s k t i v
-    ⊎ (Placed d s k t i × Doubled d s k (slotWord s t i) p × (v ≡ 13))
+    ⊎ (Placed d s k t i × Doubled d s k (slotWord s t i) p × (v ≡ fault.doubleName))
     ⊎ (Placed d s k t i × (Doubled d s k (slotWord s t i) p → ⊥) × (directory s k ≡ false) × HeaderBreaks d s k v)
 NodeBreaks d s (list k h m c) v = ListBreaks s k h (blocksOf d s h - m) v
 NodeBreaks d s (datum k h n c) v = DataBreaks d s k h n (wordOf s c 4) v
 
 -- of a node that comes after those seen: its key lies outside the volume, or it is a block's that was seen, or it breaks a rule of its kind
 pub data Fails (d : Disk) (s : List ℕ) (seen : List Node) (n : Node) (v : ℕ) : Type 0 where
-  outside : (Inside d (keyOf d n) → ⊥) → v ≡ 5 → Fails d s seen n v
-  again : Inside d (keyOf d n) → keyOf d n ∈ map (keyOf d) seen → v ≡ 6 → Fails d s seen n v
+  outside : (Inside d (keyOf d n) → ⊥) → v ≡ fault.badKey → Fails d s seen n v
+  again : Inside d (keyOf d n) → keyOf d n ∈ map (keyOf d) seen → v ≡ fault.claimedTwice → Fails d s seen n v
   breaks : Inside d (keyOf d n) → ¬ (keyOf d n ∈ map (keyOf d) seen) → NodeBreaks d s n v → Fails d s seen n v
 
 -- the walk comes to where these nodes are seen, the latest first, and these are to do, the next first: a node that does not fail is seen, and what
@@ -84,30 +85,30 @@ KindRight s k Kind.datum = wordOf s k 0 ≡ 8
 -- one case for each number; the field of the law that it breaks stands above it
 pub data Cause (d : Disk) (s : List ℕ) (v k : ℕ) : Type 0 where
   -- `Root`: the fixed words of the root
-  number-4 : k ≡ rootOf d → (RootFixed s k → ⊥) → v ≡ 4 → Cause d s v k
+  number-4 : k ≡ rootOf d → (RootFixed s k → ⊥) → v ≡ fault.rootWords → Cause d s v k
   -- `Tree.keys`: a reached block refers to a key outside the volume
-  number-5 : (a : Kind) → Reached (references d s) (to a k) → (Inside d k → ⊥) → v ≡ 5 → Cause d s v k
+  number-5 : (a : Kind) → Reached (references d s) (to a k) → (Inside d k → ⊥) → v ≡ fault.badKey → Cause d s v k
   -- `Tree.owned`: two places refer to block k, or one does and it is the root
-  number-6 : Twice (references d s) k → v ≡ 6 → Cause d s v k
+  number-6 : Twice (references d s) k → v ≡ fault.claimedTwice → Cause d s v k
   -- `Tree.sums`
-  number-7 : (a : Kind) → Reached (references d s) (to a k) → sumOf s k ≢ 0 → v ≡ 7 → Cause d s v k
+  number-7 : (a : Kind) → Reached (references d s) (to a k) → sumOf s k ≢ 0 → v ≡ fault.blockSum → Cause d s v k
   -- `type` and `kind` of `Root`, `Entry` and `ListBlock`, `type` of `DataBlock`
-  number-8 : (a : Kind) → Reached (references d s) (to a k) → (KindRight s k a → ⊥) → v ≡ 8 → Cause d s v k
+  number-8 : (a : Kind) → Reached (references d s) (to a k) → (KindRight s k a → ⊥) → v ≡ fault.blockType → Cause d s v k
   -- `Entry.kind`: it is a link
-  number-9 : Reached (references d s) (to Kind.entry k) → Link s k → v ≡ 9 → Cause d s v k
+  number-9 : Reached (references d s) (to Kind.entry k) → Link s k → v ≡ fault.isLink → Cause d s v k
   -- of an entry `Entry.own`, `Directory.parent`, or w126 of a directory (`Tree.directories`); of list block i of a file `own` and `parent`
-  number-10 : (t i : ℕ) → Hung d s t i k → EntryKind s k → (EntryTies s k t → ⊥) → v ≡ 10 → Cause d s v k
-  number-10-list : (h i : ℕ) → FileAt d s h → At i k (listsOf d s h) → ListKind s k → (ListBlock s h k → ⊥) → v ≡ 10 → Cause d s v k
+  number-10 : (t i : ℕ) → Hung d s t i k → EntryKind s k → (EntryTies s k t → ⊥) → v ≡ fault.wrongTies → Cause d s v k
+  number-10-list : (h i : ℕ) → FileAt d s h → At i k (listsOf d s h) → ListKind s k → (ListBlock s h k → ⊥) → v ≡ fault.wrongTies → Cause d s v k
   -- `Root.name` or `Entry.name`
-  number-11 : (k ≡ rootOf d) ⊎ Reached (references d s) (to Kind.entry k) → nameGood s k ≡ false → v ≡ 11 → Cause d s v k
+  number-11 : (k ≡ rootOf d) ⊎ Reached (references d s) (to Kind.entry k) → nameGood s k ≡ false → v ≡ fault.badName → Cause d s v k
   -- `Directory.slot`
-  number-12 : (t i : ℕ) → Hung d s t i k → slotOf d (nameOf s k) ≢ i → v ≡ 12 → Cause d s v k
+  number-12 : (t i : ℕ) → Hung d s t i k → slotOf d (nameOf s k) ≢ i → v ≡ fault.wrongSlot → Cause d s v k
   -- `Directory.names`: another entry, earlier on the chain of that directory, has the same folded name
-  number-13 : (t i l : ℕ) (h : Hung d s t i k) (g : Hangs s t i l) → g .place < h .hangs .place → l ≢ k → folded d (nameOf s l) ≡ folded d (nameOf s k) → v ≡ 13 → Cause d s v k
+  number-13 : (t i l : ℕ) (h : Hung d s t i k) (g : Hangs s t i l) → g .place < h .hangs .place → l ≢ k → folded d (nameOf s l) ≡ folded d (nameOf s k) → v ≡ fault.doubleName → Cause d s v k
   -- `File.size`, `File.listing` or, of an empty file, `File.following`; of list block i of a file `File.listing`
-  number-14 : FileAt d s k → (HeaderSound d s k → ⊥) → v ≡ 14 → Cause d s v k
-  number-14-list : (h i : ℕ) → FileAt d s h → At i k (listsOf d s h) → (Lists s k (blocksOf d s h - slots * suc i) → ⊥) → v ≡ 14 → Cause d s v k
+  number-14 : FileAt d s k → (HeaderSound d s k → ⊥) → v ≡ fault.fileLayout → Cause d s v k
+  number-14-list : (h i : ℕ) → FileAt d s h → At i k (listsOf d s h) → (Lists s k (blocksOf d s h - slots * suc i) → ⊥) → v ≡ fault.fileLayout → Cause d s v k
   -- `File.blocks` or `File.following`, of data block i of a file, counted from 0; c is the data block before it, or the header
-  number-15 : (h i c : ℕ) → FileAt d s h → IsData d s h i k c → (DataTies d s k h (suc i) (wordOf s c 4) → ⊥) → v ≡ 15 → Cause d s v k
+  number-15 : (h i c : ℕ) → FileAt d s h → IsData d s h i k c → (DataTies d s k h (suc i) (wordOf s c 4) → ⊥) → v ≡ fault.dataLayout → Cause d s v k
   -- `Volume.valid` or `Root.rest`
-  number-16 : k ≡ rootOf d → (Valid d s → ⊥) ⊎ (OneBitmap s k → ⊥) → v ≡ 16 → Cause d s v k
+  number-16 : k ≡ rootOf d → (Valid d s → ⊥) ⊎ (OneBitmap s k → ⊥) → v ≡ fault.bitmapWords → Cause d s v k
