@@ -38,8 +38,8 @@ abbrev pub blockType : ℕ
 blockType = 8
 
 -- an entry that is a link
-abbrev pub isLink : ℕ
-isLink = 9
+abbrev pub link : ℕ
+link = 9
 
 -- own key, parent, or w126 of a directory
 abbrev pub wrongTies : ℕ
@@ -102,8 +102,8 @@ abbrev pub headerWord : ℕ
 headerWord = 32
 
 -- a library is named
-abbrev pub libraryName : ℕ
-libraryName = 33
+abbrev pub library : ℕ
+library = 33
 
 -- a hunk's size
 abbrev pub hunkSize : ℕ

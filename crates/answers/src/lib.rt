@@ -41,7 +41,7 @@ impl Fault {
     pub const BLOCK_TYPE: u32 = 8;
 
     // An entry that is a link.
-    pub const IS_LINK: u32 = 9;
+    pub const LINK: u32 = 9;
 
     // Own key, parent, or w126 of a directory.
     pub const WRONG_TIES: u32 = 10;
@@ -86,7 +86,7 @@ impl Fault {
     pub const HEADER_WORD: u32 = 32;
 
     // A library is named.
-    pub const LIBRARY_NAME: u32 = 33;
+    pub const LIBRARY: u32 = 33;
 
     // A hunk's size.
     pub const HUNK_SIZE: u32 = 34;

@@ -1,5 +1,4 @@
 // The audit of a disk's image.
-use answers::Fault;
 use crate::bitmap::Mapped;
 use crate::bitmap::check_bits;
 use crate::claims::Walked;
@@ -7,6 +6,7 @@ use crate::claims::meet_bitmap;
 use crate::claims::meet_root;
 use crate::claims::stopped;
 use crate::directories::walk_directory;
+use answers::Fault;
 use answers::Refusal;
 use volume::block::Block;
 use volume::block::word_of;

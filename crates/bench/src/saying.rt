@@ -1,11 +1,12 @@
 // Parts of lines, and the lines that several verbs say.
 use crate::rooms;
 use crate::sentences;
+use answers::Fault;
 use answers::Refusal;
 use libc::STDERR_FILENO;
 
 // The refusal of a room that is too small.
-const ROOM: u32 = 41;
+const ROOM: u32 = Fault::SHORT_ROOM;
 
 // A number, and the text after it.
 pub fn counted(fd: i32, n: u64, after: &[u8]) {

@@ -2,6 +2,7 @@
 use Prim.Native.Nat.{ℕ, _≤_}
 use mathlib.Core.Path.{_≡_}
 use mathlib.Core.List.{List}
+use Rattle.program.specs.Types as type
 use Rattle.program.specs.declared.check.Answer.{Answer}
 use Rattle.program.specs.declared.check.Answer.the-variants.{Accepted, Refused}
 use Rattle.loader.specs.declared.calls.Outcome.{Outcome}
@@ -23,7 +24,7 @@ outcomeOf c = record { answer = c .answer; records = c .numbers }
 pub record Counts (c : Counted) (records : ℕ) : Type 0 where
   pub counts : c .count ≡ countOf (c .answer)
   pub fits : c .count ≤ records
-  pub most : c .count ≤ 64
+  pub most : c .count ≤ type.mostHunks
 
 pub record HandsLoad (file bases memory work : List ℕ) (records : ℕ) (c : Counted) (memory′ work′ : List ℕ) : Type 0 where
   pub core : LoadsCore file bases memory work records (outcomeOf c) memory′ work′

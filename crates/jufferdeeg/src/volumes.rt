@@ -2,6 +2,7 @@
 use audit::audit::Audited;
 use lookup::find::Found;
 use reading::read::Reading;
+use volume::block::Block;
 ghost use mathlib.Core.Path.{_≡_};
 ghost use lib.ListN.{length};
 ghost use Rattle.jufferdeeg.specs.Volumes.{auditNumbers, findNumbers, readNumbers, findOnFloppy, AuditsFloppy, ReadsFloppy};
@@ -72,7 +73,7 @@ pub fn find_numbers(a: Found) -> FindNumbers
         Found::Directory(key, compared) => FindNumbers {
             number: 0,
             place: 0,
-            kind: 2,
+            kind: Block::DIRECTORY,
             key: key,
             size: 0,
             compared: compared,
@@ -80,7 +81,7 @@ pub fn find_numbers(a: Found) -> FindNumbers
         Found::File(key, size, compared) => FindNumbers {
             number: 0,
             place: 0,
-            kind: 0xFFFFFFFD,
+            kind: Block::FILE,
             key: key,
             size: size,
             compared: compared,

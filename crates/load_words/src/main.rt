@@ -1,6 +1,7 @@
 // Loads a program file from standard input, hunk i at hex 3000+4000i, and writes the loaded words, one a line, or why there are none.
 mod say;
 
+use answers::Fault;
 use answers::Refusal;
 use libc::STDIN_FILENO;
 use program::check::Answer;
@@ -98,7 +99,7 @@ fn main() {
     let got = io::read_full(STDIN_FILENO, &mut room);
     if got > LONGEST {
         say::refused(Refusal {
-            number: 41,
+            number: Fault::SHORT_ROOM,
             place: 0,
         });
         return;

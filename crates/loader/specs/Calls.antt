@@ -5,6 +5,7 @@ use mathlib.Core.Path.{_≡_}
 use mathlib.Core.List.{List, [], _∷_, _++_}
 use lib.Dec.{ltb}
 use lib.ListN.{length, take, drop, replicate}
+use Rattle.program.specs.Types as type
 use Rattle.answers.specs.Numbers as fault
 use Rattle.answers.specs.Tests.{pick}
 use Rattle.answers.specs.Refusals.{refusal}
@@ -78,7 +79,7 @@ pub record MovesCore (file old new memory work : List ℕ) (records : ℕ) (o : 
 
 -- an accepted outcome's records have room in a table of so many numbers
 abbrev pub FillsBy : Answer → ℕ → Type 0
-FillsBy (Accepted t n) room = (t ≤ 64) × (4 * t ≤ room)
+FillsBy (Accepted t n) room = (t ≤ type.mostHunks) × (4 * t ≤ room)
 FillsBy (Refused r) room = Unit
 
 pub record Fills (o : Outcome) (room : ℕ) : Type 0 where

@@ -4,6 +4,7 @@ use mathlib.Core.Path.{_≡_}
 use mathlib.Core.Logic.{_⊎_}
 use mathlib.Core.List.{List, [], _∷_, _++_}
 use lib.ListN.{length, replicate, take, drop}
+use Rattle.program.specs.Types as type
 use Rattle.words.specs.Word.{wordAt, addAt}
 use Rattle.words.specs.Shift.{Target}
 use Rattle.program.specs.Page.{Body, Group, Part, Hunk, code, stores, bss, relocation, symbols, debug, joined, nameWords, bodyWords, groupWords, partWords, hunkWords, Each, storedWords, total}
@@ -12,9 +13,9 @@ use Rattle.loader.specs.Memory.{amountOf, moved}
 -- ---- records
 
 abbrev pub kindOf : Body → ℕ
-kindOf (code ws) = 0x3E9
-kindOf (stores ws) = 0x3EA
-kindOf (bss n) = 0x3EB
+kindOf (code ws) = type.code
+kindOf (stores ws) = type.stores
+kindOf (bss n) = type.bss
 
 -- kind, place, size and base of each hunk; the first stands at byte p and has number i
 abbrev pub recordNumbers : ℕ → ℕ → List Hunk → List ℕ → List ℕ

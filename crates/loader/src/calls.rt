@@ -1,10 +1,10 @@
 // Load and move on plain slices, with no demands on what is lent.
-use answers::Fault;
 use crate::bases::bases_fault;
 use crate::marks::mark_all;
 use crate::memory::add_all;
 use crate::memory::store_all;
 use crate::table::write_all;
+use answers::Fault;
 use answers::Refusal;
 use answers::Tested;
 use program::check::Answer;

@@ -13,7 +13,7 @@ use Rattle.answers.specs.declared.Tested.the-variants.{Passed, Failed}
 use Rattle.words.specs.Word.{wordAt}
 use Rattle.volume.specs.declared.disk.Disk.{Disk}
 use Rattle.volume.specs.Disks.{imageBytes, tagOf, rootOf}
-use Rattle.volume.specs.Blocks.{directory}
+use Rattle.volume.specs.Blocks.{directory, directoryKind, fileKind}
 use Rattle.volume.specs.Files.{sizeOf}
 use Rattle.volume.specs.Rules.{rootFault}
 use Rattle.lookup.specs.declared.chain.Step.{Step}
@@ -33,13 +33,13 @@ pub record Numbers : Type 0 where
   pub compared : ℕ
 
 abbrev pub numbersOf : Found → Numbers
-numbersOf (Directory k n) = record { number = 0; place = 0; kind = 2; key = k; size = 0; compared = n }
-numbersOf (File k z n) = record { number = 0; place = 0; kind = 0xFFFFFFFD; key = k; size = z; compared = n }
+numbersOf (Directory k n) = record { number = 0; place = 0; kind = directoryKind; key = k; size = 0; compared = n }
+numbersOf (File k z n) = record { number = 0; place = 0; kind = fileKind; key = k; size = z; compared = n }
 numbersOf (Refused r) = record { number = r .number; place = r .place; kind = 0; key = 0; size = 0; compared = 0 }
 
 -- the numbers of all refusals of a lookup
 abbrev pub findRefusals : List ℕ
-findRefusals = fault.imageLength ∷ fault.bootTag ∷ fault.rootWords ∷ fault.badKey ∷ fault.claimedTwice ∷ fault.blockSum ∷ fault.blockType ∷ fault.isLink ∷ fault.wrongTies ∷ fault.badName ∷ fault.wrongSlot ∷ fault.pathForm ∷ fault.notFound ∷ fault.wrongKind ∷ []
+findRefusals = fault.imageLength ∷ fault.bootTag ∷ fault.rootWords ∷ fault.badKey ∷ fault.claimedTwice ∷ fault.blockSum ∷ fault.blockType ∷ fault.link ∷ fault.wrongTies ∷ fault.badName ∷ fault.wrongSlot ∷ fault.pathForm ∷ fault.notFound ∷ fault.wrongKind ∷ []
 
 abbrev pub refuse : ℕ → ℕ → Found
 refuse v at = Refused (refusal v at)

@@ -11,7 +11,6 @@ ghost use mathlib.Core.Path.{_≡_};
 ghost use lib.ListN.{length};
 ghost use Rattle.volume.specs.Disks.{Sized, imageBytes};
 ghost use Rattle.answers.specs.Refusals.{refusal};
-ghost use Rattle.lookup.specs.declared.chain.Step.the-variants.{Fault};
 ghost use Rattle.lookup.specs.Search.{placeFault, searchOf};
 ghost use Rattle.lookup.specs.Parts.{Searches};
 
@@ -39,7 +38,7 @@ fn place_fault(disk: Disk, image: &[u8], directory: u32, slot: u32, compared: u3
 }
 
 fn refused_at(number: u32, key: u32) -> Step
-    ensures { λ r. ⌜ r ≡ Fault (refusal number key) ⌝ }
+    ensures { λ r. ⌜ r ≡ Step.Fault (refusal number key) ⌝ }
 {
     Step::Fault(Refusal {
         number: number,

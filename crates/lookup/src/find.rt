@@ -1,9 +1,9 @@
 // A path to an entry.
-use answers::Fault;
 use crate::chain::Step;
 use crate::chain::search;
 use crate::path::first_slash;
 use crate::path::path_fault;
+use answers::Fault;
 use answers::Refusal;
 use answers::Tested;
 use volume::block::Block;

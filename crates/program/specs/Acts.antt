@@ -2,6 +2,7 @@
 use Prim.Native.Nat.{ℕ, _+_, _*_}
 use mathlib.Core.List.{List, [], _∷_}
 use lib.Dec.{eqb}
+use Rattle.program.specs.Types as type
 use Rattle.answers.specs.Tests.{pick}
 use Rattle.program.specs.declared.act.Act.{Act}
 use Rattle.program.specs.declared.act.Act.the-variants as act
@@ -15,7 +16,7 @@ use Rattle.program.specs.Reader.{start, stepOf}
 use Rattle.program.specs.Check.{wordsFrom}
 
 abbrev pub asks : Cursor → ℕ → ℕ → Mode → Act
-asks c at w Begin = pick (eqb w 0x3E8) act.Quiet (act.Body (c .hunk) (c .place) w)
+asks c at w Begin = pick (eqb w type.name) act.Quiet (act.Body (c .hunk) (c .place) w)
 asks c at w Body = act.Body (c .hunk) (c .place) w
 asks c at w (Stored i) = act.Store (c .place + 4 * i) w
 asks c at w (Offset n k) = act.Add (c .place + w) k at

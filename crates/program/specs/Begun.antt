@@ -5,6 +5,7 @@ use mathlib.Core.Path.{_≡_}
 use mathlib.Core.Logic.{_≢_, _⊎_}
 use mathlib.Core.List.{List, [], _∷_, _++_}
 use lib.ListN.{length}
+use Rattle.program.specs.Types as type
 use Rattle.answers.specs.Numbers as fault
 use Rattle.program.specs.Page.{Name, Body, Group, Symbol, Part, joined, counted, nameWords, bodyWords, groupWords, symbolWords, partWords, Each, bodyCount, storedWords, OffsetFits, GroupFits, SymbolFits, PartFits}
 
@@ -50,19 +51,19 @@ pub data Begun : Type 0 where
 
 abbrev pub partSoFar : PartBegun → List ℕ
 partSoFar aPart = []
-partSoFar (aCount gs) = 0x3EC ∷ joined groupWords gs
-partSoFar (aNumber gs n) = 0x3EC ∷ joined groupWords gs ++ (n ∷ [])
-partSoFar (anOffset gs n k os) = 0x3EC ∷ joined groupWords gs ++ (n ∷ k ∷ os)
-partSoFar (aSymbol us) = 0x3F0 ∷ joined symbolWords us
-partSoFar (symbolWord us n ws) = 0x3F0 ∷ joined symbolWords us ++ (n ∷ ws)
-partSoFar debugLength = 0x3F1 ∷ []
-partSoFar (debugWord n ws) = 0x3F1 ∷ n ∷ ws
+partSoFar (aCount gs) = type.relocation ∷ joined groupWords gs
+partSoFar (aNumber gs n) = type.relocation ∷ joined groupWords gs ++ (n ∷ [])
+partSoFar (anOffset gs n k os) = type.relocation ∷ joined groupWords gs ++ (n ∷ k ∷ os)
+partSoFar (aSymbol us) = type.symbols ∷ joined symbolWords us
+partSoFar (symbolWord us n ws) = type.symbols ∷ joined symbolWords us ++ (n ∷ ws)
+partSoFar debugLength = type.debug ∷ []
+partSoFar (debugWord n ws) = type.debug ∷ n ∷ ws
 
 abbrev pub soFar : Begun → List ℕ
 soFar first = []
-soFar nameLength = 0x3E8 ∷ []
-soFar (nameWord n ws) = 0x3E8 ∷ n ∷ ws
-soFar (aBody ws) = 0x3E8 ∷ counted ws
+soFar nameLength = type.name ∷ []
+soFar (nameWord n ws) = type.name ∷ n ∷ ws
+soFar (aBody ws) = type.name ∷ counted ws
 soFar (bodyLength x k) = nameWords x ++ (k ∷ [])
 soFar (bodyWord x k n ws) = nameWords x ++ (k ∷ n ∷ ws)
 soFar (afterBody x b ps p) = nameWords x ++ bodyWords b ++ joined partWords ps ++ partSoFar p
@@ -86,8 +87,8 @@ BegunFits t size first = Unit {0}
 BegunFits t size nameLength = Unit {0}
 BegunFits t size (nameWord n ws) = length ws < n
 BegunFits t size (aBody ws) = Unit {0}
-BegunFits t size (bodyLength x k) = (k ≡ 0x3E9) ⊎ (k ≡ 0x3EA) ⊎ (k ≡ 0x3EB)
-BegunFits t size (bodyWord x k n ws) = ((k ≡ 0x3E9) ⊎ (k ≡ 0x3EA)) × (n ≤ size) × (length ws < n)
+BegunFits t size (bodyLength x k) = (k ≡ type.code) ⊎ (k ≡ type.stores) ⊎ (k ≡ type.bss)
+BegunFits t size (bodyWord x k n ws) = ((k ≡ type.code) ⊎ (k ≡ type.stores)) × (n ≤ size) × (length ws < n)
 BegunFits t size (afterBody x b ps p) =
     (bodyCount b ≤ size) × Each (PartFits t (length (storedWords b))) ps × PartBegunFits t (length (storedWords b)) p
 
@@ -95,7 +96,7 @@ BegunFits t size (afterBody x b ps p) =
 
 -- in one of t hunks, which stores m words
 abbrev pub PartWrong : ℕ → ℕ → ℕ → ℕ → PartBegun → Type 0
-PartWrong t m w v aPart = (v ≡ fault.misplacedBlock) × (w ≢ 0x3EC) × (w ≢ 0x3F0) × (w ≢ 0x3F1) × (w ≢ 0x3F2)
+PartWrong t m w v aPart = (v ≡ fault.misplacedBlock) × (w ≢ type.relocation) × (w ≢ type.symbols) × (w ≢ type.debug) × (w ≢ type.end)
 PartWrong t m w v (aNumber gs n) = (v ≡ fault.badTarget) × (t ≤ w)
 PartWrong t m w v (anOffset gs n k os) = (v ≡ fault.badTarget) × (OffsetFits m w → ⊥)
 PartWrong t m w v (aSymbol us) = (v ≡ fault.symbolType) × (2 ^ 24 ≤ w)
@@ -106,8 +107,8 @@ PartWrong t m w v (debugWord n ws) = ⊥
 
 -- in one of t hunks, of this size
 abbrev pub Wrong : ℕ → ℕ → ℕ → ℕ → Begun → Type 0
-Wrong t size w v first = (v ≡ fault.misplacedBlock) × (w ≢ 0x3E8) × (w ≢ 0x3E9) × (w ≢ 0x3EA) × (w ≢ 0x3EB)
-Wrong t size w v (aBody ws) = (v ≡ fault.misplacedBlock) × (w ≢ 0x3E9) × (w ≢ 0x3EA) × (w ≢ 0x3EB)
+Wrong t size w v first = (v ≡ fault.misplacedBlock) × (w ≢ type.name) × (w ≢ type.code) × (w ≢ type.stores) × (w ≢ type.bss)
+Wrong t size w v (aBody ws) = (v ≡ fault.misplacedBlock) × (w ≢ type.code) × (w ≢ type.stores) × (w ≢ type.bss)
 Wrong t size w v (bodyLength x k) = (v ≡ fault.bodyLength) × (size < w)
 Wrong t size w v (afterBody x b ps p) = PartWrong t (length (storedWords b)) w v p
 Wrong t size w v nameLength = ⊥

@@ -33,7 +33,7 @@ numbersOf (Refused r) = record { number = r .number; place = r .place; hunks = 0
 
 -- the numbers of all refusals of a check
 abbrev pub checkRefusals : List ℕ
-checkRefusals = fault.fileLength ∷ fault.earlyEnd ∷ fault.headerWord ∷ fault.libraryName ∷ fault.hunkSize ∷ fault.misplacedBlock ∷ fault.bodyLength ∷ fault.symbolType ∷ fault.badTarget ∷ fault.trailingWords ∷ []
+checkRefusals = fault.fileLength ∷ fault.earlyEnd ∷ fault.headerWord ∷ fault.library ∷ fault.hunkSize ∷ fault.misplacedBlock ∷ fault.bodyLength ∷ fault.symbolType ∷ fault.badTarget ∷ fault.trailingWords ∷ []
 
 abbrev pub refuse : ℕ → ℕ → Answer
 refuse v at = Refused (refusal v at)

@@ -4,6 +4,7 @@ use Prim.Native.Nat.{ℕ, zero, suc, _+_, _*_}
 use mathlib.Core.List.{List}
 use lib.Dec.{ltb, leb, eqb}
 use lib.ListN.{length}
+use Rattle.program.specs.Types as type
 use Rattle.words.specs.Word.{wordAt}
 use Rattle.answers.specs.Numbers as fault
 use Rattle.answers.specs.Tests.{pick, must}
@@ -26,12 +27,12 @@ startAt file = 20 + 4 * totalOf file
 -- the fault of the header's word i where the file has t hunks, or 0
 abbrev pub headFault : ℕ → ℕ → ℕ → ℕ
 headFault t i w =
-    pick (eqb i 0) (must (eqb w 0x3F3) fault.headerWord)
-    (pick (eqb i 1) (must (eqb w 0) fault.libraryName)
-    (pick (eqb i 2) (pick (eqb w 0) fault.headerWord (must (leb w 64) fault.headerWord))
+    pick (eqb i 0) (must (eqb w type.header) fault.headerWord)
+    (pick (eqb i 1) (must (eqb w 0) fault.library)
+    (pick (eqb i 2) (pick (eqb w 0) fault.headerWord (must (leb w type.mostHunks) fault.headerWord))
     (pick (eqb i 3) (must (eqb w 0) fault.headerWord)
     (pick (eqb i 4) (must (eqb (w + 1) t) fault.headerWord)
-    (must (leb w 65536) fault.hunkSize)))))
+    (must (leb w type.largestHunk) fault.hunkSize)))))
 
 -- a number other than 0 fails there; else it goes on
 abbrev pub judge : ℕ → ℕ → Tested → Tested

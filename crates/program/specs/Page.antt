@@ -4,6 +4,7 @@ use mathlib.Core.Path.{_≡_}
 use mathlib.Core.Logic.{_≢_}
 use mathlib.Core.List.{List, [], _∷_, _++_, map}
 use lib.ListN.{length}
+use Rattle.program.specs.Types as type
 use Rattle.words.specs.Word.{wordsAt}
 
 -- ---- the parts of a hunk
@@ -51,12 +52,12 @@ counted ws = length ws ∷ ws
 
 abbrev pub nameWords : Name → List ℕ
 nameWords none = []
-nameWords (named ws) = 0x3E8 ∷ counted ws
+nameWords (named ws) = type.name ∷ counted ws
 
 abbrev pub bodyWords : Body → List ℕ
-bodyWords (code ws) = 0x3E9 ∷ counted ws
-bodyWords (stores ws) = 0x3EA ∷ counted ws
-bodyWords (bss n) = 0x3EB ∷ n ∷ []
+bodyWords (code ws) = type.code ∷ counted ws
+bodyWords (stores ws) = type.stores ∷ counted ws
+bodyWords (bss n) = type.bss ∷ n ∷ []
 
 abbrev pub groupWords : Group → List ℕ
 groupWords g = length (g .offsets) ∷ g .hunk ∷ g .offsets
@@ -66,15 +67,15 @@ symbolWords u = counted (u .name) ++ (u .value ∷ [])
 
 -- groups and symbols end with a 0
 abbrev pub partWords : Part → List ℕ
-partWords (relocation gs) = 0x3EC ∷ joined groupWords gs ++ (0 ∷ [])
-partWords (symbols us) = 0x3F0 ∷ joined symbolWords us ++ (0 ∷ [])
-partWords (debug ws) = 0x3F1 ∷ counted ws
+partWords (relocation gs) = type.relocation ∷ joined groupWords gs ++ (0 ∷ [])
+partWords (symbols us) = type.symbols ∷ joined symbolWords us ++ (0 ∷ [])
+partWords (debug ws) = type.debug ∷ counted ws
 
 abbrev pub hunkWords : Hunk → List ℕ
-hunkWords h = nameWords (h .name) ++ bodyWords (h .body) ++ joined partWords (h .parts) ++ (0x3F2 ∷ [])
+hunkWords h = nameWords (h .name) ++ bodyWords (h .body) ++ joined partWords (h .parts) ++ (type.end ∷ [])
 
 abbrev pub headWords : List Hunk → List ℕ
-headWords hs = 0x3F3 ∷ 0 ∷ length hs ∷ 0 ∷ (length hs - 1) ∷ map (λ h. h .size) hs
+headWords hs = type.header ∷ 0 ∷ length hs ∷ 0 ∷ (length hs - 1) ∷ map (λ h. h .size) hs
 
 abbrev pub written : List Hunk → List ℕ
 written hs = headWords hs ++ joined hunkWords hs
@@ -121,13 +122,13 @@ PartFits t n (symbols us) = Each SymbolFits us
 PartFits t n (debug ws) = Unit {0}
 
 pub record HunkFits (t : ℕ) (h : Hunk) : Type 0 where
-  pub size : h .size ≤ 65536
+  pub size : h .size ≤ type.largestHunk
   pub body : bodyCount (h .body) ≤ h .size
   pub parts : Each (PartFits t (length (storedWords (h .body)))) (h .parts)
 
 pub record Program (hs : List Hunk) : Type 0 where
   pub least : 1 ≤ length hs
-  pub most : length hs ≤ 64
+  pub most : length hs ≤ type.mostHunks
   pub hunks : Each (HunkFits (length hs)) hs
 
 -- a file holds hunks: they are within the limits, and its words are theirs, written out

@@ -2,6 +2,7 @@
 -- and their sizes; a word that may not stand there gives a refusal's number.
 use Prim.Native.Nat.{ℕ, _+_, _-_, _*_, _%_}
 use lib.Dec.{ltb, leb, eqb}
+use Rattle.program.specs.Types as type
 use Rattle.answers.specs.Numbers as fault
 use Rattle.answers.specs.Tests.{pick}
 use Rattle.program.specs.declared.reader.Cursor.{Cursor}
@@ -32,13 +33,13 @@ skip c n a = pick (eqb n 0) (on c (resume a)) (on c (Skip (n - 1) a))
 -- code, data or bss
 abbrev pub bodyOf : Cursor → ℕ → Next
 bodyOf c w =
-    pick (eqb w 0x3E9) (on c (Length w))
-    (pick (eqb w 0x3EA) (on c (Length w))
-    (pick (eqb w 0x3EB) (on c (Length w)) (Bad fault.misplacedBlock)))
+    pick (eqb w type.code) (on c (Length w))
+    (pick (eqb w type.stores) (on c (Length w))
+    (pick (eqb w type.bss) (on c (Length w)) (Bad fault.misplacedBlock)))
 
 -- a name block, or the body
 abbrev pub beginOf : Cursor → ℕ → Next
-beginOf c w = pick (eqb w 0x3E8) (on c NameLength) (bodyOf c w)
+beginOf c w = pick (eqb w type.name) (on c NameLength) (bodyOf c w)
 
 -- the stored word i, if there are so many
 abbrev pub storedFrom : Cursor → ℕ → Next
@@ -66,7 +67,7 @@ numberOf t c n w = pick (ltb w t) (on c (Offset n w)) (Bad fault.badTarget)
 abbrev pub lengthOf : (ℕ → ℕ) → Cursor → ℕ → ℕ → Next
 lengthOf size c kind w =
     pick (ltb (size (c .hunk)) w) (Bad fault.bodyLength)
-    (storedFrom (record { mode = Part; hunk = c .hunk; place = c .place; stored = pick (eqb kind 0x3EB) 0 w }) 0)
+    (storedFrom (record { mode = Part; hunk = c .hunk; place = c .place; stored = pick (eqb kind type.bss) 0 w }) 0)
 
 module _ (t : ℕ) (size : ℕ → ℕ) where
   -- on to the next hunk, or to the end of the file
@@ -77,10 +78,10 @@ module _ (t : ℕ) (size : ℕ → ℕ) where
   -- relocations, symbols, debug words, or the hunk's end
   abbrev pub partOf : Cursor → ℕ → Next
   partOf c w =
-      pick (eqb w 0x3EC) (on c Count)
-      (pick (eqb w 0x3F0) (on c Symbol)
-      (pick (eqb w 0x3F1) (on c DebugLength)
-      (pick (eqb w 0x3F2) (endOf c) (Bad fault.misplacedBlock))))
+      pick (eqb w type.relocation) (on c Count)
+      (pick (eqb w type.symbols) (on c Symbol)
+      (pick (eqb w type.debug) (on c DebugLength)
+      (pick (eqb w type.end) (endOf c) (Bad fault.misplacedBlock))))
 
   abbrev pub turn : Cursor → ℕ → Mode → Next
   turn c w Begin = beginOf c w

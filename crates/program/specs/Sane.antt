@@ -3,16 +3,17 @@ use Prim.Native.Nat.{ℕ, zero, suc, _+_, _*_, _<_, _≤_}
 use mathlib.Core.Path.{_≡_}
 use mathlib.Core.List.{List}
 use lib.ListN.{length}
+use Rattle.program.specs.Types as type
 use Rattle.program.specs.declared.reader.Cursor.{Cursor}
 use Rattle.program.specs.declared.reader.Mode.{Mode}
 use Rattle.program.specs.declared.reader.Mode.the-variants.{Begin, NameLength, Body, Length, Stored, Part, Count, Number, Offset, Symbol, DebugLength, Skip, End}
 use Rattle.program.specs.Header.{totalOf, sizeOf, startAt}
 
 pub record Sound (file : List ℕ) : Type 0 where
-  pub few : totalOf file ≤ 64
+  pub few : totalOf file ≤ type.mostHunks
   pub some : 1 ≤ totalOf file
   pub long : startAt file ≤ length file
-  pub small : (i : ℕ) → i < totalOf file → sizeOf file i ≤ 65536
+  pub small : (i : ℕ) → i < totalOf file → sizeOf file i ≤ type.largestHunk
 
 -- hunk i's first byte in memory: hunks stand end to end
 unfoldable pub placeOf : (ℕ → ℕ) → ℕ → ℕ

@@ -1,5 +1,4 @@
 // The check of a whole program file: its own faults, in file order.
-use answers::Fault;
 use crate::header::WORDS;
 use crate::header::head_words;
 use crate::header::total;
@@ -9,6 +8,7 @@ use crate::reader::Next;
 use crate::reader::begin;
 use crate::reader::past;
 use crate::reader::step;
+use answers::Fault;
 use answers::Refusal;
 use answers::Tested;
 ghost use mathlib.Core.Path.{_≡_};

@@ -41,7 +41,7 @@ fn head_fault(file: &[u8], i: usize, w: u32) -> u32
         return if w == HEADER { 0 } else { Fault::HEADER_WORD };
     }
     if i == 1 {
-        return if w == 0 { 0 } else { Fault::LIBRARY_NAME };
+        return if w == 0 { 0 } else { Fault::LIBRARY };
     }
     if i == 2 {
         return if w == 0 {
@@ -57,7 +57,11 @@ fn head_fault(file: &[u8], i: usize, w: u32) -> u32
     }
     if i == 4 {
         let more = w as u64 + 1;
-        return if more == total(file) as u64 { 0 } else { Fault::HEADER_WORD };
+        return if more == total(file) as u64 {
+            0
+        } else {
+            Fault::HEADER_WORD
+        };
     }
     if w <= LARGEST { 0 } else { Fault::HUNK_SIZE }
 }

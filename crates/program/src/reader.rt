@@ -1,11 +1,12 @@
 // The reader of a program file's hunks, one word a step.
-use answers::Fault;
 use crate::header::size;
 use crate::header::total;
+use answers::Fault;
 ghost use mathlib.Core.Path.{_≡_};
 ghost use Prim.Native.Nat.{_+_, _*_, _%_, _<_, _≤_, min};
 ghost use lib.ListN.{length};
 ghost use lib.Dec.{eqb};
+ghost use Rattle.program.specs.Types as type;
 ghost use Rattle.answers.specs.Tests.{pick};
 ghost use Rattle.program.specs.Header.{totalOf, sizeOf};
 ghost use Rattle.program.specs.Reader.{on, resume, skip, bodyOf, beginOf, storedFrom, lengthOf, partOf, endOf, countOf, numberOf, offsetOf, symbolOf, stepOf, start};
@@ -170,7 +171,7 @@ fn stored_from(c: Cursor, i: u32) -> Next
 
 // How many of w words a body of this type stores.
 fn kept(kind: u32, w: u32) -> u32
-    ensures { λ r. ⌜ r ≡ pick (eqb kind 0x3EB) 0 w ⌝ }
+    ensures { λ r. ⌜ r ≡ pick (eqb kind type.bss) 0 w ⌝ }
 {
     if kind == BSS {
         return 0;

@@ -1,7 +1,7 @@
 // A read: a path to a file, the tests of its blocks, and its bytes from an offset on.
-use answers::Fault;
 use crate::blocks::test_file;
 use crate::copy::copy_file;
+use answers::Fault;
 use answers::Refusal;
 use answers::Tested;
 use lookup::find::Found;

@@ -38,6 +38,38 @@ slotWord s k i = wordOf s k (6 + i)
 abbrev pub keyWord : List ℕ → ℕ → ℕ → ℕ
 keyWord s k i = wordOf s k (77 - i)
 
+-- ---- types, in w0
+
+abbrev pub headerType : ℕ
+headerType = 2
+
+abbrev pub listType : ℕ
+listType = 16
+
+abbrev pub dataType : ℕ
+dataType = 8
+
+-- ---- kinds, in w127
+
+abbrev pub rootKind : ℕ
+rootKind = 1
+
+abbrev pub directoryKind : ℕ
+directoryKind = 2
+
+-- also a list block's
+abbrev pub fileKind : ℕ
+fileKind = 0xFFFFFFFD
+
+abbrev pub softLink : ℕ
+softLink = 3
+
+abbrev pub directoryLink : ℕ
+directoryLink = 4
+
+abbrev pub fileLink : ℕ
+fileLink = 0xFFFFFFFC
+
 -- w127 tells a directory from a file
 abbrev pub directory : List ℕ → ℕ → Bool
-directory s k = eqb (wordOf s k 127) 2
+directory s k = eqb (wordOf s k 127) directoryKind

@@ -9,7 +9,7 @@ use Rattle.answers.specs.Numbers as fault
 use Rattle.reach.specs.References.{At, _∈_}
 use Rattle.volume.specs.declared.disk.Disk.{Disk}
 use Rattle.volume.specs.Disks.{firstKey, rootOf, fileLimit}
-use Rattle.volume.specs.Blocks.{slots, wordOf, sumOf, directory}
+use Rattle.volume.specs.Blocks.{slots, wordOf, sumOf, directory, headerType, dataType, softLink, directoryLink, fileLink}
 use Rattle.volume.specs.Names.{nameOf, nameGood, slotOf}
 use Rattle.volume.specs.Files.{sizeOf, blocksOf, keysOf}
 use Rattle.volume.specs.Law.{RootKind, RootFixed, OneBitmap, Valid, EntryKind, Entry, Lists, ListKind, ListBlock, DataBlock}
@@ -49,8 +49,8 @@ pub data BitmapBreaks (s : List ℕ) (k v : ℕ) : Type 0 where
 -- ---- an entry, block k, on the chain of slot i of the directory t: 7 to 12
 
 pub record Link (s : List ℕ) (k : ℕ) : Type 0 where
-  pub type : wordOf s k 0 ≡ 2
-  pub kind : wordOf s k 127 ∈ (3 ∷ 4 ∷ 0xFFFFFFFC ∷ [])
+  pub type : wordOf s k 0 ≡ headerType
+  pub kind : wordOf s k 127 ∈ (softLink ∷ directoryLink ∷ fileLink ∷ [])
 
 -- own key, parent, and a directory's w126
 pub record EntryTies (s : List ℕ) (k t : ℕ) : Type 0 where
@@ -70,7 +70,7 @@ pub data EntryBreaks (d : Disk) (s : List ℕ) (k t i v : ℕ) : Type 0 where
   entry-7 : sumOf s k ≢ 0 → v ≡ fault.blockSum → EntryBreaks d s k t i v
   -- no link either
   entry-8 : sumOf s k ≡ 0 → (EntryKind s k → ⊥) → (Link s k → ⊥) → v ≡ fault.blockType → EntryBreaks d s k t i v
-  entry-9 : sumOf s k ≡ 0 → Link s k → v ≡ fault.isLink → EntryBreaks d s k t i v
+  entry-9 : sumOf s k ≡ 0 → Link s k → v ≡ fault.link → EntryBreaks d s k t i v
   entry-10 : sumOf s k ≡ 0 → EntryKind s k → (EntryTies s k t → ⊥) → v ≡ fault.wrongTies → EntryBreaks d s k t i v
   entry-11 : sumOf s k ≡ 0 → EntryKind s k → EntryTies s k t → nameGood s k ≡ false → v ≡ fault.badName → EntryBreaks d s k t i v
   entry-12 : sumOf s k ≡ 0 → Entry s k → EntryTies s k t → slotOf d (nameOf s k) ≢ i → v ≡ fault.wrongSlot → EntryBreaks d s k t i v
@@ -115,5 +115,5 @@ pub record DataTies (d : Disk) (s : List ℕ) (k h n named : ℕ) : Type 0 where
 
 pub data DataBreaks (d : Disk) (s : List ℕ) (k h n named v : ℕ) : Type 0 where
   data-7 : sumOf s k ≢ 0 → v ≡ fault.blockSum → DataBreaks d s k h n named v
-  data-8 : sumOf s k ≡ 0 → wordOf s k 0 ≢ 8 → v ≡ fault.blockType → DataBreaks d s k h n named v
-  data-15 : sumOf s k ≡ 0 → wordOf s k 0 ≡ 8 → (DataTies d s k h n named → ⊥) → v ≡ fault.dataLayout → DataBreaks d s k h n named v
+  data-8 : sumOf s k ≡ 0 → wordOf s k 0 ≢ dataType → v ≡ fault.blockType → DataBreaks d s k h n named v
+  data-15 : sumOf s k ≡ 0 → wordOf s k 0 ≡ dataType → (DataTies d s k h n named → ⊥) → v ≡ fault.dataLayout → DataBreaks d s k h n named v

@@ -11,7 +11,7 @@ use Rattle.words.specs.Word.{wordAt}
 use Rattle.reach.specs.References.{At, _∈_, Reached, Owned}
 use Rattle.volume.specs.declared.disk.Disk.{Disk}
 use Rattle.volume.specs.Disks.{firstKey, imageBytes, tagOf, rootOf, fileLimit}
-use Rattle.volume.specs.Blocks.{slots, wordOf, sumOf, slotWord, directory}
+use Rattle.volume.specs.Blocks.{slots, wordOf, sumOf, slotWord, directory, headerType, listType, dataType, rootKind, directoryKind, fileKind}
 use Rattle.volume.specs.Names.{folded, slotOf, nameOf, nameGood}
 use Rattle.volume.specs.Files.{heldOf, keysHere, sizeOf, blocksOf, listsOf, keysOf}
 use Rattle.volume.specs.Bitmap.{isFree}
@@ -24,8 +24,8 @@ abbrev pub OneBitmap : List ℕ → ℕ → Type 0
 OneBitmap s r = (i : ℕ) → 80 ≤ i → i ≤ 104 → wordOf s r i ≡ 0
 
 pub record RootKind (s : List ℕ) (r : ℕ) : Type 0 where
-  pub type : wordOf s r 0 ≡ 2
-  pub kind : wordOf s r 127 ≡ 1
+  pub type : wordOf s r 0 ≡ headerType
+  pub kind : wordOf s r 127 ≡ rootKind
 
 pub record RootFixed (s : List ℕ) (r : ℕ) : Type 0 where
   pub zeros : (i : ℕ) → i ∈ (1 ∷ 2 ∷ 4 ∷ 124 ∷ 125 ∷ 126 ∷ []) → wordOf s r i ≡ 0
@@ -41,8 +41,8 @@ pub record Root (s : List ℕ) (r : ℕ) : Type 0 where
 -- ---- an entry, block k: a directory or a file header
 
 pub record EntryKind (s : List ℕ) (k : ℕ) : Type 0 where
-  pub type : wordOf s k 0 ≡ 2
-  pub kind : (wordOf s k 127 ≡ 2) ⊎ (wordOf s k 127 ≡ 0xFFFFFFFD)
+  pub type : wordOf s k 0 ≡ headerType
+  pub kind : (wordOf s k 127 ≡ directoryKind) ⊎ (wordOf s k 127 ≡ fileKind)
 
 pub record Entry (s : List ℕ) (k : ℕ) : Type 0 where
   pub kind : EntryKind s k
@@ -81,8 +81,8 @@ pub record Lists (s : List ℕ) (b n : ℕ) : Type 0 where
   pub more : (wordOf s b 126 ≡ 0) ↔ (n ≤ slots)
 
 pub record ListKind (s : List ℕ) (b : ℕ) : Type 0 where
-  pub type : wordOf s b 0 ≡ 16
-  pub kind : wordOf s b 127 ≡ 0xFFFFFFFD
+  pub type : wordOf s b 0 ≡ listType
+  pub kind : wordOf s b 127 ≡ fileKind
 
 pub record ListBlock (s : List ℕ) (h b : ℕ) : Type 0 where
   pub kind : ListKind s b
@@ -91,7 +91,7 @@ pub record ListBlock (s : List ℕ) (h b : ℕ) : Type 0 where
 
 -- data block n of the file, counted from 1
 pub record DataBlock (d : Disk) (s : List ℕ) (h n k : ℕ) : Type 0 where
-  pub type : wordOf s k 0 ≡ 8
+  pub type : wordOf s k 0 ≡ dataType
   pub parent : wordOf s k 1 ≡ h
   pub number : wordOf s k 2 ≡ n
   pub held : wordOf s k 3 ≡ heldOf d (sizeOf s h) n

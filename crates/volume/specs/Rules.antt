@@ -8,7 +8,7 @@ use Rattle.volume.specs.declared.disk.Disk.{Disk}
 use Rattle.answers.specs.Numbers as fault
 use Rattle.answers.specs.Tests.{pick, must, never, tests}
 use Rattle.volume.specs.Disks.{rootOf, fileLimit}
-use Rattle.volume.specs.Blocks.{slots, wordOf, sumOf, directory}
+use Rattle.volume.specs.Blocks.{slots, wordOf, sumOf, directory, headerType, listType, dataType, rootKind, fileKind, softLink, directoryLink, fileLink}
 use Rattle.volume.specs.Names.{nameOf, nameGood, slotOf}
 use Rattle.volume.specs.Files.{dataBlocks, heldOf, keysHere, sizeOf, blocksOf}
 
@@ -17,8 +17,8 @@ use Rattle.volume.specs.Files.{dataBlocks, heldOf, keysHere, sizeOf, blo
 abbrev pub rootTypes : List ℕ → ℕ → List ℕ
 rootTypes s r =
     must (eqb (sumOf s r) 0) fault.blockSum
-    ∷ must (eqb (wordOf s r 0) 2) fault.blockType
-    ∷ must (eqb (wordOf s r 127) 1) fault.blockType
+    ∷ must (eqb (wordOf s r 0) headerType) fault.blockType
+    ∷ must (eqb (wordOf s r 127) rootKind) fault.blockType
     ∷ []
 
 abbrev pub rootWords : List ℕ → ℕ → List ℕ
@@ -64,11 +64,11 @@ bitmapFault s k = must (eqb (sumOf s k) 0) fault.blockSum
 abbrev pub entryTypes : List ℕ → ℕ → List ℕ
 entryTypes s k =
     must (eqb (sumOf s k) 0) fault.blockSum
-    ∷ must (eqb (wordOf s k 0) 2) fault.blockType
-    ∷ never (eqb (wordOf s k 127) 3) fault.isLink
-    ∷ never (eqb (wordOf s k 127) 4) fault.isLink
-    ∷ never (eqb (wordOf s k 127) 0xFFFFFFFC) fault.isLink
-    ∷ pick (directory s k) 0 (must (eqb (wordOf s k 127) 0xFFFFFFFD) fault.blockType)
+    ∷ must (eqb (wordOf s k 0) headerType) fault.blockType
+    ∷ never (eqb (wordOf s k 127) softLink) fault.link
+    ∷ never (eqb (wordOf s k 127) directoryLink) fault.link
+    ∷ never (eqb (wordOf s k 127) fileLink) fault.link
+    ∷ pick (directory s k) 0 (must (eqb (wordOf s k 127) fileKind) fault.blockType)
     ∷ []
 
 abbrev pub entryWords : List ℕ → ℕ → ℕ → List ℕ
@@ -112,8 +112,8 @@ fileFault d s k =
 abbrev pub listWords : List ℕ → ℕ → ℕ → List ℕ
 listWords s k h =
     must (eqb (sumOf s k) 0) fault.blockSum
-    ∷ must (eqb (wordOf s k 0) 16) fault.blockType
-    ∷ must (eqb (wordOf s k 127) 0xFFFFFFFD) fault.blockType
+    ∷ must (eqb (wordOf s k 0) listType) fault.blockType
+    ∷ must (eqb (wordOf s k 127) fileKind) fault.blockType
     ∷ must (eqb (wordOf s k 1) k) fault.wrongTies
     ∷ must (eqb (wordOf s k 125) h) fault.wrongTies
     ∷ []
@@ -126,7 +126,7 @@ listFault s k h n = tests (listWords s k h ++ countRules s k n)
 abbrev pub dataWords : Disk → List ℕ → ℕ → ℕ → ℕ → ℕ → List ℕ
 dataWords d s k h z n =
     must (eqb (sumOf s k) 0) fault.blockSum
-    ∷ must (eqb (wordOf s k 0) 8) fault.blockType
+    ∷ must (eqb (wordOf s k 0) dataType) fault.blockType
     ∷ must (eqb (wordOf s k 1) h) fault.dataLayout
     ∷ must (eqb (wordOf s k 2) n) fault.dataLayout
     ∷ must (eqb (wordOf s k 3) (heldOf d z n)) fault.dataLayout

@@ -1,11 +1,11 @@
 // The tests of an entry, a directory or a file header.
-use answers::Fault;
 use crate::block::Block;
 use crate::block::sum_of;
 use crate::block::word_of;
 use crate::disk::Disk;
 use crate::name::name_good;
 use crate::name::slot_of;
+use answers::Fault;
 ghost use mathlib.Core.Path.{_≡_};
 ghost use Rattle.answers.specs.Tests.{tests};
 ghost use Rattle.volume.specs.Blocks.{Holds, directory};
@@ -32,13 +32,13 @@ fn types_fault(image: &[u8], key: u32) -> u32
     }
     let kind = word_of(image, key, Block::KIND);
     if kind == Block::SOFT_LINK {
-        return Fault::IS_LINK;
+        return Fault::LINK;
     }
     if kind == Block::DIRECTORY_LINK {
-        return Fault::IS_LINK;
+        return Fault::LINK;
     }
     if kind == Block::FILE_LINK {
-        return Fault::IS_LINK;
+        return Fault::LINK;
     }
     if kind == Block::DIRECTORY {
         return 0;

@@ -1,9 +1,9 @@
 // Files: how many blocks a size takes, and the tests of headers, list blocks and data blocks.
-use answers::Fault;
 use crate::block::Block;
 use crate::block::sum_of;
 use crate::block::word_of;
 use crate::disk::Disk;
+use answers::Fault;
 ghost use mathlib.Core.Path.{_≡_};
 ghost use Prim.Native.Nat.{_≤_, _<_};
 ghost use Rattle.answers.specs.Tests.{tests};

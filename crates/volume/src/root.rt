@@ -1,10 +1,10 @@
 // The tests of the root, and of the bitmap block that it names.
-use answers::Fault;
 use crate::block::Block;
 use crate::block::sum_of;
 use crate::block::word_of;
 use crate::disk::Disk;
 use crate::name::name_good;
+use answers::Fault;
 ghost use mathlib.Core.Path.{_≡_};
 ghost use Rattle.answers.specs.Tests.{tests};
 ghost use Rattle.volume.specs.Disks.{rootOf};

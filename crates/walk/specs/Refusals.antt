@@ -11,7 +11,7 @@ use Rattle.reach.specs.References.{At, _∈_, Reached}
 use Rattle.reach.specs.Law.{Twice}
 use Rattle.volume.specs.declared.disk.Disk.{Disk}
 use Rattle.volume.specs.Disks.{rootOf}
-use Rattle.volume.specs.Blocks.{slots, wordOf, sumOf, slotWord, directory}
+use Rattle.volume.specs.Blocks.{slots, wordOf, sumOf, slotWord, directory, dataType, fileKind}
 use Rattle.volume.specs.Names.{nameOf, nameGood, folded, slotOf}
 use Rattle.volume.specs.Files.{blocksOf, listsOf}
 use Rattle.volume.specs.References.{Kind, Ref, to, references}
@@ -72,7 +72,7 @@ pub record Hung (d : Disk) (s : List ℕ) (t i k : ℕ) : Type 0 where
 -- h is the header of a reached file
 pub record FileAt (d : Disk) (s : List ℕ) (h : ℕ) : Type 0 where
   pub reached : Reached (references d s) (to Kind.entry h)
-  pub kind : wordOf s h 127 ≡ 0xFFFFFFFD
+  pub kind : wordOf s h 127 ≡ fileKind
 
 -- w0 and w127 are those of the kind that a reference asks for; an entry may be a link, which 9 is for
 abbrev pub KindRight : List ℕ → ℕ → Kind → Type 0
@@ -80,7 +80,7 @@ KindRight s k Kind.root = RootKind s k
 KindRight s k Kind.bitmap = Unit {0}
 KindRight s k Kind.entry = EntryKind s k ⊎ Link s k
 KindRight s k Kind.list = ListKind s k
-KindRight s k Kind.datum = wordOf s k 0 ≡ 8
+KindRight s k Kind.datum = wordOf s k 0 ≡ dataType
 
 -- one case for each number; the field of the law that it breaks stands above it
 pub data Cause (d : Disk) (s : List ℕ) (v k : ℕ) : Type 0 where
@@ -95,7 +95,7 @@ pub data Cause (d : Disk) (s : List ℕ) (v k : ℕ) : Type 0 where
   -- `type` and `kind` of `Root`, `Entry` and `ListBlock`, `type` of `DataBlock`
   number-8 : (a : Kind) → Reached (references d s) (to a k) → (KindRight s k a → ⊥) → v ≡ fault.blockType → Cause d s v k
   -- `Entry.kind`: it is a link
-  number-9 : Reached (references d s) (to Kind.entry k) → Link s k → v ≡ fault.isLink → Cause d s v k
+  number-9 : Reached (references d s) (to Kind.entry k) → Link s k → v ≡ fault.link → Cause d s v k
   -- of an entry `Entry.own`, `Directory.parent`, or w126 of a directory (`Tree.directories`); of list block i of a file `own` and `parent`
   number-10 : (t i : ℕ) → Hung d s t i k → EntryKind s k → (EntryTies s k t → ⊥) → v ≡ fault.wrongTies → Cause d s v k
   number-10-list : (h i : ℕ) → FileAt d s h → At i k (listsOf d s h) → ListKind s k → (ListBlock s h k → ⊥) → v ≡ fault.wrongTies → Cause d s v k
