@@ -77,9 +77,9 @@ claimsOf (done claims c) = claims
 claimsOf (refused v k) = []
 
 -- accepted: the claims of the walk, and 0 after them; refused: all 0
-abbrev pub leaves : Disk → List ℕ → Audited → ℕ → List ℕ
-leaves d s (Accepted r) n = claimsOf (walkOf d s) ++ replicate (n - claimBytes d) 0
-leaves d s (Refused r) n = replicate n 0
+abbrev pub claimAfter : Disk → List ℕ → Audited → ℕ → List ℕ
+claimAfter d s (Accepted r) n = claimsOf (walkOf d s) ++ replicate (n - claimBytes d) 0
+claimAfter d s (Refused r) n = replicate n 0
 
 -- ---- the promises
 
@@ -91,10 +91,10 @@ pub record Within (d : Disk) (s : List ℕ) (r : Audited) (claim′ : List ℕ) 
 -- of these in a claim area of n bytes
 pub record Tagged (d : Disk) (s : List ℕ) (n : ℕ) (r : Audited) (claim′ : List ℕ) : Type 0 where
   pub answer : r ≡ walked d s (walkOf d s)
-  pub claim : claim′ ≡ leaves d s r n
+  pub claim : claim′ ≡ claimAfter d s r n
 
 -- of an audit, whose answer is said also by its numbers
 pub record Audits (d : Disk) (s : List ℕ) (n : ℕ) (r : Audited) (claim′ : List ℕ) : Type 0 where
   pub answer : r ≡ auditOf d s n
   pub numbers : numbersOf r ≡ numbersOf (auditOf d s n)
-  pub claim : claim′ ≡ leaves d s r n
+  pub claim : claim′ ≡ claimAfter d s r n

@@ -171,7 +171,7 @@ module _ (d : Disk) (s : List ℕ) where
   compared-most t name p f = counting.first-few d s t name p f
 
   -- the tests of a file's blocks pass if and only if it is whole: as the law says, with all of its blocks
-  pub tested-exactly : (h : ℕ) → (blocksFault d s h ≡ Passed) ↔ outcomes.Whole d s h
+  pub tested-exactly : (h : ℕ) → (blocksFault d s h ≡ Passed) ↔ outcomes.FileWhole d s h
   tested-exactly h = passing.tested-exactly d s h
 
   -- in a tree every reached entry lies below the root by the names of directories; it is found by its path, and a file is read whole

@@ -104,7 +104,7 @@ module _ (s : List ℕ) (n : ℕ) (r : AuditNumbers) (claim′ : List ℕ) (a : 
   pub audit-refused : r .number ≢ 0 → (claim′ ≡ replicate n 0) × (r .directories ≡ 0) × (r .files ≡ 0) × (r .«list_blocks» ≡ 0) × (r .«data_blocks» ≡ 0) × (r .used ≡ 0) × (r .free ≡ 0)
   audit-refused z = go (audit.auditOf floppy s n) refl (a .call .claim)
     where
-      go : (x : Audited) → audit.auditOf floppy s n ≡ x → claim′ ≡ audit.leaves floppy s x n → (claim′ ≡ replicate n 0) × (r .directories ≡ 0) × (r .files ≡ 0) × (r .«list_blocks» ≡ 0) × (r .«data_blocks» ≡ 0) × (r .used ≡ 0) × (r .free ≡ 0)
+      go : (x : Audited) → audit.auditOf floppy s n ≡ x → claim′ ≡ audit.claimAfter floppy s x n → (claim′ ≡ replicate n 0) × (r .directories ≡ 0) × (r .files ≡ 0) × (r .«list_blocks» ≡ 0) × (r .«data_blocks» ≡ 0) × (r .used ≡ 0) × (r .free ≡ 0)
       go (audited.Accepted p) e c = absurd (z (audit-accepts .1 (p, e)))
       go (audited.Refused f) e c = let q = a .answer ∙ ap auditNumbers e in (c, rw q refl, rw q refl, rw q refl, rw q refl, rw q refl, rw q refl)
 
@@ -209,7 +209,7 @@ module _ (s path : List ℕ) (o : ℕ) (output : List ℕ) (r : ReadNumbers) (ou
   pub read-refused : r .number ≢ 0 → (output′ ≡ output) × (r .count ≡ 0)
   read-refused z = go (read.readOf floppy s path o (length output)) refl (a .call .left)
     where
-      go : (x : Reading) → read.readOf floppy s path o (length output) ≡ x → output′ ≡ read.leaves floppy s path o output x → (output′ ≡ output) × (r .count ≡ 0)
+      go : (x : Reading) → read.readOf floppy s path o (length output) ≡ x → output′ ≡ read.outputAfter floppy s path o output x → (output′ ≡ output) × (r .count ≡ 0)
       go (reading.Bytes n) e c = absurd (z (read-answers .1 (n, e)))
       go (reading.Refused f) e c = let q = a .answer ∙ ap readNumbers e in (c, rw q refl)
 

@@ -63,13 +63,13 @@ bytesOf d s (found.Directory k c) = []
 bytesOf d s (found.Refused r) = []
 
 -- refused, it stays
-abbrev pub leaves : Disk → List ℕ → List ℕ → ℕ → List ℕ → Reading → List ℕ
-leaves d s path o output (Bytes n) = filledBy (bytesOf d s (findOf d s path)) o output
-leaves d s path o output (Refused r) = output
+abbrev pub outputAfter : Disk → List ℕ → List ℕ → ℕ → List ℕ → Reading → List ℕ
+outputAfter d s path o output (Bytes n) = filledBy (bytesOf d s (findOf d s path)) o output
+outputAfter d s path o output (Refused r) = output
 
 -- ---- the promise: the answer is said also by its numbers
 
 pub record Reads (d : Disk) (s path : List ℕ) (o : ℕ) (output : List ℕ) (r : Reading) (output′ : List ℕ) : Type 0 where
   pub answer : r ≡ readOf d s path o (length output)
   pub numbers : numbersOf r ≡ numbersOf (readOf d s path o (length output))
-  pub left : output′ ≡ leaves d s path o output r
+  pub left : output′ ≡ outputAfter d s path o output r
