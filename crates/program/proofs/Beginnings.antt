@@ -152,7 +152,7 @@ module _ (file : List ℕ) (end : ℕ) (within : end ≤ length file) (G : Type 
   unfolding pick
   hunks-lead some hs rest l z s g =
       let y = fronts-on (totalOf file) (sizeOf file) (Leads file end G) along hs 0 0 (length hs) (4 * total hs) rest z (omega arith) l (omega arith) g in
-      (rw (ne-eqb 0 (totalOf file) (omega arith)) at y) (startAt file) begins (sym (s .place)) (s .words)
+      (rw (ne-eqb 0 (totalOf file) (omega arith)) at y) (startAt file) begins (sym (s .reaches)) (s .words)
 
   here : (c : Cursor) → (Comes file c end → G) → Leads file end G c []
   here c k at r e x = let z : at ≡ end = omega arith in k (subst (Comes file c) z r)

@@ -15,7 +15,7 @@ use Rattle.answers.specs.declared.Tested.{Tested}
 use Rattle.answers.specs.declared.Tested.the-variants.{Passed}
 use Rattle.answers.proofs.Clashes.{impossible}
 use Rattle.program.specs.Header.{totalOf, headFault, judge, heads}
-use Rattle.program.specs.Verdicts.{Fine}
+use Rattle.program.specs.Verdicts.{HeadPasses}
 
 -- ---- words
 
@@ -130,14 +130,14 @@ judge-pass : (v at : ℕ) (r : Tested) → judge v at r ≡ Passed → (v ≡ 0)
 judge-pass zero at r e = (refl, e)
 judge-pass (suc v) at r e = impossible cc
 
-pub each-fine : (file : List ℕ) (n i : ℕ) → heads file i n ≡ Passed → (j : ℕ) → i ≤ j → j < i + n → Fine file j
+pub each-passes : (file : List ℕ) (n i : ℕ) → heads file i n ≡ Passed → (j : ℕ) → i ≤ j → j < i + n → HeadPasses file j
 unfolding heads
-each-fine file zero i e j l h = absurd (omega arith)
-each-fine file (suc n) i e j l h =
+each-passes file zero i e j l h = absurd (omega arith)
+each-passes file (suc n) i e j l h =
     let a = pick-passed (ltb (length file) (4 * i + 4)) _ _ e in
     let b = judge-pass (headFault (totalOf file) i (wordAt file (4 * i))) (4 * i) _ (a .1) in
-    go (decLt i j) (ltb-false (length file) (4 * i + 4) (a .0), b .0) (λ q. each-fine file n (i + 1) (b .1) j (omega arith) (omega arith))
+    go (decLt i j) (ltb-false (length file) (4 * i + 4) (a .0), b .0) (λ q. each-passes file n (i + 1) (b .1) j (omega arith) (omega arith))
   where
-    go : Dec (i < j) → Fine file i → (i < j → Fine file j) → Fine file j
+    go : Dec (i < j) → HeadPasses file i → (i < j → HeadPasses file j) → HeadPasses file j
     go (yes q) f more = more q
-    go (no q) f more = let d : i ≡ j = omega arith in subst (Fine file) d f
+    go (no q) f more = let d : i ≡ j = omega arith in subst (HeadPasses file) d f

@@ -6,7 +6,7 @@ pub mod Heading
 -- the header in code, and what holds after it
 pub mod Heads
 -- what holds while a file is read
-pub mod Sanes
+pub mod CursorsFit
 -- what a match on the reader's mode leaves
 pub mod Modes
 -- the walk over the words, and the whole check

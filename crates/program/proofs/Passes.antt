@@ -11,7 +11,7 @@ use Rattle.program.specs.declared.reader.Next.the-variants.{On, Bad}
 use Rattle.program.specs.Header.{totalOf, sizeOf}
 use Rattle.program.specs.Reader.{start, stepOf}
 use Rattle.program.specs.Acts.{actOf, acts, actsFrom, actsOf, pass}
-use Rattle.program.specs.Sane.{Sound}
+use Rattle.program.specs.Cursors.{HeaderFits}
 use Rattle.program.proofs.Walks.{words-next, words-over, Reads, reads-start, reads-on}
 
 -- ---- the acts from a word on
@@ -37,7 +37,7 @@ module _ {X : Type 0} (g : X → Act → X) (file : List ℕ) (x₀ : X) where
     pub reads : Reads file c at
     pub left : pass g x₀ (actsOf file) ≡ pass g x (actsFrom file at c)
 
-  pub going-start : (c : Cursor) (at t : ℕ) → Sound file → c ≡ start → t ≡ totalOf file → at ≡ 20 + 4 * t → Going x₀ c at
+  pub going-start : (c : Cursor) (at t : ℕ) → HeaderFits file → c ≡ start → t ≡ totalOf file → at ≡ 20 + 4 * t → Going x₀ c at
   going-start c at t s e k h = record { reads = reads-start file c at t s e k h; left = rw (e, h, k) }
 
   module _ (x : X) (c : Cursor) (at : ℕ) (i : Going x c at) where

@@ -26,16 +26,16 @@ use Rattle.program.specs.declared.reader.Next.the-variants.{On, Bad}
 use Rattle.program.specs.Header.{totalOf, sizeOf, judge, heads}
 use Rattle.program.specs.Reader.{on, bodyOf, endOf, turn, stepOf}
 use Rattle.program.specs.Check.{refuse, endedOf, walkOf, and, checkOf}
-use Rattle.program.specs.Sane.{Sound}
+use Rattle.program.specs.Cursors.{HeaderFits}
 use Rattle.program.specs.Page.{Hunk, storedWords, OffsetFits, Holds, total}
 use Rattle.program.specs.Begun.{PartBegun, Begun, aPart, aCount, aNumber, anOffset, aSymbol, symbolWord, debugLength, debugWord, first, nameLength, nameWord, aBody, bodyLength, bodyWord, afterBody, PartWrong, Wrong}
-use Rattle.program.specs.Verdicts.{WrongWord, MoreWords, MissingWord, Says, BadLength, GoodLength, OfHeader, Fine, faultAt, HeadFails, HeadWord, Headed}
+use Rattle.program.specs.Verdicts.{WrongWord, MoreWords, MissingWord, Says, BadLength, GoodLength, OfHeader, HeadPasses, faultAt, HeadFails, HeadWord, Headed}
 use Rattle.program.proofs.Coming.{HunkWord, Missing, Refuses, Because}
 use Rattle.program.proofs.Answers.{not-refused, not-failed}
-use Rattle.program.proofs.Heading.{each-fine, heads-pass}
-use Rattle.program.proofs.Heads.{sound-header}
+use Rattle.program.proofs.Heading.{each-passes, heads-pass}
+use Rattle.program.proofs.Heads.{header-fits}
 use Rattle.program.proofs.Pages.{accepted-page, page-accepted}
-use Rattle.program.proofs.Sanes.{pick-on}
+use Rattle.program.proofs.CursorsFit.{pick-on}
 use Rattle.program.proofs.Taken.{cursor}
 use Rattle.program.proofs.Beginnings.{partMode, modeOf, unended, cursorIn, cursorOf, cursorPast, before-comes, whole-comes}
 use Rattle.program.proofs.Standing.{Within, Past, comes-stands}
@@ -47,28 +47,28 @@ use Rattle.program.proofs.Walks.{walk-bad, walk-end}
 failed-same : (r f : Refusal) → Failed r ≡ Failed f → f ≡ r
 failed-same r f e = cc
 
-fine-more : (file : List ℕ) (i : ℕ) → ((j : ℕ) → j < i → Fine file j) → Fine file i → (j : ℕ) → j < i + 1 → Fine file j
-fine-more file i b x j h = go (decLt j i)
+passes-more : (file : List ℕ) (i : ℕ) → ((j : ℕ) → j < i → HeadPasses file j) → HeadPasses file i → (j : ℕ) → j < i + 1 → HeadPasses file j
+passes-more file i b x j h = go (decLt j i)
   where
-    go : Dec (j < i) → Fine file j
+    go : Dec (j < i) → HeadPasses file j
     go (yes q) = b j q
-    go (no q) = let e : i ≡ j = omega arith in subst (Fine file) e x
+    go (no q) = let e : i ≡ j = omega arith in subst (HeadPasses file) e x
 
-heads-why : (file : List ℕ) (f : Refusal) (n i : ℕ) → ((j : ℕ) → i ≤ j → j < i + n → OfHeader file j) → ((j : ℕ) → j < i → Fine file j)
+heads-why : (file : List ℕ) (f : Refusal) (n i : ℕ) → ((j : ℕ) → i ≤ j → j < i + n → OfHeader file j) → ((j : ℕ) → j < i → HeadPasses file j)
     → heads file i n ≡ Failed f → HeadWord file f
 unfolding heads pick
 heads-why file f zero i w b e = not-failed e
 heads-why file f (suc n) i w b e = long (ltb (length file) (4 * i + 4)) refl e (heads-why file f n (i + 1) (λ j l h. w j (omega arith) (omega arith)))
   where
     wrong : (v : ℕ) → faultAt file i ≡ v → 4 * i + 4 ≤ length file → judge v (4 * i) (heads file (i + 1) n) ≡ Failed f
-        → (((j : ℕ) → j < i + 1 → Fine file j) → heads file (i + 1) n ≡ Failed f → HeadWord file f) → HeadWord file f
-    wrong zero q l x k = k (fine-more file i b (l, q)) x
+        → (((j : ℕ) → j < i + 1 → HeadPasses file j) → heads file (i + 1) n ≡ Failed f → HeadWord file f) → HeadWord file f
+    wrong zero q l x k = k (passes-more file i b (l, q)) x
     wrong (suc v) q l x k =
         record { word = i; within = w i (omega arith) (omega arith); before = b; cause = inr (l, (λ z. omega (arith, q, z)), failed-same _ f x ∙ ap (λ u. refusal u (4 * i)) (sym q)) }
 
     long : (t : Bool) → ltb (length file) (4 * i + 4) ≡ t
         → pick t (Failed (refusal 31 (length file))) (judge (faultAt file i) (4 * i) (heads file (i + 1) n)) ≡ Failed f
-        → (((j : ℕ) → j < i + 1 → Fine file j) → heads file (i + 1) n ≡ Failed f → HeadWord file f) → HeadWord file f
+        → (((j : ℕ) → j < i + 1 → HeadPasses file j) → heads file (i + 1) n ≡ Failed f → HeadWord file f) → HeadWord file f
     long true q x k = record { word = i; within = w i (omega arith) (omega arith); before = b; cause = inl (ltb-true _ _ q, failed-same _ f x) }
     long false q x k = wrong _ refl (ltb-false _ _ q) x k
 
@@ -90,19 +90,19 @@ walk-why file f a (inl k) e = go (ended (length file) (k .0) (k .0 .mode))
 
 -- ---- the whole check
 
-all-fine : (file : List ℕ) → heads file 0 5 ≡ Passed → heads file 5 (totalOf file) ≡ Passed → Headed file
-all-fine file p q j h = go (decLt j 5)
+all-pass : (file : List ℕ) → heads file 0 5 ≡ Passed → heads file 5 (totalOf file) ≡ Passed → Headed file
+all-pass file p q j h = go (decLt j 5)
   where
-    go : Dec (j < 5) → Fine file j
-    go (yes l) = each-fine file 5 0 p j (omega arith) l
-    go (no l) = each-fine file (totalOf file) 5 q j (omega arith) h
+    go : Dec (j < 5) → HeadPasses file j
+    go (yes l) = each-passes file 5 0 p j (omega arith) l
+    go (no l) = each-passes file (totalOf file) 5 q j (omega arith) h
 
 module _ (file : List ℕ) (f : Refusal) where
   all-why : GoodLength file → (a b : Tested) → heads file 0 5 ≡ a → heads file 5 (totalOf file) ≡ b → and a (and b (walkOf file)) ≡ Refused f → Because file f
   all-why w (Failed r) b p q e = inr (inl (w, heads-why file f 5 0 (λ j l h. omega arith) (λ j h. absurd (omega arith)) (p ∙ ap Failed (sym (refused-same r f e)))))
-  all-why w Passed (Failed r) p q e = inr (inl (w, heads-why file f (totalOf file) 5 (λ j l h. h) (λ j h. each-fine file 5 0 p j (omega arith) h) (q ∙ ap Failed (sym (refused-same r f e)))))
+  all-why w Passed (Failed r) p q e = inr (inl (w, heads-why file f (totalOf file) 5 (λ j l h. h) (λ j h. each-passes file 5 0 p j (omega arith) h) (q ∙ ap Failed (sym (refused-same r f e)))))
   all-why w Passed Passed p q e =
-      inr (inr (w, all-fine file p q, walk-why file f (walkOf file) (walk-stops file (w .1) (sound-header file p q)) e))
+      inr (inr (w, all-pass file p q, walk-why file f (walkOf file) (walk-stops file (w .1) (header-fits file p q)) e))
 
   -- the check refuses for one of these reasons
   pub check-why : checkOf file ≡ Refused f → Because file f
@@ -119,15 +119,15 @@ module _ (file : List ℕ) (f : Refusal) where
 
 -- the five words, then the sizes
 module _ (file : List ℕ) where
-  pass-five : ((j : ℕ) → j < 5 → Fine file j) → heads file 0 5 ≡ Passed
+  pass-five : ((j : ℕ) → j < 5 → HeadPasses file j) → heads file 0 5 ≡ Passed
   pass-five g = heads-pass file 5 0 (omega (arith, g 4 (omega arith) .0)) (λ j l q. g j q .1)
 
   pass-sizes : Headed file → heads file 5 (totalOf file) ≡ Passed
   pass-sizes g =
       heads-pass file (totalOf file) 5 (omega (arith, g (4 + totalOf file) (omega arith) .0)) (λ j l q. g j q .1)
 
-  headed-sound : Headed file → Sound file
-  headed-sound g = sound-header file (pass-five (λ j q. g j (omega arith))) (pass-sizes g)
+  headed-fits : Headed file → HeaderFits file
+  headed-fits g = header-fits file (pass-five (λ j q. g j (omega arith))) (pass-sizes g)
 
 module _ (file : List ℕ) (f : Refusal) where
   heads-fail : (w : HeadWord file f) (n i : ℕ) → i ≤ w .word → w .word < i + n → heads file i n ≡ Failed f
@@ -148,7 +148,7 @@ module _ (file : List ℕ) (f : Refusal) where
       go (no q) k = here (omega arith) (w .cause)
 
   -- a reader that comes there refuses there
-  walk-refuses : GoodLength file → Sound file → HunkWord file f ⊎ Missing file f → walkOf file ≡ Refused f
+  walk-refuses : GoodLength file → HeaderFits file → HunkWord file f ⊎ Missing file f → walkOf file ≡ Refused f
   walk-refuses w s (inl c) =
       let r = comes-reads file (w .1) s (c .comes) in
       r .rest ∙ walk-bad file (c .at) (c .cursor) (wordAt file (c .at)) _ (w .1) (r .aligned) (c .there) refl refl (c .number) (c .refuses) ∙ ap Refused (sym (c .said))
@@ -186,7 +186,7 @@ module _ (file : List ℕ) (f : Refusal) where
           go false = rw (ne-eqb _ _ h)
   why-check (inr (inl c)) = whole-check (c .0) ∙ head-refuses (c .1)
   why-check (inr (inr c)) =
-      whole-check (c .0) ∙ rw (pass-five file (λ j q. c .1 j (omega arith)), pass-sizes file (c .1)) (walk-refuses (c .0) (headed-sound file (c .1)) (c .2))
+      whole-check (c .0) ∙ rw (pass-five file (λ j q. c .1 j (omega arith)), pass-sizes file (c .1)) (walk-refuses (c .0) (headed-fits file (c .1)) (c .2))
 
 -- ---- which word is not taken, by what the reader expects: both ways
 
@@ -303,10 +303,10 @@ module _ (t : ℕ) (size : ℕ → ℕ) (h p w v : ℕ) where
   begun-wrong (bodyWord x k n ws) = Iff·rfl
   begun-wrong (afterBody x b ps q) = part-wrong (length (storedWords b)) q
 
-module _ (file : List ℕ) (even : length file % 4 ≡ 0) (s : Sound file) where
+module _ (file : List ℕ) (whole : length file % 4 ≡ 0) (s : HeaderFits file) where
   module _ (f : Refusal) where
     word-says : HunkWord file f → WrongWord file f ⊎ MoreWords file f
-    word-says r = go (comes-stands file even s (r .cursor) (r .at) (r .comes))
+    word-says r = go (comes-stands file whole s (r .cursor) (r .at) (r .comes))
       where
         why : Refuses (totalOf file) (sizeOf file) (r .cursor) (wordAt file (r .at)) (r .number) (r .cursor .mode)
         why = step-why (totalOf file) (sizeOf file) (r .cursor) (wordAt file (r .at)) (r .number) .0 (r .refuses)
@@ -355,7 +355,7 @@ module _ (file : List ℕ) (even : length file % 4 ≡ 0) (s : Sound file) where
         }
 
     missing-says : Missing file f → MissingWord file f
-    missing-says r = go (comes-stands file even s (r .cursor) (length file) (r .comes))
+    missing-says r = go (comes-stands file whole s (r .cursor) (length file) (r .comes))
       where
         go : Within file (r .cursor) (length file) ⊎ Past file (r .cursor) (length file) → MissingWord file f
         go (inl k) = record { hunks = k .hunks; begun = k .begun; before = k .before; said = r .said }
@@ -374,9 +374,9 @@ module _ (file : List ℕ) (f : Refusal) where
   because-says : Because file f → Says file f
   because-says (inl r) = inl r
   because-says (inr (inl r)) = inr (inl r)
-  because-says (inr (inr r)) = inr (inr (r .0, r .1, go (headed-sound file (r .1)) (r .2)))
+  because-says (inr (inr r)) = inr (inr (r .0, r .1, go (headed-fits file (r .1)) (r .2)))
     where
-      go : Sound file → HunkWord file f ⊎ Missing file f → WrongWord file f ⊎ MoreWords file f ⊎ MissingWord file f
+      go : HeaderFits file → HunkWord file f ⊎ Missing file f → WrongWord file f ⊎ MoreWords file f ⊎ MissingWord file f
       go s (inl k) = found (word-says file (r .0 .1) s f k)
         where
           found : WrongWord file f ⊎ MoreWords file f → WrongWord file f ⊎ MoreWords file f ⊎ MissingWord file f
@@ -387,9 +387,9 @@ module _ (file : List ℕ) (f : Refusal) where
   says-because : Says file f → Because file f
   says-because (inl r) = inl r
   says-because (inr (inl r)) = inr (inl r)
-  says-because (inr (inr r)) = inr (inr (r .0, r .1, go (headed-sound file (r .1)) (r .2)))
+  says-because (inr (inr r)) = inr (inr (r .0, r .1, go (headed-fits file (r .1)) (r .2)))
     where
-      go : Sound file → WrongWord file f ⊎ MoreWords file f ⊎ MissingWord file f → HunkWord file f ⊎ Missing file f
+      go : HeaderFits file → WrongWord file f ⊎ MoreWords file f ⊎ MissingWord file f → HunkWord file f ⊎ Missing file f
       go s (inl k) = inl (says-word file (r .0 .1) s f (inl k))
       go s (inr (inl k)) = inl (says-word file (r .0 .1) s f (inr k))
       go s (inr (inr k)) = inr (says-missing file (r .0 .1) s f k)

@@ -16,8 +16,8 @@ use Rattle.program.specs.declared.reader.Mode.the-variants.{Stored, Part
 use Rattle.program.specs.declared.reader.Next.the-variants.{On}
 use Rattle.program.specs.Reader.{on, resume, skip, storedFrom, stepOf}
 use Rattle.program.specs.Acts.{actOf, actsFrom, pass}
-use Rattle.program.specs.Sane.{Sane}
-use Rattle.program.specs.Runs.{modedOf, skipAt, storedAt, Calm, Leads, here, along}
+use Rattle.program.specs.Cursors.{CursorFits}
+use Rattle.program.specs.Runs.{modedOf, skipAt, storedAt, QuietOrStore, Leads, here, along}
 use Rattle.program.proofs.Walks.{Reads, reads-on}
 use Rattle.program.proofs.Passes.{acts-on, Going}
 
@@ -81,11 +81,11 @@ module _ (file : List ℕ) where
 
   -- ---- as the code counts them
 
-  pub stored-some : (c : Cursor) (i : ℕ) → Sane file c → c .mode ≡ Stored i → i < c .stored
+  pub stored-some : (c : Cursor) (i : ℕ) → CursorFits file c → c .mode ≡ Stored i → i < c .stored
   stored-some c i s e = (rw e at (s .mode)) .1
 
   module _ (c : Cursor) (i at left n : ℕ) (d : Cursor) (there : at < length file) (words : left ≡ (length file - at) / 4) where
-    pub past-stored : Sane file c → c .mode ≡ Stored i → n ≡ min (c .stored - i) left → d ≡ storedAt c (i + n) → Leads file c at d (at + 4 * n)
+    pub past-stored : CursorFits file c → c .mode ≡ Stored i → n ≡ min (c .stored - i) left → d ≡ storedAt c (i + n) → Leads file c at d (at + 4 * n)
     past-stored s m e f =
         let l = stored-some c i s m in rw f (stored-leads c i n at (i + n) (at + 4 * n) m l refl refl (omega arith) (omega arith))
 
@@ -103,14 +103,14 @@ module _ (file : List ℕ) where
   leads-reads h (along {c = c} {d = d} {at = at} l e a k) i = leads-reads h k (reads-on file c at _ _ d i h l refl refl e)
 
 -- what makes nothing of calm acts makes the same of the acts from here and from there
-pub leads-acts : {Y : Type 0} (f : List Act → Y) (file : List ℕ) → ((a : Act) (us : List Act) → Calm a → f (a ∷ us) ≡ f us) → {c d : Cursor} {at to : ℕ} → length file % 4 ≡ 0 → Leads file c at d to → Reads file c at → f (actsFrom file at c) ≡ f (actsFrom file to d)
+pub leads-acts : {Y : Type 0} (f : List Act → Y) (file : List ℕ) → ((a : Act) (us : List Act) → QuietOrStore a → f (a ∷ us) ≡ f us) → {c d : Cursor} {at to : ℕ} → length file % 4 ≡ 0 → Leads file c at d to → Reads file c at → f (actsFrom file at c) ≡ f (actsFrom file to d)
 leads-acts f file calm h here i = refl
 leads-acts f file calm h (along {c = c} {d = d} {at = at} l e a k) i =
     ap f (acts-on file at c _ _ h i l refl refl d _ e refl)
     ∙ calm _ _ a
     ∙ leads-acts f file calm h k (reads-on file c at _ _ d i h l refl refl e)
 
-pub going-past : {X : Type 0} (g : X → Act → X) → ((x : X) (a : Act) → Calm a → g x a ≡ x) → (file : List ℕ) (x₀ x : X) {c d : Cursor} {at to : ℕ} → length file % 4 ≡ 0 → Going g file x₀ x c at → Leads file c at d to → Going g file x₀ x d to
+pub going-past : {X : Type 0} (g : X → Act → X) → ((x : X) (a : Act) → QuietOrStore a → g x a ≡ x) → (file : List ℕ) (x₀ x : X) {c d : Cursor} {at to : ℕ} → length file % 4 ≡ 0 → Going g file x₀ x c at → Leads file c at d to → Going g file x₀ x d to
 unfolding pass
 going-past g calm file x₀ x h i k =
     record {

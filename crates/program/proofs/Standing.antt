@@ -20,11 +20,11 @@ use Rattle.program.specs.Page.{Name, Body, Group, Symbol, Part, Hunk, no
 use Rattle.program.specs.Begun.{PartBegun, Begun, aPart, aCount, aNumber, anOffset, aSymbol, symbolWord, debugLength, debugWord, first, nameLength, nameWord, aBody, bodyLength, bodyWord, afterBody, partSoFar, soFar, PartBegunFits, BegunFits}
 use Rattle.program.specs.Header.{totalOf, sizeOf, startAt}
 use Rattle.program.specs.Reader.{resume, skip, bodyOf, storedFrom, endOf, turn, stepOf}
-use Rattle.program.specs.Sane.{Sound}
+use Rattle.program.specs.Cursors.{HeaderFits}
 use Rattle.program.specs.Verdicts.{Stand, OfSizes, Before, AllHunks}
 use Rattle.program.proofs.Coming.{Comes, begins, takes}
 use Rattle.program.proofs.Heading.{words-add}
-use Rattle.program.proofs.Sanes.{pick-on, on-on, bad-on}
+use Rattle.program.proofs.CursorsFit.{pick-on, on-on, bad-on}
 use Rattle.program.proofs.Taken.{cursor}
 use Rattle.program.proofs.Beginnings.{partMode, modeOf, cursorIn, cursorOf, cursorPast, before-comes, whole-comes}
 
@@ -339,24 +339,24 @@ pub record Past (file : List ℕ) (c : Cursor) (at : ℕ) : Type 0 where
 after-hunks : (hs : List Hunk) (us : List ℕ) (w : ℕ) (vs : List ℕ) → us ▹ w ≡ vs → (joined hunkWords hs ++ us) ▹ w ≡ joined hunkWords hs ++ vs
 after-hunks hs us w vs e = append-assoc (joined hunkWords hs) us (w ∷ []) ∙ ap (λ (k : List ℕ). joined hunkWords hs ++ k) e
 
-module _ (file : List ℕ) (even : length file % 4 ≡ 0) (s : Sound file) where
+module _ (file : List ℕ) (whole : length file % 4 ≡ 0) (s : HeaderFits file) where
   stand-on : (ws vs : List ℕ) (at : ℕ) → Stand file ws at → at < length file → ws ▹ wordAt file at ≡ vs → Stand file vs (at + 4)
   unfolding wordsAt
   stand-on ws vs at r l e =
       let n : length vs ≡ length ws + 1 = ap length (sym e) ∙ simp length-append in
-      let a : startAt file + 4 * length ws ≡ at = sym (r .place) in
+      let a : startAt file + 4 * length ws ≡ at = sym (r .reaches) in
       record {
-        place = omega (arith, r .place);
-        within = omega (arith, r .place);
+        reaches = omega (arith, r .reaches);
+        within = omega (arith, r .reaches);
         words = ap (wordsAt file (startAt file)) n ∙ words-add file (length ws) (startAt file) 1 ∙ rw (a, r .words) e;
       }
 
   -- the last word of a hunk
-  whole : (hs : List Hunk) (b : Begun) (at : ℕ) → Before file hs b at → at < length file → (x : Hunk) → x .size ≡ sizeOf file (length hs)
+  whole-hunk : (hs : List Hunk) (b : Begun) (at : ℕ) → Before file hs b at → at < length file → (x : Hunk) → x .size ≡ sizeOf file (length hs)
       → HunkFits (totalOf file) x
       → soFar b ▹ wordAt file at ≡ hunkWords x → (n : ℕ) (d : Cursor) → endOf (totalOf file) (sizeOf file) (cursor mode.Part (length hs) (4 * total hs) n) ≡ On d → Within file d (at + 4) ⊎ Past file d (at + 4)
   unfolding pick
-  whole hs b at r l x z f e n d q = go (eqb (length hs + 1) (totalOf file)) refl (on-on _ d q)
+  whole-hunk hs b at r l x z f e n d q = go (eqb (length hs + 1) (totalOf file)) refl (on-on _ d q)
     where
       long : length (hs ▹ x) ≡ length hs + 1
       long = length-snoc hs x ∙ sym (add-one (length hs))
@@ -410,13 +410,13 @@ module _ (file : List ℕ) (even : length file % 4 ≡ 0) (s : Sound file) where
           let n = sizeOf file (length (r .hunks)) in
           let x : Hunk = record { size = n; name = k .0; body = k .1; parts = k .2 } in
           let f : HunkFits (totalOf file) x = record { size = s .small (length (r .hunks)) (r .before .next); body = k .3; parts = k .4 } in
-          whole (r .hunks) (r .begun) at (r .before) l x refl f (k .5) (length (storedWords (k .1))) d (k .6)
+          whole-hunk (r .hunks) (r .begun) at (r .before) l x refl f (k .5) (length (storedWords (k .1))) d (k .6)
   word-on c d at l e (inr r) = bad-on 39 d (rw (← r .is) at e)
 
   pub comes-stands : (c : Cursor) (at : ℕ) → Comes file c at → Within file c at ⊎ Past file c at
   unfolding wordsAt
   comes-stands c at begins =
-      let b : Before file [] first (startAt file) = record { next = s .some; hunks = tt; begun = tt; stand = record { place = omega arith; within = s .long; words = refl } } in
+      let b : Before file [] first (startAt file) = record { next = s .some; hunks = tt; begun = tt; stand = record { reaches = omega arith; within = s .long; words = refl } } in
       inl (record { hunks = []; begun = first; before = b; is = refl })
   comes-stands c at (takes {c = c′} {d = d} {at = i} r l e) = word-on c′ d i l e (comes-stands c′ i r)
 

@@ -3,7 +3,7 @@ use mathlib.Core.Path.{sym, _∙_}
 use native.Mathlib.Omega.{arith}
 use Rattle.program.proofs.AsNumbers.{checks}
 use Rattle.program.proofs.Heads.{few-hunks}
-use Rattle.program.proofs.Walks.{check-empty, check-odd, check-first, check-second, check-sound, check-hunks}
+use Rattle.program.proofs.Walks.{check-empty, check-odd, check-first, check-second, check-header, check-hunks}
 use borrow.Author.Needs.{needs}
 use Rattle.program.proofs.check.check.Statement.{statement}
 use Rattle.program.proofs.check.check.Tie as tie
@@ -51,7 +51,7 @@ enum-told-2 : tie.Need-enum-told-2
 enum-told-2 c = search needs
 
 hunks-requires : tie.Need-hunks-requires
-hunks-requires c κs = (check-sound _ (c .before .before .before .before .before .before .before .before .if1 .left) (c .before .before .before .before .before .before .before .if2 .left) _ (c .before .before .before .before .before .before .head-words .ensures) (c .before .before .before .before .enum-told .given .1) _ (c .before .before .before .total .ensures) _ (c .before .before .head-words2 .ensures) (c .enum-told2 .given .1), c .before .before .before .before .before .before .before .if2 .left)
+hunks-requires c κs = (check-header _ (c .before .before .before .before .before .before .before .before .if1 .left) (c .before .before .before .before .before .before .before .if2 .left) _ (c .before .before .before .before .before .before .head-words .ensures) (c .before .before .before .before .enum-told .given .1) _ (c .before .before .before .total .ensures) _ (c .before .before .head-words2 .ensures) (c .enum-told2 .given .1), c .before .before .before .before .before .before .before .if2 .left)
 
 returns-5 : tie.Need-returns-5
 returns-5 c = checks _ _ (check-hunks _ (c .before .before .before .before .before .before .before .before .before .if1 .left) (c .before .before .before .before .before .before .before .before .if2 .left) _ (c .before .before .before .before .before .before .before .head-words .ensures) (c .before .before .before .before .before .enum-told .given .1) _ (c .before .before .before .before .total .ensures) _ (c .before .before .before .head-words2 .ensures) (c .before .enum-told2 .given .1) _ (c .hunks .ensures))

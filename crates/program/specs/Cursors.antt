@@ -9,7 +9,7 @@ use Rattle.program.specs.declared.reader.Mode.{Mode}
 use Rattle.program.specs.declared.reader.Mode.the-variants.{Begin, NameLength, Body, Length, Stored, Part, Count, Number, Offset, Symbol, DebugLength, Skip, End}
 use Rattle.program.specs.Header.{totalOf, sizeOf, startAt}
 
-pub record Sound (file : List ℕ) : Type 0 where
+pub record HeaderFits (file : List ℕ) : Type 0 where
   pub few : totalOf file ≤ type.mostHunks
   pub some : 1 ≤ totalOf file
   pub long : startAt file ≤ length file
@@ -36,10 +36,10 @@ ModeFits t h n DebugLength = h < t
 ModeFits t h n (Skip l a) = h < t
 ModeFits t h n End = h ≡ t
 
-pub record Sane (file : List ℕ) (c : Cursor) : Type 0 where
-  pub sound : Sound file
+pub record CursorFits (file : List ℕ) (c : Cursor) : Type 0 where
+  pub header : HeaderFits file
   pub hunks : c .hunk ≤ totalOf file
-  pub placed : c .place ≡ placeOf (sizeOf file) (c .hunk)
+  pub place : c .place ≡ placeOf (sizeOf file) (c .hunk)
   pub low : c .place ≤ c .hunk * 262144
   pub fits : c .stored ≤ sizeOf file (c .hunk)
   pub mode : ModeFits (totalOf file) (c .hunk) (c .stored) (c .mode)
