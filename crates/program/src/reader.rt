@@ -2,8 +2,9 @@
 use crate::header::size;
 use crate::header::total;
 use answers::Fault;
+use words::least;
 ghost use mathlib.Core.Path.{_≡_};
-ghost use Prim.Native.Nat.{_+_, _*_, _%_, _<_, _≤_, min};
+ghost use Prim.Native.Nat.{_+_, _*_, _%_, _<_, _≤_};
 ghost use lib.ListN.{length};
 ghost use lib.Dec.{eqb};
 ghost use Rattle.program.specs.Types as type;
@@ -326,12 +327,6 @@ pub fn step(file: &[u8], c: Cursor, w: u32) -> Next
 pub struct Spot {
     pub cursor: Cursor,
     pub at: usize,
-}
-
-fn least(a: usize, b: usize) -> usize
-    ensures { λ r. ⌜ r ≡ min a b ⌝ }
-{
-    if a <= b { a } else { b }
 }
 
 // After the words from `at` on that the reader takes whatever they are: words that are stored or passed over, as many as there are.
