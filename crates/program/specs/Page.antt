@@ -1,4 +1,5 @@
--- A program file as the page shows it: hunks as data, and how they are written out to words (docs/FORMAT.md, "The program file").
+-- A program file as the page shows it: hunks as data, and how they are written out to words (docs/FORMAT.md, "The
+-- program file").
 use Prim.Native.Nat.{ℕ, _+_, _-_, _*_, _/_, _%_, _^_, _≤_, _<_}
 use mathlib.Core.Path.{_≡_}
 use mathlib.Core.Logic.{_≢_}

@@ -329,7 +329,8 @@ pub struct Spot {
     pub at: usize,
 }
 
-// After the words from `at` on that the reader takes whatever they are: words that are stored or passed over, as many as there are.
+// After the words from `at` on that the reader takes whatever they are: words that are stored or passed over, as many
+// as there are.
 pub fn past(file: &[u8], c: Cursor, at: usize) -> Spot
     requires { ⌜ (CursorFits (now file) c) × (length (now file) % 4 ≡ 0) × (at % 4 ≡ 0) ⌝ }
     ensures { λ r. ⌜ Leads (now (file .entry)) c at (r .cursor) (r .at) ⌝ }
