@@ -7,6 +7,8 @@ use native.Mathlib.Omega.{arith}
 use native.Mathlib.Numerals.{add-one}
 use lib.Dec.{ltb, leb, eqb}
 use borrow.Author.Tests.{ltb-true, ltb-false, eqb-true, eqb-false}
+use Rattle.program.specs.Types as type
+use Rattle.answers.specs.Numbers as fault
 use Rattle.answers.specs.Tests.{pick}
 use Rattle.answers.proofs.Clashes.{impossible}
 use Rattle.program.specs.declared.reader.Cursor.{Cursor}
@@ -59,9 +61,9 @@ module _ (file : List ℕ) (c : Cursor) (w : ℕ) (d : Cursor) (s : CursorFits f
 
     body-fits : bodyOf c w ≡ On d → CursorFits file d
     body-fits =
-        pick-on (eqb w 0x3E9) (on c (Length w)) (pick (eqb w 0x3EA) (on c (Length w)) (pick (eqb w 0x3EB) (on c (Length w)) (Bad 35))) (On d) (λ _. kept (Length w) h)
-        (λ _. pick-on (eqb w 0x3EA) (on c (Length w)) (pick (eqb w 0x3EB) (on c (Length w)) (Bad 35)) (On d) (λ _. kept (Length w) h)
-        (λ _. pick-on (eqb w 0x3EB) (on c (Length w)) (Bad 35) (On d) (λ _. kept (Length w) h) (λ _. bad-on 35 d)))
+        pick-on (eqb w type.code) (on c (Length w)) (pick (eqb w type.stores) (on c (Length w)) (pick (eqb w type.bss) (on c (Length w)) (Bad fault.misplacedBlock))) (On d) (λ _. kept (Length w) h)
+        (λ _. pick-on (eqb w type.stores) (on c (Length w)) (pick (eqb w type.bss) (on c (Length w)) (Bad fault.misplacedBlock)) (On d) (λ _. kept (Length w) h)
+        (λ _. pick-on (eqb w type.bss) (on c (Length w)) (Bad fault.misplacedBlock) (On d) (λ _. kept (Length w) h) (λ _. bad-on fault.misplacedBlock d)))
 
     -- of n stored words, the word i comes next
     stored-fits : (n i : ℕ) → i ≤ n → n ≤ sizeOf file (c .hunk) → storedFrom (record { mode = Part; hunk = c .hunk; place = c .place; stored = n }) i ≡ On d → CursorFits file d
@@ -73,8 +75,8 @@ module _ (file : List ℕ) (c : Cursor) (w : ℕ) (d : Cursor) (s : CursorFits f
 
     length-fits : (kind : ℕ) → lengthOf (sizeOf file) c kind w ≡ On d → CursorFits file d
     length-fits kind =
-        pick-on (ltb (sizeOf file (c .hunk)) w) (Bad 36) (storedFrom (record { mode = Part; hunk = c .hunk; place = c .place; stored = pick (eqb kind 0x3EB) 0 w }) 0) (On d)
-        (λ _. bad-on 36 d) (λ q. stored-fits (pick (eqb kind 0x3EB) 0 w) 0 zero-le (pick-less (eqb kind 0x3EB) (ltb-false (sizeOf file (c .hunk)) w q)))
+        pick-on (ltb (sizeOf file (c .hunk)) w) (Bad fault.bodyLength) (storedFrom (record { mode = Part; hunk = c .hunk; place = c .place; stored = pick (eqb kind type.bss) 0 w }) 0) (On d)
+        (λ _. bad-on fault.bodyLength d) (λ q. stored-fits (pick (eqb kind type.bss) 0 w) 0 zero-le (pick-less (eqb kind type.bss) (ltb-false (sizeOf file (c .hunk)) w q)))
 
     end-fits : endOf (totalOf file) (sizeOf file) c ≡ On d → CursorFits file d
     unfolding placeOf pick
@@ -96,19 +98,19 @@ module _ (file : List ℕ) (c : Cursor) (w : ℕ) (d : Cursor) (s : CursorFits f
 
     part-fits : partOf (totalOf file) (sizeOf file) c w ≡ On d → CursorFits file d
     part-fits =
-        let z : Next = pick (eqb w 0x3F2) (endOf (totalOf file) (sizeOf file) c) (Bad 35) in
-        let y : Next = pick (eqb w 0x3F1) (on c DebugLength) z in
-        let x : Next = pick (eqb w 0x3F0) (on c Symbol) y in
-        pick-on (eqb w 0x3EC) (on c Count) x (On d) (λ _. kept Count h)
-        (λ _. pick-on (eqb w 0x3F0) (on c Symbol) y (On d) (λ _. kept Symbol h)
-        (λ _. pick-on (eqb w 0x3F1) (on c DebugLength) z (On d) (λ _. kept DebugLength h)
-        (λ _. pick-on (eqb w 0x3F2) (endOf (totalOf file) (sizeOf file) c) (Bad 35) (On d) (λ _. end-fits) (λ _. bad-on 35 d))))
+        let z : Next = pick (eqb w type.end) (endOf (totalOf file) (sizeOf file) c) (Bad fault.misplacedBlock) in
+        let y : Next = pick (eqb w type.debug) (on c DebugLength) z in
+        let x : Next = pick (eqb w type.symbols) (on c Symbol) y in
+        pick-on (eqb w type.relocation) (on c Count) x (On d) (λ _. kept Count h)
+        (λ _. pick-on (eqb w type.symbols) (on c Symbol) y (On d) (λ _. kept Symbol h)
+        (λ _. pick-on (eqb w type.debug) (on c DebugLength) z (On d) (λ _. kept DebugLength h)
+        (λ _. pick-on (eqb w type.end) (endOf (totalOf file) (sizeOf file) c) (Bad fault.misplacedBlock) (On d) (λ _. end-fits) (λ _. bad-on fault.misplacedBlock d))))
 
     count-fits : countOf c w ≡ On d → CursorFits file d
     count-fits = pick-on (eqb w 0) (on c Part) (on c (Number (w - 1))) (On d) (λ _. kept Part h) (λ _. kept (Number (w - 1)) h)
 
     number-fits : (n : ℕ) → numberOf (totalOf file) c n w ≡ On d → CursorFits file d
-    number-fits n = pick-on (ltb w (totalOf file)) (on c (Offset n w)) (Bad 38) (On d) (λ q. kept (Offset n w) (h, ltb-true w _ q)) (λ _. bad-on 38 d)
+    number-fits n = pick-on (ltb w (totalOf file)) (on c (Offset n w)) (Bad fault.badTarget) (On d) (λ q. kept (Offset n w) (h, ltb-true w _ q)) (λ _. bad-on fault.badTarget d)
 
     module _ (n k : ℕ) where
       abbrev onward : Next
@@ -116,26 +118,26 @@ module _ (file : List ℕ) (c : Cursor) (w : ℕ) (d : Cursor) (s : CursorFits f
 
       offset-fits : k < totalOf file → offsetOf c n k w ≡ On d → CursorFits file d
       offset-fits l =
-          pick-on (eqb (w % 2) 0) (pick (ltb (4 * c .stored) (w + 4)) (Bad 38) onward) (Bad 38) (On d)
-          (λ _. pick-on (ltb (4 * c .stored) (w + 4)) (Bad 38) onward (On d) (λ _. bad-on 38 d)
+          pick-on (eqb (w % 2) 0) (pick (ltb (4 * c .stored) (w + 4)) (Bad fault.badTarget) onward) (Bad fault.badTarget) (On d)
+          (λ _. pick-on (ltb (4 * c .stored) (w + 4)) (Bad fault.badTarget) onward (On d) (λ _. bad-on fault.badTarget d)
           (λ _. pick-on (eqb n 0) (on c Count) (on c (Offset (n - 1) k)) (On d) (λ _. kept Count h) (λ _. kept (Offset (n - 1) k) (h, l))))
-          (λ _. bad-on 38 d)
+          (λ _. bad-on fault.badTarget d)
 
       -- an offset that is taken lies in the stored words
       pub offset-in : offsetOf c n k w ≡ On d → w + 4 ≤ 4 * c .stored
       offset-in =
-          pick-on (eqb (w % 2) 0) (pick (ltb (4 * c .stored) (w + 4)) (Bad 38) onward) (Bad 38) (On d)
-          (λ _. pick-on (ltb (4 * c .stored) (w + 4)) (Bad 38) onward (On d) (λ _. bad-on 38 d) (λ q _. ltb-false _ _ q))
-          (λ _. bad-on 38 d)
+          pick-on (eqb (w % 2) 0) (pick (ltb (4 * c .stored) (w + 4)) (Bad fault.badTarget) onward) (Bad fault.badTarget) (On d)
+          (λ _. pick-on (ltb (4 * c .stored) (w + 4)) (Bad fault.badTarget) onward (On d) (λ _. bad-on fault.badTarget d) (λ q _. ltb-false _ _ q))
+          (λ _. bad-on fault.badTarget d)
 
     symbol-fits : symbolOf c w ≡ On d → CursorFits file d
     symbol-fits =
-        let y : Next = pick (leb 0x1000000 w) (Bad 37) (on c (Skip w after.Symbol)) in
+        let y : Next = pick (leb 0x1000000 w) (Bad fault.symbolType) (on c (Skip w after.Symbol)) in
         pick-on (eqb w 0) (on c Part) y (On d) (λ _. kept Part h)
-        (λ _. pick-on (leb 0x1000000 w) (Bad 37) (on c (Skip w after.Symbol)) (On d) (λ _. bad-on 37 d) (λ _. kept (Skip w after.Symbol) h))
+        (λ _. pick-on (leb 0x1000000 w) (Bad fault.symbolType) (on c (Skip w after.Symbol)) (On d) (λ _. bad-on fault.symbolType d) (λ _. kept (Skip w after.Symbol) h))
 
   turn-fits : (m : Mode) → ModeFits (totalOf file) (c .hunk) (c .stored) m → turn (totalOf file) (sizeOf file) c w m ≡ On d → CursorFits file d
-  turn-fits Begin h = pick-on (eqb w 0x3E8) (on c NameLength) (bodyOf c w) (On d) (λ _. kept NameLength h) (λ _. body-fits h)
+  turn-fits Begin h = pick-on (eqb w type.name) (on c NameLength) (bodyOf c w) (On d) (λ _. kept NameLength h) (λ _. body-fits h)
   turn-fits NameLength h = skip-fits h w after.Body
   turn-fits Body h = body-fits h
   turn-fits (Length kind) h = length-fits h kind
@@ -147,7 +149,7 @@ module _ (file : List ℕ) (c : Cursor) (w : ℕ) (d : Cursor) (s : CursorFits f
   turn-fits Symbol h = symbol-fits h
   turn-fits DebugLength h = skip-fits h w after.Part
   turn-fits (Skip n a) h = skip-fits h n a
-  turn-fits End h = bad-on 39 d
+  turn-fits End h = bad-on fault.trailingWords d
 
   pub step-fits : stepOf (totalOf file) (sizeOf file) c w ≡ On d → CursorFits file d
   unfolding stepOf

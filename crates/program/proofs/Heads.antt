@@ -5,6 +5,7 @@ use mathlib.Core.List.{List}
 use native.Mathlib.Omega.{arith}
 use lib.ListN.{length}
 use borrow.Author.Tests.{lt-ltb, le-ltb}
+use Rattle.answers.specs.Numbers as fault
 use Rattle.words.specs.Word.{wordAt}
 use Rattle.answers.specs.Tests.{pick}
 use Rattle.answers.specs.Refusals.{refusal}
@@ -14,7 +15,7 @@ use Rattle.program.specs.Cursors.{HeaderFits}
 use Rattle.program.proofs.Heading.{each-passes, is-2, is-size}
 
 module _ (file : List ℕ) (i n : ℕ) where
-  pub heads-short : 0 < n → length file < 4 * i + 4 → heads file i n ≡ Failed (refusal 31 (length file))
+  pub heads-short : 0 < n → length file < 4 * i + 4 → heads file i n ≡ Failed (refusal fault.earlyEnd (length file))
   unfolding heads pick
   heads-short p h = let e : n ≡ suc (n - 1) = omega arith in rw (e, lt-ltb _ _ h)
 
@@ -37,7 +38,7 @@ pub heads-none : (file : List ℕ) (i n : ℕ) → n ≤ 0 → heads file i n �
 unfolding heads
 heads-none file i n h = let e : n ≡ 0 = omega arith in rw e
 
--- ---- a sound header
+-- ---- a header that passed
 
 pub few-hunks : (file : List ℕ) → heads file 0 5 ≡ Passed → (20 ≤ length file) × (1 ≤ totalOf file) × (totalOf file ≤ 64)
 few-hunks file e =

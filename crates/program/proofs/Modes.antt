@@ -10,6 +10,7 @@ use lib.ListN.{length}
 use types.Run.{OneOf}
 use denote.Enum.Declared.{tagOf}
 use borrow.Author.Tests.{eq-eqb}
+use Rattle.answers.specs.Numbers as fault
 use Rattle.answers.specs.Tests.{pick}
 use Rattle.program.proofs.reader.Mode.{the-type}
 use Rattle.program.specs.declared.act.Act.{Act}
@@ -69,7 +70,7 @@ rest-quiet c at w = go (c .mode)
 abbrev missing : List ℕ
 missing = 0 ∷ 1 ∷ 2 ∷ 3 ∷ 4 ∷ 5 ∷ 6 ∷ 7 ∷ 8 ∷ 9 ∷ 10 ∷ 11 ∷ []
 
-pub rest-open : (end : ℕ) (c : Cursor) (m : Mode) → OneOf missing (tagOf the-type m) → refuse 31 end ≡ endedOf end c m
+pub rest-open : (end : ℕ) (c : Cursor) (m : Mode) → OneOf missing (tagOf the-type m) → refuse fault.earlyEnd end ≡ endedOf end c m
 unfolding pick
 rest-open end c End h = absurd (none missing 12 tt h)
 rest-open end c Begin h = refl

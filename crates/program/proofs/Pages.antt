@@ -8,6 +8,7 @@ use mathlib.Core.Bool.{Bool, true, false}
 use native.Mathlib.Omega.{arith}
 use lib.ListN.{length, length-map, getD}
 use borrow.Author.Tests.{eq-eqb, ne-eqb, eqb-true}
+use Rattle.program.specs.Types as type
 use Rattle.words.specs.Word.{wordAt, wordsAt}
 use Rattle.answers.specs.Tests.{pick}
 use Rattle.answers.specs.declared.Refusal.{Refusal}
@@ -163,7 +164,7 @@ accepted-read file t n e =
     record { whole = eqb-true (length file % 4) 0 (b .0); five = c .0; sized = d .0; hunks = d .1 }
 
 module _ (file : List ℕ) (t n : ℕ) (r : Read file t n) where
-  word-0 : wordAt file 0 ≡ 0x3F3
+  word-0 : wordAt file 0 ≡ type.header
   word-0 = is-0 (totalOf file) (wordAt file 0) (each-passes file 5 0 (r .five) 0 (omega arith) (omega arith) .1)
 
   word-1 : wordAt file 4 ≡ 0

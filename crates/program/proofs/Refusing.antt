@@ -10,6 +10,8 @@ use native.Mathlib.Decide.{decLt}
 use lib.Dec.{ltb, leb, eqb}
 use lib.ListN.{length}
 use borrow.Author.Tests.{eqb-true, eqb-false, ltb-true, ltb-false, leb-true, lt-ltb, le-ltb, le-leb, eq-eqb, ne-eqb}
+use Rattle.program.specs.Types as type
+use Rattle.answers.specs.Numbers as fault
 use Rattle.words.specs.Word.{wordAt}
 use Rattle.answers.specs.Tests.{pick}
 use Rattle.answers.specs.Refusals.{refusal}
@@ -67,7 +69,7 @@ heads-why file f (suc n) i w b e = long (ltb (length file) (4 * i + 4)) refl e (
         record { word = i; within = w i (omega arith) (omega arith); before = b; cause = inr (l, (λ z. omega (arith, q, z)), failed-same _ f x ∙ ap (λ u. refusal u (4 * i)) (sym q)) }
 
     long : (t : Bool) → ltb (length file) (4 * i + 4) ≡ t
-        → pick t (Failed (refusal 31 (length file))) (judge (faultAt file i) (4 * i) (heads file (i + 1) n)) ≡ Failed f
+        → pick t (Failed (refusal fault.earlyEnd (length file))) (judge (faultAt file i) (4 * i) (heads file (i + 1) n)) ≡ Failed f
         → (((j : ℕ) → j < i + 1 → HeadPasses file j) → heads file (i + 1) n ≡ Failed f → HeadWord file f) → HeadWord file f
     long true q x k = record { word = i; within = w i (omega arith) (omega arith); before = b; cause = inl (ltb-true _ _ q, failed-same _ f x) }
     long false q x k = wrong _ refl (ltb-false _ _ q) x k
@@ -110,7 +112,7 @@ module _ (file : List ℕ) (f : Refusal) where
   check-why e = empty (eqb (length file) 0) refl (eqb (length file % 4) 0) refl e
     where
       empty : (x : Bool) → eqb (length file) 0 ≡ x → (y : Bool) → eqb (length file % 4) 0 ≡ y
-          → pick x (refuse 30 0) (pick y (and (heads file 0 5) (and (heads file 5 (totalOf file)) (walkOf file))) (refuse 30 0)) ≡ Refused f → Because file f
+          → pick x (refuse fault.fileLength 0) (pick y (and (heads file 0 5) (and (heads file 5 (totalOf file)) (walkOf file))) (refuse fault.fileLength 0)) ≡ Refused f → Because file f
       empty true p y q e = inl (inl (eqb-true _ _ p), refused-same _ f e)
       empty false p false q e = inl (inr (eqb-false _ _ q), refused-same _ f e)
       empty false p true q e = all-why (eqb-false _ _ p, eqb-true _ _ q) (heads file 0 5) (heads file 5 (totalOf file)) refl refl e
@@ -156,7 +158,7 @@ module _ (file : List ℕ) (f : Refusal) where
       let r = comes-reads file (w .1) s (c .comes) in
       r .rest ∙ walk-end file (length file) (c .cursor) (omega arith) ∙ go (ended (length file) (c .cursor) (c .cursor .mode)) ∙ ap Refused (sym (c .said))
     where
-      go : Ends (length file) (c .cursor) (c .cursor .mode) → endedOf (length file) (c .cursor) (c .cursor .mode) ≡ refuse 31 (length file)
+      go : Ends (length file) (c .cursor) (c .cursor .mode) → endedOf (length file) (c .cursor) (c .cursor .mode) ≡ refuse fault.earlyEnd (length file)
       go (inl x) = absurd (c .unended (x .0))
       go (inr x) = x .1
 
@@ -176,12 +178,12 @@ module _ (file : List ℕ) (f : Refusal) where
   unfolding checkOf pick
   why-check (inl u) = short (u .0) ∙ ap Refused (sym (u .1))
     where
-      short : BadLength file → checkOf file ≡ refuse 30 0
+      short : BadLength file → checkOf file ≡ refuse fault.fileLength 0
       short (inl h) = rw (eq-eqb _ _ h)
       short (inr h) = go (eqb (length file) 0)
         where
           go : (b : Bool)
-              → pick b (refuse 30 0) (pick (eqb (length file % 4) 0) (and (heads file 0 5) (and (heads file 5 (totalOf file)) (walkOf file))) (refuse 30 0)) ≡ refuse 30 0
+              → pick b (refuse fault.fileLength 0) (pick (eqb (length file % 4) 0) (and (heads file 0 5) (and (heads file 5 (totalOf file)) (walkOf file))) (refuse fault.fileLength 0)) ≡ refuse fault.fileLength 0
           go true = refl
           go false = rw (ne-eqb _ _ h)
   why-check (inr (inl c)) = whole-check (c .0) ∙ head-refuses (c .1)
@@ -200,57 +202,57 @@ module _ (t : ℕ) (size : ℕ → ℕ) (c : Cursor) (w v : ℕ) where
   both-on true x y e = on-bad x v e
   both-on false x y e = on-bad y v e
 
-  body-why : bodyOf c w ≡ Bad v → (v ≡ 35) × (w ≢ 0x3E9) × (w ≢ 0x3EA) × (w ≢ 0x3EB)
+  body-why : bodyOf c w ≡ Bad v → (v ≡ fault.misplacedBlock) × (w ≢ type.code) × (w ≢ type.stores) × (w ≢ type.bss)
   body-why =
-      pick-on (eqb w 0x3E9) (on c (Length w)) _ (Bad v) (λ _. on-bad _ v)
-      (λ p. pick-on (eqb w 0x3EA) (on c (Length w)) _ (Bad v) (λ _. on-bad _ v)
-      (λ q. pick-on (eqb w 0x3EB) (on c (Length w)) (Bad 35) (Bad v) (λ _. on-bad _ v)
-      (λ r e. (bad-same 35 v e, eqb-false _ _ p, eqb-false _ _ q, eqb-false _ _ r))))
+      pick-on (eqb w type.code) (on c (Length w)) _ (Bad v) (λ _. on-bad _ v)
+      (λ p. pick-on (eqb w type.stores) (on c (Length w)) _ (Bad v) (λ _. on-bad _ v)
+      (λ q. pick-on (eqb w type.bss) (on c (Length w)) (Bad fault.misplacedBlock) (Bad v) (λ _. on-bad _ v)
+      (λ r e. (bad-same fault.misplacedBlock v e, eqb-false _ _ p, eqb-false _ _ q, eqb-false _ _ r))))
 
   turn-why : (m : Mode) → turn t size c w m ≡ Bad v → Refuses t size c w v m
   turn-why Begin =
-      pick-on (eqb w 0x3E8) (on c NameLength) (bodyOf c w) (Bad v) (λ _. on-bad _ v)
+      pick-on (eqb w type.name) (on c NameLength) (bodyOf c w) (Bad v) (λ _. on-bad _ v)
       (λ p e. let b = body-why e in (b .0, eqb-false _ _ p, b .1, b .2, b .3))
   turn-why NameLength = λ e. both-on (eqb w 0) _ _ e
   turn-why Body = λ e. body-why e
   turn-why (Length k) =
-      pick-on (ltb (size (c .hunk)) w) (Bad 36) _ (Bad v) (λ p e. (bad-same 36 v e, ltb-true _ _ p)) (λ p e. both-on _ _ _ e)
+      pick-on (ltb (size (c .hunk)) w) (Bad fault.bodyLength) _ (Bad v) (λ p e. (bad-same fault.bodyLength v e, ltb-true _ _ p)) (λ p e. both-on _ _ _ e)
   turn-why (Stored i) = λ e. both-on _ _ _ e
   turn-why Part =
-      pick-on (eqb w 0x3EC) (on c Count) _ (Bad v) (λ _. on-bad _ v)
-      (λ p. pick-on (eqb w 0x3F0) (on c Symbol) _ (Bad v) (λ _. on-bad _ v)
-      (λ q. pick-on (eqb w 0x3F1) (on c DebugLength) _ (Bad v) (λ _. on-bad _ v)
-      (λ r. pick-on (eqb w 0x3F2) (endOf t size c) (Bad 35) (Bad v) (λ _. on-bad _ v)
-      (λ s e. (bad-same 35 v e, eqb-false _ _ p, eqb-false _ _ q, eqb-false _ _ r, eqb-false _ _ s)))))
+      pick-on (eqb w type.relocation) (on c Count) _ (Bad v) (λ _. on-bad _ v)
+      (λ p. pick-on (eqb w type.symbols) (on c Symbol) _ (Bad v) (λ _. on-bad _ v)
+      (λ q. pick-on (eqb w type.debug) (on c DebugLength) _ (Bad v) (λ _. on-bad _ v)
+      (λ r. pick-on (eqb w type.end) (endOf t size c) (Bad fault.misplacedBlock) (Bad v) (λ _. on-bad _ v)
+      (λ s e. (bad-same fault.misplacedBlock v e, eqb-false _ _ p, eqb-false _ _ q, eqb-false _ _ r, eqb-false _ _ s)))))
   turn-why Count = λ e. both-on _ _ _ e
-  turn-why (Number n) = pick-on (ltb w t) (on c (Offset n w)) (Bad 38) (Bad v) (λ _. on-bad _ v) (λ p e. (bad-same 38 v e, ltb-false _ _ p))
+  turn-why (Number n) = pick-on (ltb w t) (on c (Offset n w)) (Bad fault.badTarget) (Bad v) (λ _. on-bad _ v) (λ p e. (bad-same fault.badTarget v e, ltb-false _ _ p))
   turn-why (Offset n k) =
-      pick-on (eqb (w % 2) 0) _ (Bad 38) (Bad v)
-      (λ _. pick-on (ltb (4 * c .stored) (w + 4)) (Bad 38) _ (Bad v) (λ p e. (bad-same 38 v e, inr (ltb-true _ _ p))) (λ p e. both-on _ _ _ e))
-      (λ p e. (bad-same 38 v e, inl (eqb-false _ _ p)))
+      pick-on (eqb (w % 2) 0) _ (Bad fault.badTarget) (Bad v)
+      (λ _. pick-on (ltb (4 * c .stored) (w + 4)) (Bad fault.badTarget) _ (Bad v) (λ p e. (bad-same fault.badTarget v e, inr (ltb-true _ _ p))) (λ p e. both-on _ _ _ e))
+      (λ p e. (bad-same fault.badTarget v e, inl (eqb-false _ _ p)))
   turn-why Symbol =
       pick-on (eqb w 0) (on c Part) _ (Bad v) (λ _. on-bad _ v)
-      (λ _. pick-on (leb 0x1000000 w) (Bad 37) _ (Bad v) (λ p e. (bad-same 37 v e, leb-true _ _ p)) (λ _. on-bad _ v))
+      (λ _. pick-on (leb 0x1000000 w) (Bad fault.symbolType) _ (Bad v) (λ p e. (bad-same fault.symbolType v e, leb-true _ _ p)) (λ _. on-bad _ v))
   turn-why DebugLength = λ e. both-on _ _ _ e
   turn-why (Skip n a) = λ e. both-on _ _ _ e
-  turn-why End = λ e. bad-same 39 v e
+  turn-why End = λ e. bad-same fault.trailingWords v e
 
-  body-refused : v ≡ 35 → w ≢ 0x3E9 → w ≢ 0x3EA → w ≢ 0x3EB → bodyOf c w ≡ Bad v
+  body-refused : v ≡ fault.misplacedBlock → w ≢ type.code → w ≢ type.stores → w ≢ type.bss → bodyOf c w ≡ Bad v
   unfolding pick
-  body-refused e p q r = rw (ne-eqb w 0x3E9 p, ne-eqb w 0x3EA q, ne-eqb w 0x3EB r, e)
+  body-refused e p q r = rw (ne-eqb w type.code p, ne-eqb w type.stores q, ne-eqb w type.bss r, e)
 
   -- the same from right to left
   why-turn : (m : Mode) → Refuses t size c w v m → turn t size c w m ≡ Bad v
   unfolding pick
-  why-turn Begin h = rw (ne-eqb w 0x3E8 (h .1)) (body-refused (h .0) (h .2) (h .3) (h .4))
+  why-turn Begin h = rw (ne-eqb w type.name (h .1)) (body-refused (h .0) (h .2) (h .3) (h .4))
   why-turn Body h = body-refused (h .0) (h .1) (h .2) (h .3)
   why-turn (Length k) h = rw (lt-ltb _ _ (h .1), h .0)
-  why-turn Part h = rw (ne-eqb w 0x3EC (h .1), ne-eqb w 0x3F0 (h .2), ne-eqb w 0x3F1 (h .3), ne-eqb w 0x3F2 (h .4), h .0)
+  why-turn Part h = rw (ne-eqb w type.relocation (h .1), ne-eqb w type.symbols (h .2), ne-eqb w type.debug (h .3), ne-eqb w type.end (h .4), h .0)
   why-turn (Number n) h = rw (le-ltb _ _ (h .1), h .0)
   why-turn (Offset n k) h = go (eqb (w % 2) 0) refl (h .1)
     where
       go : (b : Bool) → eqb (w % 2) 0 ≡ b → (w % 2 ≢ 0) ⊎ (4 * c .stored < w + 4)
-          → pick b (pick (ltb (4 * c .stored) (w + 4)) (Bad 38) (pick (eqb n 0) (on c Count) (on c (Offset (n - 1) k)))) (Bad 38) ≡ Bad v
+          → pick b (pick (ltb (4 * c .stored) (w + 4)) (Bad fault.badTarget) (pick (eqb n 0) (on c Count) (on c (Offset (n - 1) k)))) (Bad fault.badTarget) ≡ Bad v
       go false q x = ap Bad (sym (h .0))
       go true q (inl x) = absurd (x (eqb-true _ _ q))
       go true q (inr x) = rw (lt-ltb _ _ x, h .0)
@@ -325,7 +327,7 @@ module _ (file : List ℕ) (whole : length file % 4 ≡ 0) (s : HeaderFits file)
               said = r .said;
             })
         go (inr k) =
-            let x : r .number ≡ 39 = subst (λ (c : Cursor). Refuses (totalOf file) (sizeOf file) c (wordAt file (r .at)) (r .number) (c .mode)) (sym (k .is)) why in
+            let x : r .number ≡ fault.trailingWords = subst (λ (c : Cursor). Refuses (totalOf file) (sizeOf file) c (wordAt file (r .at)) (r .number) (c .mode)) (sym (k .is)) why in
             inr (record { hunks = k .hunks; at = r .at; whole = k .whole; there = r .there; said = r .said ∙ ap (λ (n : ℕ). refusal n (r .at)) x })
 
     says-word : WrongWord file f ⊎ MoreWords file f → HunkWord file f
@@ -349,8 +351,8 @@ module _ (file : List ℕ) (whole : length file % 4 ≡ 0) (s : HeaderFits file)
           at = r .at;
           comes = whole-comes file (s .some) (r .hunks) (r .at) (r .whole);
           there = r .there;
-          number = 39;
-          refuses = step-why (totalOf file) (sizeOf file) c (wordAt file (r .at)) 39 .1 refl;
+          number = fault.trailingWords;
+          refuses = step-why (totalOf file) (sizeOf file) c (wordAt file (r .at)) fault.trailingWords .1 refl;
           said = r .said;
         }
 

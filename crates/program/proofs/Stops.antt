@@ -5,6 +5,7 @@ use mathlib.Core.Logic.{_≢_, _⊎_, inl, inr}
 use mathlib.Core.List.{List}
 use native.Mathlib.Omega.{arith}
 use lib.ListN.{length}
+use Rattle.answers.specs.Numbers as fault
 use Rattle.words.specs.Word.{wordAt}
 use Rattle.answers.specs.Refusals.{refusal}
 use Rattle.answers.specs.declared.Refusal.{Refusal}
@@ -27,7 +28,7 @@ use Rattle.program.proofs.Walks.{Reads, reads-start, reads-on, walk-on,
 
 abbrev pub Ends : ℕ → Cursor → Mode → Type 0
 Ends end c m =
-    ((m ≡ End) × (endedOf end c m ≡ Accepted (c .hunk) (c .place))) ⊎ ((m ≢ End) × (endedOf end c m ≡ refuse 31 end))
+    ((m ≡ End) × (endedOf end c m ≡ Accepted (c .hunk) (c .place))) ⊎ ((m ≢ End) × (endedOf end c m ≡ refuse fault.earlyEnd end))
 
 pub ended : (end : ℕ) (c : Cursor) (m : Mode) → Ends end c m
 ended end c End = inl (refl, refl)

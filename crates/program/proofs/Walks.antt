@@ -5,6 +5,7 @@ use mathlib.Core.List.{List, [], _∷_}
 use native.Mathlib.Omega.{arith}
 use lib.ListN.{length}
 use borrow.Author.Tests.{eq-eqb, ne-eqb}
+use Rattle.answers.specs.Numbers as fault
 use Rattle.words.specs.Word.{wordAt, wordsAt}
 use Rattle.answers.specs.Tests.{pick}
 use Rattle.answers.specs.declared.Refusal.{Refusal}
@@ -19,7 +20,6 @@ use Rattle.program.specs.Header.{totalOf, sizeOf, heads}
 use Rattle.program.specs.Reader.{start, stepOf}
 use Rattle.program.specs.Check.{refuse, endedOf, walk, wordsFrom, restOf, walkOf, checkOf}
 use Rattle.program.specs.Cursors.{HeaderFits, CursorFits}
-use Rattle.program.proofs.Heads.{header-fits}
 use Rattle.program.proofs.CursorsFit.{start-fits, step-fits}
 
 -- ---- the words that are left
@@ -73,15 +73,24 @@ reads-on file c at w r d i h l p q e =
       rest = i .rest ∙ walk-on file at c w r h (i .aligned) l p q d e;
     }
 
+-- ---- its returns
+
+module _ (file : List ℕ) (c : Cursor) (at : ℕ) (i : Reads file c at) (a : Answer) where
+  pub reads-bad : (w : ℕ) (r : Next) (v : ℕ) → length file % 4 ≡ 0 → at < length file → w ≡ wordAt file at → r ≡ stepOf (totalOf file) (sizeOf file) c w → r ≡ Bad v → a ≡ refuse v at → a ≡ walkOf file
+  reads-bad w r v h l p q e k = k ∙ sym (i .rest ∙ walk-bad file at c w r h (i .aligned) l p q v e)
+
+  pub reads-end : length file ≤ at → a ≡ endedOf (length file) c (c .mode) → a ≡ walkOf file
+  reads-end h k = k ∙ sym (i .rest ∙ walk-end file at c h)
+
 -- ---- the whole check
 
 module _ (file : List ℕ) where
-  pub check-empty : (r : Answer) → length file ≡ 0 → r ≡ refuse 30 0 → r ≡ checkOf file
+  pub check-empty : (r : Answer) → length file ≡ 0 → r ≡ refuse fault.fileLength 0 → r ≡ checkOf file
   unfolding checkOf pick
   check-empty r h e = rw (eq-eqb _ _ h) e
 
   module _ (some : length file ≡ 0 → ⊥) where
-    pub check-odd : (r : Answer) → (length file % 4 ≡ 0 → ⊥) → r ≡ refuse 30 0 → r ≡ checkOf file
+    pub check-odd : (r : Answer) → (length file % 4 ≡ 0 → ⊥) → r ≡ refuse fault.fileLength 0 → r ≡ checkOf file
     unfolding checkOf pick
     check-odd r h e = rw (ne-eqb _ _ some, ne-eqb _ _ h) e
 
@@ -94,9 +103,6 @@ module _ (file : List ℕ) where
         pub check-second : (f : Refusal) → b ≡ Failed f → Refused f ≡ checkOf file
         unfolding checkOf pick
         check-second f h = rw (ne-eqb _ _ some, eq-eqb _ _ whole, ← ea, fa, ← et, ← eb, h)
-
-        pub check-header : b ≡ Passed → HeaderFits file
-        check-header h = header-fits file (sym ea ∙ fa) (ap (heads file 5) (sym et) ∙ sym eb ∙ h)
 
         pub check-hunks : b ≡ Passed → (r : Answer) → r ≡ walkOf file → r ≡ checkOf file
         unfolding checkOf pick
