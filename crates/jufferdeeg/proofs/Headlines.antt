@@ -63,7 +63,7 @@ use Rattle.program.proofs.Pages as pages
 use Rattle.program.proofs.Refusing as faults
 use Rattle.loader.specs.Calls.{callRefusals, loadAnswer, moveAnswer}
 use Rattle.loader.specs.Memory.{amountOf, moved}
-use Rattle.loader.specs.Pages.{imageOf, fileTargets, Named, Adds, Outside, placedHunks}
+use Rattle.loader.specs.Pages.{imageOf, fileTargets, Named, Adds, Outside, withHunks}
 use Rattle.loader.specs.Verdicts.{Takes, CallWhy}
 use Rattle.loader.proofs.OneHunk as targets
 use Rattle.loader.proofs.PageVerdicts as verdicts
@@ -245,7 +245,7 @@ module _ (file m : List ℕ) (t : List Hunk) (w : List ℕ) (x n : ℕ) (m1 : Li
   move-words = calls.move-words file m t w x n m1 t1 w1
 
   -- outside the targets a load leaves the hunks' bytes, and after them what stood there; a move leaves every byte as it was
-  pub load-others : (bases : List ℕ) → Loads file bases m t w (Accepted x n) m1 t1 w1 → (hs : List paper.Hunk) → paper.Holds file hs → (k : ℕ) → Outside k (fileTargets hs) → getD m1 k 0 ≡ getD (placedHunks hs m) k 0
+  pub load-others : (bases : List ℕ) → Loads file bases m t w (Accepted x n) m1 t1 w1 → (hs : List paper.Hunk) → paper.Holds file hs → (k : ℕ) → Outside k (fileTargets hs) → getD m1 k 0 ≡ getD (withHunks hs m) k 0
   load-others = calls.load-others file m t w x n m1 t1 w1
 
   pub move-others-stay : (old new : List ℕ) → Moves file old new m t w (Accepted x n) m1 t1 w1 → (hs : List paper.Hunk) → paper.Holds file hs → (length m1 ≡ length m) × ((k : ℕ) → Outside k (fileTargets hs) → getD m1 k 0 ≡ getD m k 0)

@@ -24,49 +24,49 @@ use Rattle.program.specs.declared.reader.Next.the-variants.{On, Bad}
 use Rattle.program.specs.Header.{totalOf, sizeOf, startAt, heads}
 use Rattle.program.specs.Reader.{start, stepOf}
 use Rattle.program.specs.Check.{endedOf, next, walk, wordsFrom, and, checkOf}
-use Rattle.program.specs.Sane.{Sane, ModeFits, placeOf}
+use Rattle.program.specs.Cursors.{CursorFits, ModeFits, placeOf}
 use Rattle.program.proofs.Answers.{not-accepted}
-use Rattle.program.proofs.Heads.{sound-header}
-use Rattle.program.proofs.Sanes.{step-sane, start-sane}
+use Rattle.program.proofs.Heads.{header-fits}
+use Rattle.program.proofs.CursorsFit.{step-fits, start-fits}
 use Rattle.loader.specs.declared.calls.Outcome.{Outcome}
-use Rattle.loader.specs.Memory.{loadedOf, placed}
+use Rattle.loader.specs.Memory.{loadedOf, withStored}
 use Rattle.loader.specs.Bases.{basesFrom, basesFault}
 use Rattle.loader.specs.Near.{clashOf}
-use Rattle.loader.specs.Calls.{roomFault, also, lastTests, loadAnswer, moveAnswer, Fills, filledBy, filled, Good}
+use Rattle.loader.specs.Calls.{roomFault, also, lastTests, loadAnswer, moveAnswer, Fills, filledBy, filled, AcceptedFile}
 
 same-numbers : (a b t n : ℕ) → Accepted a b ≡ Accepted t n → (a ≡ t) × (b ≡ n)
 same-numbers a b t n h = ((cc), (cc))
 
 -- ---- an accepted walk ends after the last hunk
 
-record Whole (file : List ℕ) (t n : ℕ) : Type 0 where
+record OfAllHunks (file : List ℕ) (t n : ℕ) : Type 0 where
   hunks : t ≡ totalOf file
   bytes : n ≡ loadedOf file
 
 module _ (file : List ℕ) (t n : ℕ) where
-  ended-whole : (c : Cursor) (m : Mode) → c .place ≡ placeOf (sizeOf file) (c .hunk) → ModeFits (totalOf file) (c .hunk) (c .stored) m → endedOf (length file) c m ≡ Accepted t n → Whole file t n
-  ended-whole c mode.End p h e =
+  ended-all : (c : Cursor) (m : Mode) → c .place ≡ placeOf (sizeOf file) (c .hunk) → ModeFits (totalOf file) (c .hunk) (c .stored) m → endedOf (length file) c m ≡ Accepted t n → OfAllHunks file t n
+  ended-all c mode.End p h e =
       let q = same-numbers (c .hunk) (c .place) t n e in
       record { hunks = sym (q .0) ∙ h; bytes = sym (q .1) ∙ p ∙ ap (placeOf (sizeOf file)) h }
-  ended-whole c mode.Begin p h e = not-accepted e
-  ended-whole c mode.NameLength p h e = not-accepted e
-  ended-whole c mode.Body p h e = not-accepted e
-  ended-whole c (mode.Length k) p h e = not-accepted e
-  ended-whole c (mode.Stored i) p h e = not-accepted e
-  ended-whole c mode.Part p h e = not-accepted e
-  ended-whole c mode.Count p h e = not-accepted e
-  ended-whole c (mode.Number x) p h e = not-accepted e
-  ended-whole c (mode.Offset x y) p h e = not-accepted e
-  ended-whole c mode.Symbol p h e = not-accepted e
-  ended-whole c mode.DebugLength p h e = not-accepted e
-  ended-whole c (mode.Skip x a) p h e = not-accepted e
+  ended-all c mode.Begin p h e = not-accepted e
+  ended-all c mode.NameLength p h e = not-accepted e
+  ended-all c mode.Body p h e = not-accepted e
+  ended-all c (mode.Length k) p h e = not-accepted e
+  ended-all c (mode.Stored i) p h e = not-accepted e
+  ended-all c mode.Part p h e = not-accepted e
+  ended-all c mode.Count p h e = not-accepted e
+  ended-all c (mode.Number x) p h e = not-accepted e
+  ended-all c (mode.Offset x y) p h e = not-accepted e
+  ended-all c mode.Symbol p h e = not-accepted e
+  ended-all c mode.DebugLength p h e = not-accepted e
+  ended-all c (mode.Skip x a) p h e = not-accepted e
 
-  walk-whole : (at : ℕ) (c : Cursor) (ws : List ℕ) → Sane file c → walk (totalOf file) (sizeOf file) (length file) at c ws ≡ Accepted t n → Whole file t n
+  walk-all : (at : ℕ) (c : Cursor) (ws : List ℕ) → CursorFits file c → walk (totalOf file) (sizeOf file) (length file) at c ws ≡ Accepted t n → OfAllHunks file t n
   unfolding walk
-  walk-whole at c [] s e = ended-whole c (c .mode) (s .placed) (s .mode) e
-  walk-whole at c (w ∷ ws) s e = go (stepOf (totalOf file) (sizeOf file) c w) refl e (λ d x y. walk-whole (at + 4) d ws (step-sane file c w d s x) y)
+  walk-all at c [] s e = ended-all c (c .mode) (s .place) (s .mode) e
+  walk-all at c (w ∷ ws) s e = go (stepOf (totalOf file) (sizeOf file) c w) refl e (λ d x y. walk-all (at + 4) d ws (step-fits file c w d s x) y)
     where
-      go : (r : Next) → stepOf (totalOf file) (sizeOf file) c w ≡ r → next r at (λ d. walk (totalOf file) (sizeOf file) (length file) (at + 4) d ws) ≡ Accepted t n → ((d : Cursor) → stepOf (totalOf file) (sizeOf file) c w ≡ On d → walk (totalOf file) (sizeOf file) (length file) (at + 4) d ws ≡ Accepted t n → Whole file t n) → Whole file t n
+      go : (r : Next) → stepOf (totalOf file) (sizeOf file) c w ≡ r → next r at (λ d. walk (totalOf file) (sizeOf file) (length file) (at + 4) d ws) ≡ Accepted t n → ((d : Cursor) → stepOf (totalOf file) (sizeOf file) c w ≡ On d → walk (totalOf file) (sizeOf file) (length file) (at + 4) d ws ≡ Accepted t n → OfAllHunks file t n) → OfAllHunks file t n
       go (On d) x y f = f d x y
       go (Bad v) x y f = not-accepted y
 
@@ -84,15 +84,15 @@ module _ (file : List ℕ) (t n : ℕ) where
   and-so Passed a h = (refl, h)
   and-so (Failed r) a h = not-accepted h
 
-  pub checked : checkOf file ≡ Accepted t n → Good file t n
+  pub checked : checkOf file ≡ Accepted t n → AcceptedFile file t n
   unfolding checkOf
   checked h =
       let a = pick-so (eqb (length file % 4) 0) (refusal 30 0) _ (pick-not (eqb (length file) 0) (refusal 30 0) _ h) in
       let b = and-so (heads file 0 5) _ (a .1) in
       let c = and-so (heads file 5 (totalOf file)) _ (b .1) in
-      let s = sound-header file (b .0) (c .0) in
-      let w = walk-whole (startAt file) start (wordsFrom file (startAt file)) (start-sane file s) (c .1) in
-      record { sound = s; even = eqb-true _ _ (a .0); hunks = w .hunks; bytes = w .bytes }
+      let s = header-fits file (b .0) (c .0) in
+      let w = walk-all (startAt file) start (wordsFrom file (startAt file)) (start-fits file s) (c .1) in
+      record { header = s; whole = eqb-true _ _ (a .0); hunks = w .hunks; bytes = w .bytes }
 
 -- ---- further tests
 
@@ -124,7 +124,7 @@ bases-passed file bases from h = go (eqb (length bases) (totalOf file)) refl h
 
 -- ---- room and near targets, in code
 
-module _ (file : List ℕ) (a : Answer) (t n m tb w : ℕ) (ea : a ≡ Accepted t n) (g : Good file t n) (h : Tested) (eh : h ≡ roomFault t n m tb w) where
+module _ (file : List ℕ) (a : Answer) (t n m tb w : ℕ) (ea : a ≡ Accepted t n) (g : AcceptedFile file t n) (h : Tested) (eh : h ≡ roomFault t n m tb w) where
   room-same : h ≡ roomFault (totalOf file) (loadedOf file) m tb w
   room-same = eh ∙ ap (λ x. roomFault x n m tb w) (g .hunks) ∙ ap (λ x. roomFault (totalOf file) x m tb w) (g .bytes)
 
@@ -163,7 +163,7 @@ module _ (file old new : List ℕ) (m tb w : ℕ) (v : Answer) (ev : v ≡ check
 -- ---- what an accepted call has
 
 pub record LoadFacts (file bases : List ℕ) (m tb w t n : ℕ) : Type 0 where
-  pub file-good : Good file t n
+  pub file-accepted : AcceptedFile file t n
   pub bases-good : basesFault file bases 0 ≡ Passed
   pub count : length bases ≡ totalOf file
   pub fits : loadedOf file ≤ m
@@ -177,7 +177,7 @@ load-with file bases m tb w t n v f h =
     let b = also-so _ (roomFault (totalOf file) (loadedOf file) m tb w) t n (a .0) in
     let c = f (b .0) in
     let r = room-passed _ _ m tb w (b .1) in
-    record { file-good = checked file t n (c .0); bases-good = c .1; count = bases-passed file bases 0 (c .1); fits = r .0; records = r .1; works = r .2; apart = a .1 }
+    record { file-accepted = checked file t n (c .0); bases-good = c .1; count = bases-passed file bases 0 (c .1); fits = r .0; records = r .1; works = r .2; apart = a .1 }
 
 pub load-facts : (file bases : List ℕ) (m tb w t n : ℕ) (r : Answer) → r ≡ loadAnswer file bases m tb w → r ≡ Accepted t n → LoadFacts file bases m tb w t n
 unfolding loadAnswer

@@ -179,7 +179,7 @@ module _ (file bases : List ℕ) where
   fine-good : (i : ℕ) → entryBad file bases i ≡ false → GoodEntry (sizeOf file) bases i
   fine-good i h =
       record {
-        multiple = even (eqb (amountOf bases i % 4) 0) refl;
+        multiple = multiple (eqb (amountOf bases i % 4) 0) refl;
         below = low (decLt (2 ^ 32) (amountOf bases i + 4 * sizeOf file i));
         alone = λ j l s. fine (inr (inr (j, l, s)));
       }
@@ -187,9 +187,9 @@ module _ (file bases : List ℕ) where
       fine : BadEntry (sizeOf file) bases i → ⊥
       fine w = no-bool (sym h ∙ entry-back i w)
 
-      even : (b : Bool) → eqb (amountOf bases i % 4) 0 ≡ b → amountOf bases i % 4 ≡ 0
-      even true e = eqb-true _ _ e
-      even false e = absurd (fine (inl (eqb-false _ _ e)))
+      multiple : (b : Bool) → eqb (amountOf bases i % 4) 0 ≡ b → amountOf bases i % 4 ≡ 0
+      multiple true e = eqb-true _ _ e
+      multiple false e = absurd (fine (inl (eqb-false _ _ e)))
 
       low : Dec (2 ^ 32 < amountOf bases i + 4 * sizeOf file i) → amountOf bases i + 4 * sizeOf file i ≤ 2 ^ 32
       low (yes a) = absurd (fine (inr (inl a)))

@@ -43,14 +43,14 @@ module _ (file bases : List ℕ) (i : ℕ) where
   unfolding entryBad pick
   entry-odd h = rw (ne-eqb _ _ h)
 
-  module _ (even : amountOf bases i % 4 ≡ 0) (t : ℕ) (et : t ≡ topOf file bases i) where
+  module _ (multiple : amountOf bases i % 4 ≡ 0) (t : ℕ) (et : t ≡ topOf file bases i) where
     pub entry-high : 2 ^ 32 < t → true ≡ entryBad file bases i
     unfolding entryBad pick
-    entry-high h = rw (eq-eqb _ _ even, ← et, lt-ltb _ _ h)
+    entry-high h = rw (eq-eqb _ _ multiple, ← et, lt-ltb _ _ h)
 
     pub entry-low : t ≤ 2 ^ 32 → (r : Bool) → r ≡ shares file bases i i → r ≡ entryBad file bases i
     unfolding entryBad pick
-    entry-low h r e = e ∙ rw (eq-eqb _ _ even, ← et, le-ltb _ _ h)
+    entry-low h r e = e ∙ rw (eq-eqb _ _ multiple, ← et, le-ltb _ _ h)
 
 module _ (file bases : List ℕ) (from : ℕ) where
   pub count-bad : (t : ℕ) → t ≡ totalOf file → (length bases ≡ t → ⊥) → Failed (refusal 40 from) ≡ basesFault file bases from

@@ -27,15 +27,15 @@ use Rattle.program.specs.declared.reader.Next.the-variants.{On, Bad}
 use Rattle.program.specs.Header.{totalOf, sizeOf}
 use Rattle.program.specs.Reader.{start, stepOf}
 use Rattle.program.specs.Acts.{asks, actOf, actsFrom}
-use Rattle.program.specs.Sane.{Sound}
+use Rattle.program.specs.Cursors.{HeaderFits}
 use Rattle.program.specs.Runs.{Leads}
 use Rattle.program.proofs.Modes.{none}
 use Rattle.program.proofs.Walks.{Reads, reads-start, reads-on}
 use Rattle.program.proofs.Passes.{acts-on, acts-bad, acts-end}
 use Rattle.program.proofs.Runs.{leads-reads, leads-acts}
 use Rattle.loader.specs.Memory.{ActFits, targets}
-use Rattle.loader.specs.Near.{near, nearAny, clash, clashOf, marks1, Marks}
-use Rattle.loader.proofs.Acts.{calm-target}
+use Rattle.loader.specs.Near.{near, nearAny, clash, clashOf, marksOne, Marks}
+use Rattle.loader.proofs.Acts.{quiet-target}
 
 -- ---- one act
 
@@ -47,10 +47,10 @@ mark-rest m (Store p w) h = record { marks = (refl, refl) }
 mark-rest m (Add p k b) h = absurd (none (0 ∷ 1 ∷ 2 ∷ []) 3 tt h)
 
 pub mark-met : (m : List ℕ) (a : Act) (p k b w : ℕ) → a ≡ Add p k b → w ≡ wordAt m p → (w ≡ 0 → ⊥) → Marks m a true m
-mark-met m a p k b w e q h = record { marks = subst (λ (x : Act). marks1 m x true m) (sym e) ((λ z. h (q ∙ z)), refl) }
+mark-met m a p k b w e q h = record { marks = subst (λ (x : Act). marksOne m x true m) (sym e) ((λ z. h (q ∙ z)), refl) }
 
 pub mark-new : (m n : List ℕ) (a : Act) (p k b w : ℕ) → a ≡ Add p k b → w ≡ wordAt m p → w ≡ 0 → n ≡ setWord m p 0x01010101 → Marks m a false n
-mark-new m n a p k b w e q h s = record { marks = subst (λ (x : Act). marks1 m x false n) (sym e) (sym q ∙ h, s) }
+mark-new m n a p k b w e q h s = record { marks = subst (λ (x : Act). marksOne m x false n) (sym e) (sym q ∙ h, s) }
 
 pub length-mark : (m n : List ℕ) (a : Act) (r : Bool) → Marks m a r n → length n ≡ length m
 length-mark m n Quiet r h = ap length (h .marks .1)
@@ -185,14 +185,14 @@ pub record Clashes (file work : List ℕ) (c : Cursor) (at : ℕ) : Type 0 where
   pub marked : Marked work seen
   pub left : clashOf file ≡ clash seen (targets (actsFrom file at c))
 
-pub clash-start : (file work : List ℕ) (c : Cursor) (at t : ℕ) → Sound file → c ≡ start → t ≡ totalOf file → at ≡ 20 + 4 * t → ((k : ℕ) → getD work k 0 ≡ 0) → Clashes file work c at
+pub clash-start : (file work : List ℕ) (c : Cursor) (at t : ℕ) → HeaderFits file → c ≡ start → t ≡ totalOf file → at ≡ 20 + 4 * t → ((k : ℕ) → getD work k 0 ≡ 0) → Clashes file work c at
 clash-start file work c at t s e k h z =
     record { reads = reads-start file c at t s e k h; seen = []; marked = record { set1 = λ k l s. absurd s; set0 = λ k o. z k }; left = rw (e, h, k) }
 
 -- words that ask for no target leave the rest as it is
 pub clash-past : (file work : List ℕ) {c d : Cursor} {at to : ℕ} → length file % 4 ≡ 0 → Clashes file work c at → Leads file c at d to → Clashes file work d to
 clash-past file work h i k =
-    record { reads = leads-reads file h k (i .reads); seen = i .seen; marked = i .marked; left = i .left ∙ ap (clash (i .seen)) (leads-acts targets file calm-target h k (i .reads)) }
+    record { reads = leads-reads file h k (i .reads); seen = i .seen; marked = i .marked; left = i .left ∙ ap (clash (i .seen)) (leads-acts targets file quiet-target h k (i .reads)) }
 
 -- an offset names its own byte
 abbrev byteOf : Act → ℕ → ℕ
@@ -226,7 +226,7 @@ unfolding actOf
 act-byte c at w a e = ap (λ (x : Act). byteOf x at) e ∙ own-byte c at w (c .mode)
 
 module _ (file work : List ℕ) (c : Cursor) (at : ℕ) (i : Clashes file work c at) where
-  met : (us : List Act) (n : List ℕ) (a : Act) (b : Bool) → byteOf a at ≡ at → ActFits (length work) 64 a → marks1 work a b n → b ≡ true → clash (i .seen) (targets (a ∷ us)) ≡ Failed (refusal 42 at)
+  met : (us : List Act) (n : List ℕ) (a : Act) (b : Bool) → byteOf a at ≡ at → ActFits (length work) 64 a → marksOne work a b n → b ≡ true → clash (i .seen) (targets (a ∷ us)) ≡ Failed (refusal 42 at)
   unfolding clash targets pick
   met us n Quiet b y f k e = no-bool (sym (k .0) ∙ e)
   met us n (Body x p z) b y f k e = no-bool (sym (k .0) ∙ e)
@@ -234,7 +234,7 @@ module _ (file work : List ℕ) (c : Cursor) (at : ℕ) (i : Clashes file work c
   met us n (Add p x z) false y f k e = no-bool e
   met us n (Add p x z) true y f k e = rw (near-word work (i .seen) (i .marked) p (f .0) (k .0), y)
 
-  went : (d : Cursor) (n : List ℕ) (a : Act) (b : Bool) → Reads file d (at + 4) → ActFits (length work) 64 a → marks1 work a b n → b ≡ false → clashOf file ≡ clash (i .seen) (targets (a ∷ actsFrom file (at + 4) d)) → Clashes file n d (at + 4)
+  went : (d : Cursor) (n : List ℕ) (a : Act) (b : Bool) → Reads file d (at + 4) → ActFits (length work) 64 a → marksOne work a b n → b ≡ false → clashOf file ≡ clash (i .seen) (targets (a ∷ actsFrom file (at + 4) d)) → Clashes file n d (at + 4)
   unfolding clash targets pick
   went d n Quiet b r f k y e = record { reads = r; seen = i .seen; marked = rw (k .1) (i .marked); left = e }
   went d n (Body x p z) b r f k y e = record { reads = r; seen = i .seen; marked = rw (k .1) (i .marked); left = e }

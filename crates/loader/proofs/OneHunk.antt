@@ -72,7 +72,7 @@ place-most (h ∷ hs) (suc i) = omega (arith, place-most hs i)
 
 module _ (file : List ℕ) (places sizes : ℕ → ℕ) where
   abbrev Stands : PageTarget → Type 0
-  Stands x = (x .place ≡ places (x .hunk) + wordAt file (x .byte)) × (wordAt file (x .byte) + 4 ≤ 4 * sizes (x .hunk))
+  Stands x = (x .loadedAt ≡ places (x .hunk) + wordAt file (x .byte)) × (wordAt file (x .byte) + 4 ≤ 4 * sizes (x .hunk))
 
   module _ (t n i p : ℕ) (ep : places i ≡ p) (en : n ≤ sizes i) where
     offsets-stand : (k : ℕ) (os rest : List ℕ) (at m : ℕ) → Each (OffsetFits n) os → wordsAt file at m ≡ os ++ rest → Each Stands (offsetsAt i p k at os)
@@ -135,18 +135,18 @@ module _ (file : List ℕ) (hs : List Hunk) (held : Holds file hs) where
   -- The file's word at a target's byte is its offset in its hunk.
   pub targets-named : Each (Named file hs) (fileTargets hs)
   targets-named =
-      let q : startAt file ≡ 20 + 4 * length hs = omega (arith, is-total file hs (held .fits) (held .even) (held .words)) in
-      let e = rest-words file hs (held .fits) (held .even) (held .words) in
-      each-more (Stands file (hunkPlace hs) (sizeAt hs)) (Named file hs) (fileTargets hs) (λ x a. record { place = a .0; within = a .1 })
+      let q : startAt file ≡ 20 + 4 * length hs = omega (arith, is-total file hs (held .fits) (held .whole) (held .words)) in
+      let e = rest-words file hs (held .fits) (held .whole) (held .words) in
+      each-more (Stands file (hunkPlace hs) (sizeAt hs)) (Named file hs) (fileTargets hs) (λ x a. record { loadedAt = a .0; within = a .1 })
       (hunks-stand file (hunkPlace hs) (sizeAt hs) (length hs) hs 0 0 (20 + 4 * length hs) ((length file - startAt file) / 4) (held .fits .hunks) (λ k. let y : 0 + k ≡ k = omega arith in rw y (omega arith)) (λ k. let y : 0 + k ≡ k = omega arith in rw y) (rw (← q) e))
 
   module _ (x y : PageTarget) (a : Named file hs x) (b : Named file hs y) where
     -- a target of an earlier hunk stands before one of a later hunk
-    in-order : x .hunk < y .hunk → x .place + 4 ≤ y .place
-    in-order l = omega (arith, a .place, a .within, b .place, place-next hs (x .hunk), place-up hs (suc (x .hunk)) (y .hunk) (omega arith))
+    in-order : x .hunk < y .hunk → x .loadedAt + 4 ≤ y .loadedAt
+    in-order l = omega (arith, a .loadedAt, a .within, b .loadedAt, place-next hs (x .hunk), place-up hs (suc (x .hunk)) (y .hunk) (omega arith))
 
   -- Targets that are near are of one hunk.
-  pub near-one-hunk : (x y : PageTarget) → Named file hs x → Named file hs y → x .place < y .place + 4 → y .place < x .place + 4 → x .hunk ≡ y .hunk
+  pub near-one-hunk : (x y : PageTarget) → Named file hs x → Named file hs y → x .loadedAt < y .loadedAt + 4 → y .loadedAt < x .loadedAt + 4 → x .hunk ≡ y .hunk
   near-one-hunk x y a b u v = go (decLt (x .hunk) (y .hunk)) (decLt (y .hunk) (x .hunk))
     where
       go : Dec (x .hunk < y .hunk) → Dec (y .hunk < x .hunk) → x .hunk ≡ y .hunk
@@ -155,7 +155,7 @@ module _ (file : List ℕ) (hs : List Hunk) (held : Holds file hs) where
       go (no l) (no k) = omega (arith, l, k)
 
   -- all targets lie in the hunks
-  pub page-within : Each (λ x. x .place + 4 ≤ 4 * total hs) (fileTargets hs)
+  pub page-within : Each (λ x. x .loadedAt + 4 ≤ 4 * total hs) (fileTargets hs)
   page-within =
-      each-more (Named file hs) (λ x. x .place + 4 ≤ 4 * total hs) (fileTargets hs)
-      (λ x a. omega (arith, a .place, a .within, place-next hs (x .hunk), place-most hs (suc (x .hunk)))) targets-named
+      each-more (Named file hs) (λ x. x .loadedAt + 4 ≤ 4 * total hs) (fileTargets hs)
+      (λ x a. omega (arith, a .loadedAt, a .within, place-next hs (x .hunk), place-most hs (suc (x .hunk)))) targets-named

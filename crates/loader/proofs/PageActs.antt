@@ -49,7 +49,7 @@ storing p i (w ∷ ws) l = act.Store (p + 4 * i) w ∷ storing p (i + 1) ws l
 -- targets, then l
 abbrev pub adding : List PageTarget → List Act → List Act
 adding [] l = l
-adding (x ∷ xs) l = act.Add (x .place) (x .named) (x .byte) ∷ adding xs l
+adding (x ∷ xs) l = act.Add (x .loadedAt) (x .named) (x .byte) ∷ adding xs l
 
 -- hunk h at byte p, from byte `at` of the file on, then l
 abbrev pub hunkActs : ℕ → ℕ → ℕ → Hunk → List Act → List Act
@@ -62,7 +62,7 @@ pageActs h p at (x ∷ xs) = hunkActs h p at x (pageActs (h + 1) (p + 4 * x .siz
 
 adding-append : (xs ys : List PageTarget) (l : List Act) → adding (xs ++ ys) l ≡ adding xs (adding ys l)
 adding-append [] ys l = refl
-adding-append (x ∷ xs) ys l = ap (λ (k : List Act). act.Add (x .place) (x .named) (x .byte) ∷ k) (adding-append xs ys l)
+adding-append (x ∷ xs) ys l = ap (λ (k : List Act). act.Add (x .loadedAt) (x .named) (x .byte) ∷ k) (adding-append xs ys l)
 
 -- ---- the reader, piece by piece: a piece stands at byte `at`, and what follows it at byte `to`
 
@@ -234,8 +234,8 @@ module _ (t : ℕ) (size : ℕ → ℕ) where
 -- what such a file asks for
 pub page-acts : (file : List ℕ) (hs : List Hunk) → Program hs → length file % 4 ≡ 0 → wordsAt file 0 (length file / 4) ≡ written hs → plain (actsOf file) ≡ pageActs 0 0 (20 + 4 * length hs) hs
 unfolding pick
-page-acts file hs p even e =
-    let l : 0 ≡ totalOf file → ⊥ = λ z. omega (arith, is-total file hs p even e, p .least) in
-    let g = hunks-on (totalOf file) (sizeOf file) hs 0 0 (startAt file) (all-sized file hs p even e) in
-    let q : startAt file ≡ 20 + 4 * length hs = omega (arith, is-total file hs p even e) in
-    rw (rest-words file hs p even e) (rw (ne-eqb 0 (totalOf file) l) at g) ∙ ap (λ (k : ℕ). pageActs 0 0 k hs) q
+page-acts file hs p whole e =
+    let l : 0 ≡ totalOf file → ⊥ = λ z. omega (arith, is-total file hs p whole e, p .least) in
+    let g = hunks-on (totalOf file) (sizeOf file) hs 0 0 (startAt file) (all-sized file hs p whole e) in
+    let q : startAt file ≡ 20 + 4 * length hs = omega (arith, is-total file hs p whole e) in
+    rw (rest-words file hs p whole e) (rw (ne-eqb 0 (totalOf file) l) at g) ∙ ap (λ (k : ℕ). pageActs 0 0 k hs) q

@@ -49,12 +49,12 @@ sized-at t size (x ∷ xs) h (suc i) f l =
 module _ (file : List ℕ) (hs : List Hunk) (held : Holds file hs) where
   -- the header has the number and the sizes of the hunks
   pub held-total : totalOf file ≡ length hs
-  held-total = is-total file hs (held .fits) (held .even) (held .words)
+  held-total = is-total file hs (held .fits) (held .whole) (held .words)
 
   pub held-size : (i : ℕ) → i < length hs → sizeOf file i ≡ sizeAt hs i
   held-size i l =
       let z : 0 + i ≡ i = omega arith in
-      ap (sizeOf file) (sym z) ∙ sized-at (totalOf file) (sizeOf file) hs 0 i (all-sized file hs (held .fits) (held .even) (held .words)) l
+      ap (sizeOf file) (sym z) ∙ sized-at (totalOf file) (sizeOf file) hs 0 i (all-sized file hs (held .fits) (held .whole) (held .words)) l
 
   module _ (bases : List ℕ) where
     page-good : (i : ℕ) → i < length hs → GoodEntry (sizeOf file) bases i ↔ GoodEntry (sizeAt hs) bases i

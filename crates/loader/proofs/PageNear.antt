@@ -75,7 +75,7 @@ each-right P (x ∷ xs) ys p = each-right P xs ys (p .1)
 
 -- ---- far and near
 
-far-not-near : (x y : PageTarget) → Far (x .place) (y .place) → Near x y → ⊥
+far-not-near : (x y : PageTarget) → Far (x .loadedAt) (y .loadedAt) → Near x y → ⊥
 far-not-near x y (inl l) n = omega (arith, l, n .2)
 far-not-near x y (inr l) n = omega (arith, l, n .1)
 
@@ -83,15 +83,15 @@ apart-spaced : (ts : List PageTarget) → Apart (map bare ts) → Spaced ts
 apart-spaced [] a = tt
 apart-spaced (x ∷ ts) a = (all ts (a .0), apart-spaced ts (a .1))
   where
-    all : (us : List PageTarget) → FarAll (x .place) (map bare us) → Each (λ y. Near x y → ⊥) us
+    all : (us : List PageTarget) → FarAll (x .loadedAt) (map bare us) → Each (λ y. Near x y → ⊥) us
     all [] f = tt
     all (y ∷ us) f = (far-not-near x y (f .0), all us (f .1))
 
 module _ (file : List ℕ) (hs : List Hunk) (held : Holds file hs) where
-  far : (x y : PageTarget) → Named file hs x → Named file hs y → (Near x y → ⊥) → Far (x .place) (y .place)
-  far x y a b n = go (decLt (x .place) (y .place + 4)) (decLt (y .place) (x .place + 4))
+  far : (x y : PageTarget) → Named file hs x → Named file hs y → (Near x y → ⊥) → Far (x .loadedAt) (y .loadedAt)
+  far x y a b n = go (decLt (x .loadedAt) (y .loadedAt + 4)) (decLt (y .loadedAt) (x .loadedAt + 4))
     where
-      go : Dec (x .place < y .place + 4) → Dec (y .place < x .place + 4) → Far (x .place) (y .place)
+      go : Dec (x .loadedAt < y .loadedAt + 4) → Dec (y .loadedAt < x .loadedAt + 4) → Far (x .loadedAt) (y .loadedAt)
       go (yes u) (yes v) = absurd (n (near-one-hunk file hs held x y a b u v, u, v))
       go (no u) v = inr (omega (arith, u))
       go (yes u) (no v) = inl (omega (arith, v))
@@ -100,7 +100,7 @@ module _ (file : List ℕ) (hs : List Hunk) (held : Holds file hs) where
   spaced-apart [] a s = tt
   spaced-apart (x ∷ ts) a s = (all ts (a .1) (s .0), spaced-apart ts (a .1) (s .1))
     where
-      all : (us : List PageTarget) → Each (Named file hs) us → Each (λ y. Near x y → ⊥) us → FarAll (x .place) (map bare us)
+      all : (us : List PageTarget) → Each (Named file hs) us → Each (λ y. Near x y → ⊥) us → FarAll (x .loadedAt) (map bare us)
       all [] b f = tt
       all (y ∷ us) b f = (far x y (a .0) (b .0) (f .0), all us (b .1) (f .1))
 
@@ -108,7 +108,7 @@ module _ (file : List ℕ) (hs : List Hunk) (held : Holds file hs) where
   named = targets-named file hs held
 
   triples : targetsOf file ≡ map bare (fileTargets hs)
-  triples = page-targets file hs (held .fits) (held .even) (held .words)
+  triples = page-targets file hs (held .fits) (held .whole) (held .words)
 
   -- No target is refused if and only if no two targets of one hunk are near.
   pub spaced-exactly : (clashOf file ≡ Passed) ↔ Spaced (fileTargets hs)
@@ -124,10 +124,10 @@ module _ (file : List ℕ) (hs : List Hunk) (held : Holds file hs) where
       let all = subst (Each (Named file hs)) (c .split) named in
       let a = each-right (Named file hs) (c .before) (c .target ∷ c .after) all .0 in
       let b = each-member (Named file hs) (o .0) (c .before) (each-left (Named file hs) (c .before) (c .target ∷ c .after) all) (o .1) in
-      let pt = ap (λ (t : Target). t .place) (c .this) in
-      let po = ap (λ (t : Target). t .place) (o .2) in
-      let u : c .target .place < o .0 .place + 4 = omega (arith, pt, po, r .below) in
-      let v : o .0 .place < c .target .place + 4 = omega (arith, pt, po, r .above) in (
+      let pt = ap (λ (t : Target). t .loadedAt) (c .this) in
+      let po = ap (λ (t : Target). t .loadedAt) (o .2) in
+      let u : c .target .loadedAt < o .0 .loadedAt + 4 = omega (arith, pt, po, r .below) in
+      let v : o .0 .loadedAt < c .target .loadedAt + 4 = omega (arith, pt, po, r .above) in (
         c .target .byte,
         r .said ∙ ap (λ (t : Target). refusal 42 (t .byte)) (sym (c .this)),
         record {

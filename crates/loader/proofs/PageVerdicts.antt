@@ -64,7 +64,7 @@ module _ (file : List ℕ) (hs : List Hunk) (held : Holds file hs) where
   -- room
   module _ (m r w : ℕ) where
     same-room : roomFault (totalOf file) (loadedOf file) m r w ≡ roomFault (length hs) (4 * total hs) m r w
-    same-room = ap₂ (λ (t n : ℕ). roomFault t n m r w) (held-total file hs held) (page-loaded file hs (held .fits) (held .even) (held .words))
+    same-room = ap₂ (λ (t n : ℕ). roomFault t n m r w) (held-total file hs held) (page-loaded file hs (held .fits) (held .whole) (held .words))
 
     room-exactly : (roomFault (totalOf file) (loadedOf file) m r w ≡ Passed) ↔ Room (length hs) (4 * total hs) m r w
     room-exactly = (

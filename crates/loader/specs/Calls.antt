@@ -16,10 +16,10 @@ use Rattle.program.specs.declared.check.Answer.the-variants.{Accepted, Refused}
 use Rattle.program.specs.Header.{totalOf}
 use Rattle.program.specs.Acts.{actsOf}
 use Rattle.program.specs.Check.{numbersOf, checkRefusals, checkOf}
-use Rattle.program.specs.Sane.{Sound}
+use Rattle.program.specs.Cursors.{HeaderFits}
 use Rattle.loader.specs.declared.calls.Outcome.{Outcome}
 use Rattle.loader.specs.Memory.{loadedOf, loadOf, moveOf}
-use Rattle.loader.specs.Table.{tableRoom, listed, tableOf}
+use Rattle.loader.specs.Table.{tableRoom, withRecords, tableOf}
 use Rattle.loader.specs.Bases.{basesFault}
 use Rattle.loader.specs.Near.{clashOf}
 
@@ -63,7 +63,7 @@ effect (Refused r) new old = old
 
 -- the records at the bases, in room for 64; zeros where refused
 abbrev pub handed : List ℕ → List ℕ → Answer → List ℕ
-handed file bases a = effect a (listed file bases (replicate tableRoom 0) (actsOf file)) (replicate tableRoom 0)
+handed file bases a = effect a (withRecords file bases (replicate tableRoom 0) (actsOf file)) (replicate tableRoom 0)
 
 pub record LoadsCore (file bases memory work : List ℕ) (records : ℕ) (o : Outcome) (memory′ work′ : List ℕ) : Type 0 where
   pub answer : o .answer ≡ loadAnswer file bases (length memory) records (length work)
@@ -111,8 +111,8 @@ pub record Moves (file old new memory table work : List ℕ) (r : Answer) (memor
   pub clean : work′ ≡ replicate (length work) 0
 
 -- what an accepted file has
-pub record Good (file : List ℕ) (t n : ℕ) : Type 0 where
-  pub sound : Sound file
-  pub even : length file % 4 ≡ 0
+pub record AcceptedFile (file : List ℕ) (t n : ℕ) : Type 0 where
+  pub header : HeaderFits file
+  pub whole : length file % 4 ≡ 0
   pub hunks : t ≡ totalOf file
   pub bytes : n ≡ loadedOf file

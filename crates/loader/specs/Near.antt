@@ -26,18 +26,18 @@ nearAny p (q ∷ qs) = pick (near p q) true (nearAny p qs)
 -- the first target too near one of those before it
 unfoldable pub clash : List ℕ → List Target → Tested
 clash seen [] = Passed
-clash seen (t ∷ ts) = pick (nearAny (t .place) seen) (Failed (refusal fault.nearTargets (t .byte))) (clash (t .place ∷ seen) ts)
+clash seen (t ∷ ts) = pick (nearAny (t .loadedAt) seen) (Failed (refusal fault.nearTargets (t .byte))) (clash (t .loadedAt ∷ seen) ts)
 
 abbrev pub clashOf : List ℕ → Tested
 clashOf file = clash [] (targetsOf file)
 
 -- what the marking of one act does to the work area
-abbrev pub marks1 : List ℕ → Act → Bool → List ℕ → Type 0
-marks1 m Quiet r n = (r ≡ false) × (n ≡ m)
-marks1 m (Body h p k) r n = (r ≡ false) × (n ≡ m)
-marks1 m (Store p w) r n = (r ≡ false) × (n ≡ m)
-marks1 m (Add p k b) true n = (wordAt m p ≡ 0 → ⊥) × (n ≡ m)
-marks1 m (Add p k b) false n = (wordAt m p ≡ 0) × (n ≡ setWord m p 0x01010101)
+abbrev pub marksOne : List ℕ → Act → Bool → List ℕ → Type 0
+marksOne m Quiet r n = (r ≡ false) × (n ≡ m)
+marksOne m (Body h p k) r n = (r ≡ false) × (n ≡ m)
+marksOne m (Store p w) r n = (r ≡ false) × (n ≡ m)
+marksOne m (Add p k b) true n = (wordAt m p ≡ 0 → ⊥) × (n ≡ m)
+marksOne m (Add p k b) false n = (wordAt m p ≡ 0) × (n ≡ setWord m p 0x01010101)
 
 pub record Marks (m : List ℕ) (a : Act) (r : Bool) (n : List ℕ) : Type 0 where
-  pub marks : marks1 m a r n
+  pub marks : marksOne m a r n

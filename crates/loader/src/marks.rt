@@ -14,7 +14,7 @@ ghost use mathlib.Core.Path.{_≡_};
 ghost use Prim.Native.Nat.{ℕ, _+_, _%_, _≤_};
 ghost use lib.ListN.{length, getD};
 ghost use Rattle.words.specs.Word.{setWord};
-ghost use Rattle.program.specs.Sane.{Sound};
+ghost use Rattle.program.specs.Cursors.{HeaderFits};
 ghost use Rattle.loader.specs.Memory.{ActFits, loadedOf};
 ghost use Rattle.loader.specs.Near.{clashOf, Marks};
 
@@ -46,7 +46,7 @@ fn mark_act(work: &mut [u8], a: Act) -> bool
 
 // The first target too near an earlier one; the work area is all 0 at first.
 pub(crate) fn mark_all(file: &[u8], work: &mut [u8]) -> Tested
-    requires { ⌜ (Sound (now file)) × (length (now file) % 4 ≡ 0) × (loadedOf (now file) ≤ length (now work)) × ((k : ℕ) → getD (now work) k 0 ≡ 0) ⌝ }
+    requires { ⌜ (HeaderFits (now file)) × (length (now file) % 4 ≡ 0) × (loadedOf (now file) ≤ length (now work)) × ((k : ℕ) → getD (now work) k 0 ≡ 0) ⌝ }
     ensures { λ r. ⌜ r ≡ clashOf (now (file .entry)) ⌝ }
 {
     let mut c = begin();

@@ -1,6 +1,6 @@
 -- A pass over a file's acts goes with the reader, a word at a time. Assumes nothing.
 use Prim.Native.Nat.{ℕ, _+_, _*_, _%_, _<_, _≤_}
-use mathlib.Core.Path.{_≡_, sym, ap, _∙_}
+use mathlib.Core.Path.{_≡_, refl, sym, ap, _∙_}
 use mathlib.Core.List.{List, [], _∷_}
 use lib.ListN.{length}
 use Rattle.words.specs.Word.{wordAt}
@@ -11,7 +11,7 @@ use Rattle.program.specs.declared.reader.Next.the-variants.{On, Bad}
 use Rattle.program.specs.Header.{totalOf, sizeOf}
 use Rattle.program.specs.Reader.{start, stepOf}
 use Rattle.program.specs.Acts.{actOf, acts, actsFrom, actsOf, pass}
-use Rattle.program.specs.Sane.{Sound}
+use Rattle.program.specs.Cursors.{HeaderFits}
 use Rattle.program.proofs.Walks.{words-next, words-over, Reads, reads-start, reads-on}
 
 -- ---- the acts from a word on
@@ -37,7 +37,7 @@ module _ {X : Type 0} (g : X → Act → X) (file : List ℕ) (x₀ : X) where
     pub reads : Reads file c at
     pub left : pass g x₀ (actsOf file) ≡ pass g x (actsFrom file at c)
 
-  pub going-start : (c : Cursor) (at t : ℕ) → Sound file → c ≡ start → t ≡ totalOf file → at ≡ 20 + 4 * t → Going x₀ c at
+  pub going-start : (c : Cursor) (at t : ℕ) → HeaderFits file → c ≡ start → t ≡ totalOf file → at ≡ 20 + 4 * t → Going x₀ c at
   going-start c at t s e k h = record { reads = reads-start file c at t s e k h; left = rw (e, h, k) }
 
   module _ (x : X) (c : Cursor) (at : ℕ) (i : Going x c at) where
@@ -57,3 +57,24 @@ module _ {X : Type 0} (g : X → Act → X) (file : List ℕ) (x₀ : X) where
     pub going-end : length file ≤ at → x ≡ pass g x₀ (actsOf file)
     unfolding pass
     going-end h = sym (i .left ∙ ap (pass g x) (acts-end file at c h))
+
+-- ---- the loop of a pass over lists: their length stays
+
+pub record Passing (g : List ℕ → Act → List ℕ) (file x₀ x : List ℕ) (c : Cursor) (at : ℕ) : Type 0 where
+  pub going : Going g file x₀ x c at
+  pub long : length x ≡ length x₀
+
+module _ (g : List ℕ → Act → List ℕ) (file x₀ : List ℕ) where
+  pub passing-start : (c : Cursor) (at t : ℕ) → HeaderFits file → c ≡ start → t ≡ totalOf file → at ≡ 20 + 4 * t → Passing g file x₀ x₀ c at
+  passing-start c at t s e k h = record { going = going-start g file x₀ c at t s e k h; long = refl }
+
+  module _ (x : List ℕ) (c : Cursor) (at : ℕ) (i : Passing g file x₀ x c at) where
+    pub passing-on : (w : ℕ) (r : Next) (d : Cursor) (a : Act) (y : List ℕ) → length file % 4 ≡ 0 → at < length file → w ≡ wordAt file at → r ≡ stepOf (totalOf file) (sizeOf file) c w → r ≡ On d → a ≡ actOf c at w → y ≡ g x a → ((z : List ℕ) (b : Act) → length (g z b) ≡ length z) → Passing g file x₀ y d (at + 4)
+    passing-on w r d a y h l p q e z k long =
+        record { going = going-on g file x₀ x c at (i .going) w r h l p q d a y e z k; long = ap length k ∙ long x a ∙ i .long }
+
+    pub passing-bad : (w : ℕ) (r : Next) (v : ℕ) → length file % 4 ≡ 0 → at < length file → w ≡ wordAt file at → r ≡ stepOf (totalOf file) (sizeOf file) c w → r ≡ Bad v → x ≡ pass g x₀ (actsOf file)
+    passing-bad w r v h l p q e = going-bad g file x₀ x c at (i .going) w r h l p q v e
+
+    pub passing-end : length file ≤ at → x ≡ pass g x₀ (actsOf file)
+    passing-end h = going-end g file x₀ x c at (i .going) h

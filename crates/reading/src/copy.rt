@@ -2,8 +2,9 @@
 use volume::block::Block;
 use volume::block::word_of;
 use volume::disk::Disk;
+use words::least;
 ghost use mathlib.Core.Path.{_≡_};
-ghost use Prim.Native.Nat.{_+_, _-_, _/_, _≤_, _<_, min};
+ghost use Prim.Native.Nat.{_+_, _-_, _/_, _≤_, _<_};
 ghost use lib.ListN.{length, getD, drop};
 ghost use lib.Seq.{paste};
 ghost use Rattle.volume.specs.Disks.{Sized, imageBytes, dataBytes};
@@ -16,12 +17,6 @@ fn data_byte(disk: Disk, key: u32) -> usize
     ensures { λ r. ⌜ r ≡ dataByte disk key ⌝ }
 {
     Block::byte(key, 0) + Block::DATA_START
-}
-
-fn least(a: usize, b: usize) -> usize
-    ensures { λ r. ⌜ r ≡ min a b ⌝ }
-{
-    if a <= b { a } else { b }
 }
 
 // The bytes of a file from `offset` on.

@@ -29,7 +29,7 @@ returns-2 : tie.Need-returns-2
 returns-2 c = last-room _ _ _ _ _ _ _ (c .before .before .before .before .before .a .given .1) (c .before .before .before .before .before .before .before .before .before .pre .0 _ _ (c .before .before .before .before .before .a .given .1)) _ (c .before .before .before .room-fault .ensures) _ _ (c .before .enum-told3 .given .1) (c .also-test .ensures)
 
 mark-all-requires : tie.Need-mark-all-requires
-mark-all-requires c κs = let g = c .before .before .before .before .before .before .before .before .before .pre .0 _ _ (c .before .before .before .before .before .a .given .1) in (g .sound, g .even, last-fits _ _ _ _ _ _ _ (c .before .before .before .before .before .a .given .1) g _ (c .before .before .before .room-fault .ensures) (c .before .enum-told2 .given .1), c .before .before .before .before .before .before .before .before .before .pre .1)
+mark-all-requires c κs = let g = c .before .before .before .before .before .before .before .before .before .pre .0 _ _ (c .before .before .before .before .before .a .given .1) in (g .header, g .whole, last-fits _ _ _ _ _ _ _ (c .before .before .before .before .before .a .given .1) g _ (c .before .before .before .room-fault .ensures) (c .before .enum-told2 .given .1), c .before .before .before .before .before .before .before .before .before .pre .1)
 
 also-test-requires-2 : tie.Need-also-test-requires-2
 also-test-requires-2 c κs = search needs

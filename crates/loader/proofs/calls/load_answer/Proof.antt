@@ -19,7 +19,7 @@ returns : tie.Need-returns
 returns c = load-refused _ _ _ _ _ _ (c .before .before .check .ensures .answer) _ (c .enum-told2 .given .1)
 
 bases-fault-requires : tie.Need-bases-fault-requires
-bases-fault-requires c κs = (checked _ _ _ (sym (c .before .before .check .ensures .answer) ∙ c .enum-told .given .1) .sound, omega arith)
+bases-fault-requires c κs = (checked _ _ _ (sym (c .before .before .check .ensures .answer) ∙ c .enum-told .given .1) .header, omega arith)
 
 also-test-requires : tie.Need-also-test-requires
 also-test-requires c κs = search needs

@@ -21,19 +21,19 @@ enum-known-a : tie.Need-enum-known-a
 enum-known-a c = search needs
 
 clear-requires : tie.Need-clear-requires
-clear-requires c κs = let f = load-facts _ _ _ _ _ _ _ _ (c .before .before .before .before .before .before .before .before .before .before .load-answer .ensures) (c .before .before .a .given .1) in omega (arith, f .fits, f .file-good .bytes)
+clear-requires c κs = let f = load-facts _ _ _ _ _ _ _ _ (c .before .before .before .before .before .before .before .before .before .before .load-answer .ensures) (c .before .before .a .given .1) in omega (arith, f .fits, f .file-accepted .bytes)
 
 store-all-requires : tie.Need-store-all-requires
-store-all-requires c κs = let f = load-facts _ _ _ _ _ _ _ _ (c .before .before .before .before .before .before .before .before .before .before .before .before .before .before .load-answer .ensures) (c .before .before .before .before .before .before .a .given .1) in (f .file-good .sound, f .file-good .even, omega (arith, f .fits))
+store-all-requires c κs = let f = load-facts _ _ _ _ _ _ _ _ (c .before .before .before .before .before .before .before .before .before .before .before .before .before .before .load-answer .ensures) (c .before .before .before .before .before .before .a .given .1) in (f .file-accepted .header, f .file-accepted .whole, omega (arith, f .fits))
 
 add-all-requires : tie.Need-add-all-requires
-add-all-requires c κs = let f = load-facts _ _ _ _ _ _ _ _ (c .before .before .before .before .before .before .before .before .before .before .before .before .before .before .before .before .before .before .load-answer .ensures) (c .before .before .before .before .before .before .before .before .before .before .a .given .1) in (f .file-good .sound, f .file-good .even, omega (arith, f .fits), omega (arith, f .count))
+add-all-requires c κs = let f = load-facts _ _ _ _ _ _ _ _ (c .before .before .before .before .before .before .before .before .before .before .before .before .before .before .before .before .before .before .load-answer .ensures) (c .before .before .before .before .before .before .before .before .before .before .a .given .1) in (f .file-accepted .header, f .file-accepted .whole, omega (arith, f .fits), omega (arith, f .count))
 
 slice-aggregate-write-all : tie.Need-slice-aggregate-write-all
 slice-aggregate-write-all c = search needs
 
 write-all-requires : tie.Need-write-all-requires
-write-all-requires c κs = let f = load-facts _ _ _ _ _ _ _ _ (c .before .before .before .before .before .before .before .before .before .before .before .before .before .before .before .before .before .before .before .before .before .before .load-answer .ensures) (c .before .before .before .before .before .before .before .before .before .before .before .before .before .before .a .given .1) in (f .file-good .sound, f .file-good .even, omega (arith, f .count), omega (arith, f .file-good .sound .few))
+write-all-requires c κs = let f = load-facts _ _ _ _ _ _ _ _ (c .before .before .before .before .before .before .before .before .before .before .before .before .before .before .before .before .before .before .before .before .before .before .load-answer .ensures) (c .before .before .before .before .before .before .before .before .before .before .before .before .before .before .a .given .1) in (f .file-accepted .header, f .file-accepted .whole, omega (arith, f .count), omega (arith, f .file-accepted .header .few))
 
 enum-told : tie.Need-enum-told
 enum-told c = search needs

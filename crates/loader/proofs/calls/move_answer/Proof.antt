@@ -19,19 +19,19 @@ returns : tie.Need-returns
 returns c = move-refused _ _ _ _ _ _ _ (c .before .before .check .ensures .answer) _ (c .enum-told2 .given .1)
 
 bases-fault-requires : tie.Need-bases-fault-requires
-bases-fault-requires c κs = (checked _ _ _ (sym (c .before .before .check .ensures .answer) ∙ c .enum-told .given .1) .sound, omega arith)
+bases-fault-requires c κs = (checked _ _ _ (sym (c .before .before .check .ensures .answer) ∙ c .enum-told .given .1) .header, omega arith)
 
 also-test-requires : tie.Need-also-test-requires
 also-test-requires c κs = search needs
 
 total-requires : tie.Need-total-requires
-total-requires c κs = omega (arith, checked _ _ _ (sym (c .before .before .before .before .check .ensures .answer) ∙ c .before .before .enum-told .given .1) .sound .long)
+total-requires c κs = omega (arith, checked _ _ _ (sym (c .before .before .before .before .check .ensures .answer) ∙ c .before .before .enum-told .given .1) .header .long)
 
 cast-bases-fault : tie.Need-cast-bases-fault
 cast-bases-fault c = search needs
 
 bases-fault-requires-2 : tie.Need-bases-fault-requires-2
-bases-fault-requires-2 c κs = let g = checked _ _ _ (sym (c .before .before .before .before .before .check .ensures .answer) ∙ c .before .before .before .enum-told .given .1) in (g .sound, omega (arith, c .total .ensures, g .sound .few))
+bases-fault-requires-2 c κs = let g = checked _ _ _ (sym (c .before .before .before .before .before .check .ensures .answer) ∙ c .before .before .before .enum-told .given .1) in (g .header, omega (arith, c .total .ensures, g .header .few))
 
 also-test-requires-2 : tie.Need-also-test-requires-2
 also-test-requires-2 c κs = search needs

@@ -24,19 +24,19 @@ slice-aggregate-differences : tie.Need-slice-aggregate-differences
 slice-aggregate-differences c = search needs
 
 differences-requires : tie.Need-differences-requires
-differences-requires c κs = let f = move-facts _ _ _ _ _ _ _ _ _ (c .before .before .before .before .before .before .before .before .before .move-answer .ensures) (c .before .enum-told .given .1) in (omega (arith, f .count, f .load .count), omega (arith, f .count, f .load .file-good .sound .few))
+differences-requires c κs = let f = move-facts _ _ _ _ _ _ _ _ _ (c .before .before .before .before .before .before .before .before .before .move-answer .ensures) (c .before .enum-told .given .1) in (omega (arith, f .count, f .load .count), omega (arith, f .count, f .load .file-accepted .header .few))
 
 slice-aggregate-add-all : tie.Need-slice-aggregate-add-all
 slice-aggregate-add-all c = search needs
 
 add-all-requires : tie.Need-add-all-requires
-add-all-requires c κs = let f = move-facts _ _ _ _ _ _ _ _ _ (c .before .before .before .before .before .before .before .before .before .before .before .before .before .move-answer .ensures) (c .before .before .before .before .before .enum-told .given .1) in (f .load .file-good .sound, f .load .file-good .even, omega (arith, f .load .fits), omega (arith, f .load .file-good .sound .few))
+add-all-requires c κs = let f = move-facts _ _ _ _ _ _ _ _ _ (c .before .before .before .before .before .before .before .before .before .before .before .before .before .move-answer .ensures) (c .before .before .before .before .before .enum-told .given .1) in (f .load .file-accepted .header, f .load .file-accepted .whole, omega (arith, f .load .fits), omega (arith, f .load .file-accepted .header .few))
 
 slice-aggregate-write-all : tie.Need-slice-aggregate-write-all
 slice-aggregate-write-all c = search needs
 
 write-all-requires : tie.Need-write-all-requires
-write-all-requires c κs = let f = move-facts _ _ _ _ _ _ _ _ _ (c .before .before .before .before .before .before .before .before .before .before .before .before .before .before .before .before .before .move-answer .ensures) (c .before .before .before .before .before .before .before .before .before .enum-told .given .1) in (f .load .file-good .sound, f .load .file-good .even, omega (arith, f .count), omega (arith, f .load .file-good .sound .few))
+write-all-requires c κs = let f = move-facts _ _ _ _ _ _ _ _ _ (c .before .before .before .before .before .before .before .before .before .before .before .before .before .before .before .before .before .move-answer .ensures) (c .before .before .before .before .before .before .before .before .before .enum-told .given .1) in (f .load .file-accepted .header, f .load .file-accepted .whole, omega (arith, f .count), omega (arith, f .load .file-accepted .header .few))
 
 enum-told-2 : tie.Need-enum-told-2
 enum-told-2 c = search needs

@@ -43,7 +43,7 @@ word-requires : tie.Need-word-requires Inv-loop μ-loop
 word-requires c κs = omega (arith, c .before .loop .inv .0 .reads .aligned)
 
 step-requires : tie.Need-step-requires Inv-loop μ-loop
-step-requires c κs = c .before .before .loop .inv .0 .reads .sane
+step-requires c κs = c .before .before .loop .inv .0 .reads .fits
 
 enum-known-n : tie.Need-enum-known-n Inv-loop μ-loop
 enum-known-n c = search needs
@@ -58,28 +58,28 @@ returns : tie.Need-returns Inv-loop μ-loop
 returns c = clash-bad _ _ _ _ (c .before .before .before .before .before .loop .inv .0) _ _ (c .before .before .before .before .before .before .before .before .before .before .pre .1) (c .before .before .before .before .loop-test .taken) (c .before .before .before .word .ensures) (c .before .before .step .ensures) _ (c .enum-told .given .1)
 
 act-of-requires : tie.Need-act-of-requires Inv-loop μ-loop
-act-of-requires c κs = cursor-low _ _ (c .before .before .before .before .before .before .before .loop .inv .0 .reads .sane)
+act-of-requires c κs = cursor-low _ _ (c .before .before .before .before .before .before .before .loop .inv .0 .reads .fits)
 
 mark-act-requires : tie.Need-mark-act-requires Inv-loop μ-loop
-mark-act-requires c κs = fits _ _ _ _ _ _ _ _ _ (c .before .before .before .before .before .before .before .before .loop .inv .0 .reads .sane) (c .before .before .before .before .before .step .ensures) (c .before .before .before .n .given .1) (c .act-of .ensures) (omega (arith, c .before .before .before .before .before .before .before .before .loop .inv .1)) (omega (arith, c .before .before .before .before .before .before .before .before .before .before .before .before .before .pre .0 .few))
+mark-act-requires c κs = fits _ _ _ _ _ _ _ _ _ (c .before .before .before .before .before .before .before .before .loop .inv .0 .reads .fits) (c .before .before .before .before .before .step .ensures) (c .before .before .before .n .given .1) (c .act-of .ensures) (omega (arith, c .before .before .before .before .before .before .before .before .loop .inv .1)) (omega (arith, c .before .before .before .before .before .before .before .before .before .before .before .before .before .pre .0 .few))
 
 same-length-2 : tie.Need-same-length-2 Inv-loop μ-loop
 same-length-2 c = length-mark _ _ _ _ (c .before .before .before .mark-act .ensures) ∙ c .before .before .before .before .before .before .before .before .before .before .before .before .loop .inv .1
 
 returns-2 : tie.Need-returns-2 Inv-loop μ-loop
-returns-2 c = clash-met _ _ _ _ (c .before .before .before .before .before .before .before .before .before .before .before .before .loop .inv .0) _ _ (c .before .before .before .before .before .before .before .before .before .before .before .before .before .before .before .before .before .pre .1) (c .before .before .before .before .before .before .before .before .before .before .before .loop-test .taken) (c .before .before .before .before .before .before .before .before .before .before .word .ensures) (c .before .before .before .before .before .before .before .before .before .step .ensures) _ _ _ _ (c .before .before .before .before .before .before .before .n .given .1) (c .before .before .before .before .act-of .ensures) (fits _ _ _ _ _ _ _ _ _ (c .before .before .before .before .before .before .before .before .before .before .before .before .loop .inv .0 .reads .sane) (c .before .before .before .before .before .before .before .before .before .step .ensures) (c .before .before .before .before .before .before .before .n .given .1) (c .before .before .before .before .act-of .ensures) (omega (arith, c .before .before .before .before .before .before .before .before .before .before .before .before .loop .inv .1)) (omega (arith, c .before .before .before .before .before .before .before .before .before .before .before .before .before .before .before .before .before .pre .0 .few))) (c .before .before .before .mark-act .ensures) (c .if1 .taken)
+returns-2 c = clash-met _ _ _ _ (c .before .before .before .before .before .before .before .before .before .before .before .before .loop .inv .0) _ _ (c .before .before .before .before .before .before .before .before .before .before .before .before .before .before .before .before .before .pre .1) (c .before .before .before .before .before .before .before .before .before .before .before .loop-test .taken) (c .before .before .before .before .before .before .before .before .before .before .word .ensures) (c .before .before .before .before .before .before .before .before .before .step .ensures) _ _ _ _ (c .before .before .before .before .before .before .before .n .given .1) (c .before .before .before .before .act-of .ensures) (fits _ _ _ _ _ _ _ _ _ (c .before .before .before .before .before .before .before .before .before .before .before .before .loop .inv .0 .reads .fits) (c .before .before .before .before .before .before .before .before .before .step .ensures) (c .before .before .before .before .before .before .before .n .given .1) (c .before .before .before .before .act-of .ensures) (omega (arith, c .before .before .before .before .before .before .before .before .before .before .before .before .loop .inv .1)) (omega (arith, c .before .before .before .before .before .before .before .before .before .before .before .before .before .before .before .before .before .pre .0 .few))) (c .before .before .before .mark-act .ensures) (c .if1 .taken)
 
 add-past : tie.Need-add-past Inv-loop μ-loop
 add-past c = search needs
 
 past-requires : tie.Need-past-requires Inv-loop μ-loop
-past-requires c κs = let r = reads-on _ _ _ _ _ _ (c .before .before .before .before .before .before .before .before .before .before .before .before .loop .inv .0 .reads) (c .before .before .before .before .before .before .before .before .before .before .before .before .before .before .before .before .before .pre .1) (c .before .before .before .before .before .before .before .before .before .before .before .loop-test .taken) (c .before .before .before .before .before .before .before .before .before .before .word .ensures) (c .before .before .before .before .before .before .before .before .before .step .ensures) (c .before .before .before .before .before .before .before .n .given .1) in (r .sane, c .before .before .before .before .before .before .before .before .before .before .before .before .before .before .before .before .before .pre .1, r .aligned)
+past-requires c κs = let r = reads-on _ _ _ _ _ _ (c .before .before .before .before .before .before .before .before .before .before .before .before .loop .inv .0 .reads) (c .before .before .before .before .before .before .before .before .before .before .before .before .before .before .before .before .before .pre .1) (c .before .before .before .before .before .before .before .before .before .before .before .loop-test .taken) (c .before .before .before .before .before .before .before .before .before .before .word .ensures) (c .before .before .before .before .before .before .before .before .before .step .ensures) (c .before .before .before .before .before .before .before .n .given .1) in (r .fits, c .before .before .before .before .before .before .before .before .before .before .before .before .before .before .before .before .before .pre .1, r .aligned)
 
 loop-less : tie.Need-loop-less Inv-loop μ-loop
 loop-less c = omega (arith, leads-far _ (c .before .past .ensures))
 
 loop-again : tie.Need-loop-again Inv-loop μ-loop
-loop-again c = (clash-past _ _ (c .before .before .before .before .before .before .before .before .before .before .before .before .before .before .before .before .before .before .before .pre .1) (clash-on _ _ _ _ (c .before .before .before .before .before .before .before .before .before .before .before .before .before .before .loop .inv .0) _ _ (c .before .before .before .before .before .before .before .before .before .before .before .before .before .before .before .before .before .before .before .pre .1) (c .before .before .before .before .before .before .before .before .before .before .before .before .before .loop-test .taken) (c .before .before .before .before .before .before .before .before .before .before .before .before .word .ensures) (c .before .before .before .before .before .before .before .before .before .before .before .step .ensures) _ _ _ _ (c .before .before .before .before .before .before .before .before .before .n .given .1) (c .before .before .before .before .before .before .act-of .ensures) (fits _ _ _ _ _ _ _ _ _ (c .before .before .before .before .before .before .before .before .before .before .before .before .before .before .loop .inv .0 .reads .sane) (c .before .before .before .before .before .before .before .before .before .before .before .step .ensures) (c .before .before .before .before .before .before .before .before .before .n .given .1) (c .before .before .before .before .before .before .act-of .ensures) (omega (arith, c .before .before .before .before .before .before .before .before .before .before .before .before .before .before .loop .inv .1, c .before .before .before .before .before .before .before .before .before .before .before .before .before .before .before .before .before .before .before .pre .2)) (omega (arith, c .before .before .before .before .before .before .before .before .before .before .before .before .before .before .before .before .before .before .before .pre .0 .few))) (c .before .before .before .before .before .mark-act .ensures) (c .before .before .if1 .left)) (c .before .past .ensures), length-mark _ _ _ _ (c .before .before .before .before .before .mark-act .ensures) ∙ c .before .before .before .before .before .before .before .before .before .before .before .before .before .before .loop .inv .1)
+loop-again c = (clash-past _ _ (c .before .before .before .before .before .before .before .before .before .before .before .before .before .before .before .before .before .before .before .pre .1) (clash-on _ _ _ _ (c .before .before .before .before .before .before .before .before .before .before .before .before .before .before .loop .inv .0) _ _ (c .before .before .before .before .before .before .before .before .before .before .before .before .before .before .before .before .before .before .before .pre .1) (c .before .before .before .before .before .before .before .before .before .before .before .before .before .loop-test .taken) (c .before .before .before .before .before .before .before .before .before .before .before .before .word .ensures) (c .before .before .before .before .before .before .before .before .before .before .before .step .ensures) _ _ _ _ (c .before .before .before .before .before .before .before .before .before .n .given .1) (c .before .before .before .before .before .before .act-of .ensures) (fits _ _ _ _ _ _ _ _ _ (c .before .before .before .before .before .before .before .before .before .before .before .before .before .before .loop .inv .0 .reads .fits) (c .before .before .before .before .before .before .before .before .before .before .before .step .ensures) (c .before .before .before .before .before .before .before .before .before .n .given .1) (c .before .before .before .before .before .before .act-of .ensures) (omega (arith, c .before .before .before .before .before .before .before .before .before .before .before .before .before .before .loop .inv .1, c .before .before .before .before .before .before .before .before .before .before .before .before .before .before .before .before .before .before .before .pre .2)) (omega (arith, c .before .before .before .before .before .before .before .before .before .before .before .before .before .before .before .before .before .before .before .pre .0 .few))) (c .before .before .before .before .before .mark-act .ensures) (c .before .before .if1 .left)) (c .before .past .ensures), length-mark _ _ _ _ (c .before .before .before .before .before .mark-act .ensures) ∙ c .before .before .before .before .before .before .before .before .before .before .before .before .before .before .loop .inv .1)
 
 same-length-3 : tie.Need-same-length-3 Inv-loop μ-loop
 same-length-3 c = c .before .loop .inv .1

@@ -7,14 +7,14 @@ use lib.ListN.{length}
 use Rattle.program.proofs.Passes.{Going, going-start, going-on, going-bad, going-end}
 use Rattle.program.proofs.Walks.{reads-on}
 use Rattle.program.proofs.Runs.{leads-far, going-past}
-use Rattle.loader.specs.Memory.{shift1, amountOf}
-use Rattle.loader.proofs.Acts.{calm-shift, fits, cursor-low, length-shift1, pass-shift}
+use Rattle.loader.specs.Memory.{shiftOne, amountOf}
+use Rattle.loader.proofs.Acts.{quiet-shift, fits, cursor-low, length-shiftOne, pass-shift}
 use borrow.Author.Needs.{needs}
 use Rattle.loader.proofs.memory.add_all.Statement.{statement}
 use Rattle.loader.proofs.memory.add_all.Tie as tie
 
 abbrev Inv-loop : tie.InvT-loop
-Inv-loop file memory₀ amounts c₀ at₀ memory c at = Going (λ x a. shift1 x (amountOf amounts) a) file memory₀ memory c at × (length memory ≡ length memory₀)
+Inv-loop file memory₀ amounts c₀ at₀ memory c at = Going (λ x a. shiftOne x (amountOf amounts) a) file memory₀ memory c at × (length memory ≡ length memory₀)
 
 abbrev μ-loop : tie.MeasureT-loop
 μ-loop file memory₀ amounts c₀ at₀ memory c at = length file - at
@@ -44,7 +44,7 @@ word-requires : tie.Need-word-requires Inv-loop μ-loop
 word-requires c κs = omega (arith, c .before .loop .inv .0 .reads .aligned)
 
 step-requires : tie.Need-step-requires Inv-loop μ-loop
-step-requires c κs = c .before .before .loop .inv .0 .reads .sane
+step-requires c κs = c .before .before .loop .inv .0 .reads .fits
 
 enum-known-n : tie.Need-enum-known-n Inv-loop μ-loop
 enum-known-n c = search needs
@@ -59,22 +59,22 @@ returns : tie.Need-returns Inv-loop μ-loop
 returns c = (going-bad _ _ _ _ _ _ (c .before .before .before .before .before .loop .inv .0) _ _ (c .before .before .before .before .before .before .before .before .before .before .before .pre .1) (c .before .before .before .before .loop-test .taken) (c .before .before .before .word .ensures) (c .before .before .step .ensures) _ (c .enum-told .given .1)) ∙ pass-shift _ _ _
 
 act-of-requires : tie.Need-act-of-requires Inv-loop μ-loop
-act-of-requires c κs = cursor-low _ _ (c .before .before .before .before .before .before .before .loop .inv .0 .reads .sane)
+act-of-requires c κs = cursor-low _ _ (c .before .before .before .before .before .before .before .loop .inv .0 .reads .fits)
 
 add-act-requires : tie.Need-add-act-requires Inv-loop μ-loop
-add-act-requires c κs = fits _ _ _ _ _ _ _ _ _ (c .before .before .before .before .before .before .before .before .loop .inv .0 .reads .sane) (c .before .before .before .before .before .step .ensures) (c .before .before .before .n .given .1) (c .act-of .ensures) (omega (arith, c .before .before .before .before .before .before .before .before .loop .inv .1)) (omega arith)
+add-act-requires c κs = fits _ _ _ _ _ _ _ _ _ (c .before .before .before .before .before .before .before .before .loop .inv .0 .reads .fits) (c .before .before .before .before .before .step .ensures) (c .before .before .before .n .given .1) (c .act-of .ensures) (omega (arith, c .before .before .before .before .before .before .before .before .loop .inv .1)) (omega arith)
 
 add-past : tie.Need-add-past Inv-loop μ-loop
 add-past c = search needs
 
 past-requires : tie.Need-past-requires Inv-loop μ-loop
-past-requires c κs = let r = reads-on _ _ _ _ _ _ (c .before .before .before .before .before .before .before .before .before .before .before .loop .inv .0 .reads) (c .before .before .before .before .before .before .before .before .before .before .before .before .before .before .before .before .before .pre .1) (c .before .before .before .before .before .before .before .before .before .before .loop-test .taken) (c .before .before .before .before .before .before .before .before .before .word .ensures) (c .before .before .before .before .before .before .before .before .step .ensures) (c .before .before .before .before .before .before .n .given .1) in (r .sane, c .before .before .before .before .before .before .before .before .before .before .before .before .before .before .before .before .before .pre .1, r .aligned)
+past-requires c κs = let r = reads-on _ _ _ _ _ _ (c .before .before .before .before .before .before .before .before .before .before .before .loop .inv .0 .reads) (c .before .before .before .before .before .before .before .before .before .before .before .before .before .before .before .before .before .pre .1) (c .before .before .before .before .before .before .before .before .before .before .loop-test .taken) (c .before .before .before .before .before .before .before .before .before .word .ensures) (c .before .before .before .before .before .before .before .before .step .ensures) (c .before .before .before .before .before .before .n .given .1) in (r .fits, c .before .before .before .before .before .before .before .before .before .before .before .before .before .before .before .before .before .pre .1, r .aligned)
 
 loop-less : tie.Need-loop-less Inv-loop μ-loop
 loop-less c = omega (arith, leads-far _ (c .before .past .ensures))
 
 loop-again : tie.Need-loop-again Inv-loop μ-loop
-loop-again c = (going-past _ (calm-shift _) _ _ _ (c .before .before .before .before .before .before .before .before .before .before .before .before .before .before .before .before .before .before .before .pre .1) (going-on _ _ _ _ _ _ (c .before .before .before .before .before .before .before .before .before .before .before .before .before .loop .inv .0) _ _ (c .before .before .before .before .before .before .before .before .before .before .before .before .before .before .before .before .before .before .before .pre .1) (c .before .before .before .before .before .before .before .before .before .before .before .before .loop-test .taken) (c .before .before .before .before .before .before .before .before .before .before .before .word .ensures) (c .before .before .before .before .before .before .before .before .before .before .step .ensures) _ _ _ (c .before .before .before .before .before .before .before .before .n .given .1) (c .before .before .before .before .before .act-of .ensures) (c .before .before .before .before .add-act .ensures)) (c .before .past .ensures), length-shift1 (c .before .before .before .before .before .before .before .before .before .before .before .before .before .loop .memory) _ (amountOf (c .before .before .before .before .before .before .before .before .before .before .before .before .before .before .before .before .before .before .before .args .amounts .now)) (c .before .before .before .before .before .act-of .result) (c .before .before .before .before .add-act .ensures) ∙ c .before .before .before .before .before .before .before .before .before .before .before .before .before .loop .inv .1)
+loop-again c = (going-past _ (quiet-shift _) _ _ _ (c .before .before .before .before .before .before .before .before .before .before .before .before .before .before .before .before .before .before .before .pre .1) (going-on _ _ _ _ _ _ (c .before .before .before .before .before .before .before .before .before .before .before .before .before .loop .inv .0) _ _ (c .before .before .before .before .before .before .before .before .before .before .before .before .before .before .before .before .before .before .before .pre .1) (c .before .before .before .before .before .before .before .before .before .before .before .before .loop-test .taken) (c .before .before .before .before .before .before .before .before .before .before .before .word .ensures) (c .before .before .before .before .before .before .before .before .before .before .step .ensures) _ _ _ (c .before .before .before .before .before .before .before .before .n .given .1) (c .before .before .before .before .before .act-of .ensures) (c .before .before .before .before .add-act .ensures)) (c .before .past .ensures), length-shiftOne (c .before .before .before .before .before .before .before .before .before .before .before .before .before .loop .memory) _ (amountOf (c .before .before .before .before .before .before .before .before .before .before .before .before .before .before .before .before .before .before .before .args .amounts .now)) (c .before .before .before .before .before .act-of .result) (c .before .before .before .before .add-act .ensures) ∙ c .before .before .before .before .before .before .before .before .before .before .before .before .before .loop .inv .1)
 
 same-length-2 : tie.Need-same-length-2 Inv-loop μ-loop
 same-length-2 c = c .before .loop .inv .1

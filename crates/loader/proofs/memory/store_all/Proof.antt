@@ -5,13 +5,13 @@ use mathlib.Core.Path.{_≡_, refl, _∙_}
 use native.Mathlib.Omega.{arith}
 use lib.ListN.{length}
 use Rattle.program.proofs.Passes.{Going, going-start, going-on, going-bad, going-end}
-use Rattle.loader.specs.Memory.{place1}
-use Rattle.loader.proofs.Acts.{fits, cursor-low, length-place1}
+use Rattle.loader.specs.Memory.{storeOne}
+use Rattle.loader.proofs.Acts.{fits, cursor-low, length-storeOne}
 use Rattle.loader.proofs.memory.store_all.Statement.{statement}
 use Rattle.loader.proofs.memory.store_all.Tie as tie
 
 abbrev Inv-loop : tie.InvT-loop
-Inv-loop file memory₀ c₀ at₀ memory c at = Going place1 file memory₀ memory c at × (length memory ≡ length memory₀)
+Inv-loop file memory₀ c₀ at₀ memory c at = Going storeOne file memory₀ memory c at × (length memory ≡ length memory₀)
 
 abbrev μ-loop : tie.MeasureT-loop
 μ-loop file memory₀ c₀ at₀ memory c at = length file - at
@@ -41,7 +41,7 @@ word-requires : tie.Need-word-requires Inv-loop μ-loop
 word-requires c κs = omega (arith, c .before .loop .inv .0 .reads .aligned)
 
 step-requires : tie.Need-step-requires Inv-loop μ-loop
-step-requires c κs = c .before .before .loop .inv .0 .reads .sane
+step-requires c κs = c .before .before .loop .inv .0 .reads .fits
 
 enum-known-n : tie.Need-enum-known-n Inv-loop μ-loop
 enum-known-n c = search needs
@@ -56,10 +56,10 @@ returns : tie.Need-returns Inv-loop μ-loop
 returns c = going-bad _ _ _ _ _ _ (c .before .before .before .before .before .loop .inv .0) _ _ (c .before .before .before .before .before .before .before .before .before .before .pre .1) (c .before .before .before .before .loop-test .taken) (c .before .before .before .word .ensures) (c .before .before .step .ensures) _ (c .enum-told .given .1)
 
 act-of-requires : tie.Need-act-of-requires Inv-loop μ-loop
-act-of-requires c κs = cursor-low _ _ (c .before .before .before .before .before .before .before .loop .inv .0 .reads .sane)
+act-of-requires c κs = cursor-low _ _ (c .before .before .before .before .before .before .before .loop .inv .0 .reads .fits)
 
 store-act-requires : tie.Need-store-act-requires Inv-loop μ-loop
-store-act-requires c κs = fits _ _ _ _ _ _ _ _ _ (c .before .before .before .before .before .before .before .before .loop .inv .0 .reads .sane) (c .before .before .before .before .before .step .ensures) (c .before .before .before .n .given .1) (c .act-of .ensures) (omega (arith, c .before .before .before .before .before .before .before .before .loop .inv .1)) (omega (arith, c .before .before .before .before .before .before .before .before .before .before .before .before .before .pre .0 .few))
+store-act-requires c κs = fits _ _ _ _ _ _ _ _ _ (c .before .before .before .before .before .before .before .before .loop .inv .0 .reads .fits) (c .before .before .before .before .before .step .ensures) (c .before .before .before .n .given .1) (c .act-of .ensures) (omega (arith, c .before .before .before .before .before .before .before .before .loop .inv .1)) (omega (arith, c .before .before .before .before .before .before .before .before .before .before .before .before .before .pre .0 .few))
 
 add-at-2 : tie.Need-add-at-2 Inv-loop μ-loop
 add-at-2 c = search needs
@@ -68,7 +68,7 @@ loop-less : tie.Need-loop-less Inv-loop μ-loop
 loop-less c = search needs
 
 loop-again : tie.Need-loop-again Inv-loop μ-loop
-loop-again c = (going-on _ _ _ _ _ _ (c .before .before .before .before .before .before .before .before .before .before .before .loop .inv .0) _ _ (c .before .before .before .before .before .before .before .before .before .before .before .before .before .before .before .before .pre .1) (c .before .before .before .before .before .before .before .before .before .before .loop-test .taken) (c .before .before .before .before .before .before .before .before .before .word .ensures) (c .before .before .before .before .before .before .before .before .step .ensures) _ _ _ (c .before .before .before .before .before .before .n .given .1) (c .before .before .before .act-of .ensures) (c .before .before .store-act .ensures), length-place1 (c .before .before .before .before .before .before .before .before .before .before .before .loop .memory) _ (c .before .before .before .act-of .result) (c .before .before .store-act .ensures) ∙ c .before .before .before .before .before .before .before .before .before .before .before .loop .inv .1)
+loop-again c = (going-on _ _ _ _ _ _ (c .before .before .before .before .before .before .before .before .before .before .before .loop .inv .0) _ _ (c .before .before .before .before .before .before .before .before .before .before .before .before .before .before .before .before .pre .1) (c .before .before .before .before .before .before .before .before .before .before .loop-test .taken) (c .before .before .before .before .before .before .before .before .before .word .ensures) (c .before .before .before .before .before .before .before .before .step .ensures) _ _ _ (c .before .before .before .before .before .before .n .given .1) (c .before .before .before .act-of .ensures) (c .before .before .store-act .ensures), length-storeOne (c .before .before .before .before .before .before .before .before .before .before .before .loop .memory) _ (c .before .before .before .act-of .result) (c .before .before .store-act .ensures) ∙ c .before .before .before .before .before .before .before .before .before .before .before .loop .inv .1)
 
 same-length-2 : tie.Need-same-length-2 Inv-loop μ-loop
 same-length-2 c = c .before .loop .inv .1
