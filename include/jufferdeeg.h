@@ -65,11 +65,11 @@ extern "C" {
 /* The most hunks of a program: a table of so many records is never short. */
 #define JUFFERDEEG_MOST_HUNKS 64
 
-/* What a path leads to: kind of struct jufferdeeg_found. */
+/* What a path leads to: kind of struct jufferdeeg_find_numbers. */
 #define JUFFERDEEG_DIRECTORY 2u
 #define JUFFERDEEG_FILE 0xFFFFFFFDu
 
-struct jufferdeeg_audited {
+struct jufferdeeg_audit_numbers {
     uint32_t number;
     size_t place;
     uint32_t directories; /* below the root */
@@ -86,9 +86,9 @@ struct jufferdeeg_audited {
  * Left: accepted, claim byte k is 1 where block k is in use, and every other byte of the claim area is 0; refused, the whole claim area is 0.
  * Numbers: 0 to 17. What is met first is refused first: the length, the claim area, the boot tag, the root and its bitmap block; then the entries, slot
  * by slot along each chain, and what is in an entry before the next one on its chain; the bits at the end. */
-struct jufferdeeg_audited jufferdeeg_audit(const uint8_t *image, size_t image_bytes, uint8_t *claim, size_t claim_bytes);
+struct jufferdeeg_audit_numbers jufferdeeg_audit(const uint8_t *image, size_t image_bytes, uint8_t *claim, size_t claim_bytes);
 
-struct jufferdeeg_found {
+struct jufferdeeg_find_numbers {
     uint32_t number;
     size_t place;
     uint32_t kind; /* JUFFERDEEG_DIRECTORY or JUFFERDEEG_FILE */
@@ -102,9 +102,9 @@ struct jufferdeeg_found {
  * Lent: the image; the path, without an end mark.
  * Left: nothing is written.
  * Numbers: 0, 1, 3 to 12, 18, 19, 20. Only the blocks on the way are tested. */
-struct jufferdeeg_found jufferdeeg_find(const uint8_t *image, size_t image_bytes, const uint8_t *path, size_t path_bytes);
+struct jufferdeeg_find_numbers jufferdeeg_find(const uint8_t *image, size_t image_bytes, const uint8_t *path, size_t path_bytes);
 
-struct jufferdeeg_reading {
+struct jufferdeeg_read_numbers {
     uint32_t number;
     size_t place;
     size_t count; /* how many bytes were copied */
@@ -115,7 +115,7 @@ struct jufferdeeg_reading {
  * Lent: the image; the path, without an end mark; the output.
  * Left: the first count bytes of the output are the file's; the rest of it stays; refused, all of it stays.
  * Numbers: 0, 1, 3 to 12, 14, 15, 18, 19, 20. All of the file's blocks are tested before a byte is copied. */
-struct jufferdeeg_reading jufferdeeg_read(const uint8_t *image, size_t image_bytes, const uint8_t *path, size_t path_bytes, size_t offset,
+struct jufferdeeg_read_numbers jufferdeeg_read(const uint8_t *image, size_t image_bytes, const uint8_t *path, size_t path_bytes, size_t offset,
                                           uint8_t *output, size_t output_bytes);
 
 /* One for each hunk of a loaded program. */
@@ -126,7 +126,7 @@ struct jufferdeeg_hunk {
     uint32_t base;  /* the address that it was loaded for */
 };
 
-struct jufferdeeg_loaded {
+struct jufferdeeg_program_numbers {
     uint32_t number;
     size_t place;
     uint32_t hunks;
@@ -141,7 +141,7 @@ struct jufferdeeg_loaded {
  * Left: accepted, the loaded bytes and the hunks' records, the rest of memory and table as it was; refused, no byte of memory and no record changes. The
  * work area is all 0 in either case.
  * Numbers: 0, 30 to 42: faults of the file first, in its order, then 40, 41, 42. */
-struct jufferdeeg_loaded jufferdeeg_load(const uint8_t *file, size_t file_bytes, const uint32_t *bases, size_t bases_count, uint8_t *memory,
+struct jufferdeeg_program_numbers jufferdeeg_load(const uint8_t *file, size_t file_bytes, const uint32_t *bases, size_t bases_count, uint8_t *memory,
                                          size_t memory_bytes, struct jufferdeeg_hunk *table, size_t table_records, uint8_t *work, size_t work_bytes);
 
 /* Moves a program that was loaded from this file: what it has at the old bases becomes what a load at the new bases would give, byte for byte.
@@ -150,7 +150,7 @@ struct jufferdeeg_loaded jufferdeeg_load(const uint8_t *file, size_t file_bytes,
  * Left: as for a load at the new bases; on memory that holds something else, only relocated words change. Refused, no byte of memory and no record
  * changes. The work area is all 0 in either case.
  * Numbers: as for a load; for 40 the old bases come first, and the place of a new base counts on from the hunk count. */
-struct jufferdeeg_loaded jufferdeeg_move(const uint8_t *file, size_t file_bytes, const uint32_t *old_bases, size_t old_count,
+struct jufferdeeg_program_numbers jufferdeeg_move(const uint8_t *file, size_t file_bytes, const uint32_t *old_bases, size_t old_count,
                                          const uint32_t *new_bases, size_t new_count, uint8_t *memory, size_t memory_bytes,
                                          struct jufferdeeg_hunk *table, size_t table_records, uint8_t *work, size_t work_bytes);
 

@@ -33,7 +33,7 @@ static int all_are(const uint8_t *bytes, size_t count, uint8_t value) {
 }
 
 static void audit(const char *what, size_t image_bytes) {
-    struct jufferdeeg_audited a = jufferdeeg_audit(image, image_bytes, claim, sizeof claim);
+    struct jufferdeeg_audit_numbers a = jufferdeeg_audit(image, image_bytes, claim, sizeof claim);
     size_t claimed = 0;
     for (size_t k = 0; k < sizeof claim; k++) {
         claimed += claim[k];
@@ -43,20 +43,20 @@ static void audit(const char *what, size_t image_bytes) {
 }
 
 static void find(size_t image_bytes, const char *path) {
-    struct jufferdeeg_found f = jufferdeeg_find(image, image_bytes, (const uint8_t *)path, strlen(path));
+    struct jufferdeeg_find_numbers f = jufferdeeg_find(image, image_bytes, (const uint8_t *)path, strlen(path));
     printf("find \"%s\": number %u, place %zu, kind %X, key %u, size %u, compared %u\n", path, f.number, f.place, f.kind, f.key, f.size, f.compared);
 }
 
 /* Reads into room that is full of AA, and says whether what is after the bytes is so still. */
 static size_t read_file(size_t image_bytes, const char *path, size_t offset) {
     memset(file, 0xAA, sizeof file);
-    struct jufferdeeg_reading r = jufferdeeg_read(image, image_bytes, (const uint8_t *)path, strlen(path), offset, file, sizeof file);
+    struct jufferdeeg_read_numbers r = jufferdeeg_read(image, image_bytes, (const uint8_t *)path, strlen(path), offset, file, sizeof file);
     printf("read \"%s\" from %zu: number %u, place %zu, count %zu; the rest stays: %s\n", path, offset, r.number, r.place, r.count,
            yes_or_no(all_are(file + r.count, sizeof file - r.count, 0xAA)));
     return r.count;
 }
 
-static void say_program(const char *what, struct jufferdeeg_loaded l) {
+static void say_program(const char *what, struct jufferdeeg_program_numbers l) {
     printf("%s: number %u, place %zu, hunks %u, bytes %zu; the work area is clean: %s\n", what, l.number, l.place, l.hunks, l.bytes,
            yes_or_no(all_are(work, sizeof work, 0)));
     memset(work, 0xAA, sizeof work);
@@ -70,7 +70,7 @@ static void say_table(uint32_t hunks) {
 
 /* Loads, moves, and holds what was moved to a load at the new bases. Then a load and a move that are refused. */
 static void load_and_move(size_t file_bytes, size_t hunks) {
-    struct jufferdeeg_loaded l;
+    struct jufferdeeg_program_numbers l;
     for (size_t i = 0; i < hunks; i++) {
         here[i] = 0x3000 + 0x4000 * (uint32_t)i;
         there[i] = 0x90000 - 0x4000 * (uint32_t)i;
