@@ -12,7 +12,7 @@ use Rattle.jufferdeeg.specs.declared.programs.ProgramNumbers.{ProgramNum
 
 abbrev pub programNumbers : Answer → ProgramNumbers
 programNumbers a =
-    let n = numbersOf a in record { number = n .number; place = n .place; hunks = n .hunks; bytes = n .bytes }
+    let n = numbersOf a in record { number = n .number; place = n .place; hunks = n .values .hunks; bytes = n .values .bytes }
 
 -- ---- the promises: those of the call that it makes, and its answer's numbers
 

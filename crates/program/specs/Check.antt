@@ -6,6 +6,7 @@ use mathlib.Core.List.{List, [], _∷_}
 use lib.Dec.{eqb}
 use lib.ListN.{length}
 use Rattle.words.specs.Word.{wordsAt}
+use Rattle.answers.specs.Answers.{AnswerNumbers, acceptedAs, refusedAs}
 use Rattle.answers.specs.Numbers as fault
 use Rattle.answers.specs.Tests.{pick}
 use Rattle.answers.specs.Refusals.{refusal}
@@ -23,16 +24,15 @@ use Rattle.program.specs.declared.reader.Next.the-variants.{On, Bad}
 use Rattle.program.specs.Header.{totalOf, sizeOf, startAt, heads}
 use Rattle.program.specs.Reader.{start, stepOf}
 
--- an answer's numbers: 0, 0 and the values where it accepts; the refusal's, and 0 for the values
-pub record Numbers : Type 0 where
-  pub number : ℕ
-  pub place : ℕ
+-- the values of an answer
+pub record Values : Type 0 where
   pub hunks : ℕ
   pub bytes : ℕ
 
-abbrev pub numbersOf : Answer → Numbers
-numbersOf (Accepted t n) = record { number = 0; place = 0; hunks = t; bytes = n }
-numbersOf (Refused r) = record { number = r .number; place = r .place; hunks = 0; bytes = 0 }
+-- an answer's numbers
+abbrev pub numbersOf : Answer → AnswerNumbers Values
+numbersOf (Accepted t n) = acceptedAs (record { hunks = t; bytes = n })
+numbersOf (Refused r) = refusedAs (record { hunks = 0; bytes = 0 }) r
 
 -- the numbers of all refusals of a check
 abbrev pub checkRefusals : List ℕ
