@@ -57,13 +57,13 @@ pub(crate) fn mark_all(file: &[u8], work: &mut [u8]) -> Tested
         let Next::On(d) = n else {
             return Tested::Passed;
         };
+        let s = past(file, d, at + 4);
         if mark_act(work, act_of(c, at, w)) {
             return Tested::Failed(Refusal {
                 number: Fault::NEAR_TARGETS,
                 place: at,
             });
         }
-        let s = past(file, d, at + 4);
         c = s.cursor;
         at = s.at;
     }

@@ -76,8 +76,8 @@ pub(crate) fn add_all(file: &[u8], memory: &mut [u8], amounts: &[u32])
         let Next::On(d) = n else {
             return;
         };
-        add_act(memory, amounts, act_of(c, at, w));
         let s = past(file, d, at + 4);
+        add_act(memory, amounts, act_of(c, at, w));
         c = s.cursor;
         at = s.at;
     }

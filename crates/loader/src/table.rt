@@ -43,8 +43,8 @@ pub(crate) fn write_all(file: &[u8], bases: &[u32], table: &mut [u32])
         let Next::On(d) = n else {
             return;
         };
-        write_act(file, bases, table, act_of(c, at, w));
         let s = past(file, d, at + 4);
+        write_act(file, bases, table, act_of(c, at, w));
         c = s.cursor;
         at = s.at;
     }
