@@ -31,7 +31,8 @@ use Rattle.program.proofs.Modes.{none}
 use Rattle.program.proofs.CursorsFit.{offset-in}
 use Rattle.program.proofs.Walks.{Reads}
 use Rattle.program.proofs.Passes.{Passing}
-use Rattle.loader.specs.Memory.{loadedOf, ActFits, storeOne, targetOne, targets, shiftOne, amountOf}
+use Rattle.loader.specs.Memory.{loadedOf, storeOne, targetOne, targets, shiftOne, amountOf}
+use Rattle.loader.specs.Parts.{ActFits}
 use Rattle.loader.specs.Table.{recordOne}
 
 -- ---- what a word asks for lies inside

@@ -34,7 +34,8 @@ use Rattle.loader.specs.declared.calls.Outcome.{Outcome}
 use Rattle.loader.specs.Memory.{loadedOf}
 use Rattle.loader.specs.Bases.{basesFrom, basesFault}
 use Rattle.loader.specs.Near.{clashOf}
-use Rattle.loader.specs.Calls.{roomFault, also, lastTests, loadAnswer, moveAnswer, Fills, filledBy, filled, AcceptedFile}
+use Rattle.loader.specs.Calls.{roomFault, also, lastTests, loadAnswer, moveAnswer}
+use Rattle.loader.specs.Parts.{Fills, filledBy, filled, AcceptedFile}
 
 same-numbers : (a b t n : ℕ) → Accepted a b ≡ Accepted t n → (a ≡ t) × (b ≡ n)
 same-numbers a b t n h = ((cc), (cc))

@@ -17,7 +17,8 @@ use Rattle.program.specs.Check.{wordsFrom}
 use Rattle.program.specs.Acts.{actOf, then, acts, actsOf, pass}
 use Rattle.program.specs.Cursors.{HeaderFits, CursorFits}
 use Rattle.program.proofs.CursorsFit.{step-fits, start-fits}
-use Rattle.loader.specs.Memory.{loadedOf, ActFits, storeOne, withStored, targets, targetsOf, bodiesOf}
+use Rattle.loader.specs.Memory.{loadedOf, storeOne, withStored, targets, targetsOf, bodiesOf}
+use Rattle.loader.specs.Parts.{ActFits}
 use Rattle.loader.specs.Table.{recordOne, withRecords}
 use Rattle.loader.proofs.Acts.{act-fits, length-storeOne, length-recordOne}
 

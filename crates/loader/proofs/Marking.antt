@@ -35,8 +35,9 @@ use Rattle.program.proofs.Modes.{none}
 use Rattle.program.proofs.Walks.{Reads, reads-start, reads-on}
 use Rattle.program.proofs.Passes.{acts-on, acts-bad, acts-end}
 use Rattle.program.proofs.Runs.{leads-reads, leads-acts}
-use Rattle.loader.specs.Memory.{loadedOf, ActFits, targets}
-use Rattle.loader.specs.Near.{near, nearAny, clash, clashOf, marksOne, Marks}
+use Rattle.loader.specs.Memory.{loadedOf, targets}
+use Rattle.loader.specs.Near.{near, nearAny, clash, clashOf}
+use Rattle.loader.specs.Parts.{ActFits, marksOne, Marks}
 use Rattle.loader.proofs.Acts.{quiet-target, reads-fits}
 
 -- ---- one act

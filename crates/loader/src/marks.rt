@@ -15,8 +15,9 @@ ghost use Prim.Native.Nat.{ℕ, _+_, _%_, _≤_};
 ghost use lib.ListN.{length, getD};
 ghost use Rattle.words.specs.Word.{setWord};
 ghost use Rattle.program.specs.Cursors.{HeaderFits};
-ghost use Rattle.loader.specs.Memory.{ActFits, loadedOf};
-ghost use Rattle.loader.specs.Near.{clashOf, Marks};
+ghost use Rattle.loader.specs.Memory.{loadedOf};
+ghost use Rattle.loader.specs.Near.{clashOf};
+ghost use Rattle.loader.specs.Parts.{ActFits, Marks};
 
 // Four bytes of 1.
 const MARK: u32 = 0x01010101;

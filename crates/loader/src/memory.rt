@@ -15,7 +15,8 @@ ghost use Rattle.words.specs.Shift.{shiftAll};
 ghost use Rattle.program.specs.Header.{totalOf};
 ghost use Rattle.program.specs.Acts.{actsOf};
 ghost use Rattle.program.specs.Cursors.{HeaderFits};
-ghost use Rattle.loader.specs.Memory.{ActFits, storeOne, withStored, shiftOne, targetsOf, loadedOf, amountOf};
+ghost use Rattle.loader.specs.Memory.{storeOne, withStored, shiftOne, targetsOf, loadedOf, amountOf};
+ghost use Rattle.loader.specs.Parts.{ActFits};
 
 fn store_act(memory: &mut [u8], a: Act)
     requires { ⌜ ActFits (length (now memory)) 64 a ⌝ }
