@@ -11,7 +11,7 @@ use Rattle.program.specs.Header.{totalOf}
 use Rattle.program.specs.Check.{numbersOf}
 use Rattle.loader.specs.declared.calls.Outcome.{Outcome}
 use Rattle.loader.specs.Table.{recordsOf}
-use Rattle.loader.specs.Calls.{handed, LoadsCore, MovesCore}
+use Rattle.loader.specs.Parts.{handed, LoadsCore, MovesCore}
 use Rattle.loader.proofs.Answering.{load-facts, move-facts}
 use Rattle.hunks.specs.declared.Hunk.{Hunk}
 use Rattle.hunks.specs.declared.Counted.{Counted}

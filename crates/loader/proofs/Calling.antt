@@ -15,7 +15,8 @@ use Rattle.program.specs.Check.{numbersOf}
 use Rattle.loader.specs.declared.calls.Outcome.{Outcome}
 use Rattle.loader.specs.Memory.{withStored, targetsOf, amountOf, moved, loadOf, moveOf}
 use Rattle.loader.specs.Table.{tableRoom, withRecords, recordsOf, tableOf}
-use Rattle.loader.specs.Calls.{loadAnswer, moveAnswer, effect, handed, LoadsCore, MovesCore, Fills, filled, Loads, Moves}
+use Rattle.loader.specs.Calls.{loadAnswer, moveAnswer, effect, Loads, Moves}
+use Rattle.loader.specs.Parts.{handed, LoadsCore, MovesCore, Fills, filled}
 use Rattle.loader.proofs.Answering.{load-facts, move-facts}
 use Rattle.loader.proofs.Inside.{keyed-targets, length-withRecords}
 

@@ -17,9 +17,10 @@ use Rattle.program.specs.Check.{wordsFrom}
 use Rattle.program.specs.Acts.{actOf, then, acts, actsOf, pass}
 use Rattle.program.specs.Cursors.{HeaderFits, CursorFits}
 use Rattle.program.proofs.CursorsFit.{step-fits, start-fits}
-use Rattle.loader.specs.Memory.{loadedOf, ActFits, storeOne, withStored, targets, targetsOf, bodiesOf}
+use Rattle.loader.specs.Memory.{loadedOf, storeOne, withStored, targets, targetsOf, bodiesOf}
+use Rattle.loader.specs.Parts.{ActFits}
 use Rattle.loader.specs.Table.{recordOne, withRecords}
-use Rattle.loader.proofs.Acts.{act-fits, length-storeOne, length-entry}
+use Rattle.loader.proofs.Acts.{act-fits, length-storeOne, length-recordOne}
 
 -- every act lies within n bytes and t hunks
 abbrev pub Inside : ℕ → ℕ → List Act → Type 0
@@ -71,12 +72,12 @@ within-more n m (t ∷ ts) h w = (omega (arith, w .0), within-more n m ts h (w .
 pub length-withStored : (m : List ℕ) (us : List Act) → length (withStored m us) ≡ length m
 unfolding pass
 length-withStored m [] = refl
-length-withStored m (a ∷ us) = length-withStored (storeOne m a) us ∙ length-storeOne m _ a refl
+length-withStored m (a ∷ us) = length-withStored (storeOne m a) us ∙ length-storeOne m a
 
 pub length-withRecords : (file bases t : List ℕ) (us : List Act) → length (withRecords file bases t us) ≡ length t
 unfolding pass
 length-withRecords file bases t [] = refl
-length-withRecords file bases t (a ∷ us) = length-withRecords file bases (recordOne file bases t a) us ∙ length-entry file bases t _ a refl
+length-withRecords file bases t (a ∷ us) = length-withRecords file bases (recordOne file bases t a) us ∙ length-recordOne file bases t a
 
 pub length-bodies : (file m : List ℕ) → loadedOf file ≤ length m → length (bodiesOf file m) ≡ length m
 length-bodies file m h =

@@ -1,14 +1,14 @@
 -- The laws of moving: a load at A moved to B is a load at B; A to B to C is A to C; A to A changes nothing; A to B to A restores. From accepted
 -- loads it follows that these moves are accepted. Assumes nothing.
-use Prim.Native.Nat.{ℕ, zero, suc, _+_, _*_, _-_, _/_, _%_, _^_, _<_, _≤_}
+use Prim.Native.Nat.{ℕ, _+_, _*_, _-_, _/_, _%_, _^_, _≤_}
 use mathlib.Core.Path.{_≡_, refl, sym, ap, ap₂, _∙_}
 use mathlib.Core.List.{List, [], _∷_, _++_}
 use mathlib.Core.Bool.{Bool, true, false}
 use mathlib.Core.Logic.{_⊎_, inl, inr, ⊎-elim}
 use native.Mathlib.Omega.{arith}
-use lib.Dec.{eqb}
 use lib.ListN.{length, drop, replicate, length-replicate, length-append, length-drop}
 use lib.Seq.{drop-at, length-take-le}
+use Rattle.answers.specs.Numbers as fault
 use Rattle.words.specs.Shift.{Target}
 use Rattle.words.specs.Word.{Bytes}
 use Rattle.words.proofs.Words.{Far}
@@ -16,8 +16,7 @@ use Rattle.words.proofs.Shifts.{FarAll, Apart, Within, length-shiftAll, shiftAl
 use Rattle.answers.specs.Tests.{pick}
 use Rattle.answers.proofs.Tests.{pick-passed}
 use Rattle.answers.specs.Refusals.{refusal}
-use Rattle.answers.specs.declared.Tested.the-variants.{Passed, Failed}
-use Rattle.answers.proofs.Clashes.{impossible}
+use Rattle.answers.specs.declared.Tested.the-variants.{Passed}
 use Rattle.program.specs.declared.check.Answer.{Answer}
 use Rattle.program.specs.declared.check.Answer.the-variants.{Accepted}
 use Rattle.program.specs.Header.{totalOf}
@@ -26,7 +25,7 @@ use Rattle.program.specs.Acts.{actsOf}
 use Rattle.program.specs.Cursors.{HeaderFits}
 use Rattle.loader.specs.Memory.{loadedOf, targetsOf, amountOf, bodiesOf, loadOf, moved, moveOf}
 use Rattle.loader.specs.Table.{tableRoom, recordsOf, tableOf}
-use Rattle.loader.specs.Bases.{entryBad, basesFrom, basesFault}
+use Rattle.loader.specs.Bases.{basesFault}
 use Rattle.loader.specs.Near.{near, nearAny, clash, clashOf}
 use Rattle.loader.specs.Calls.{roomFault, loadAnswer, moveAnswer, Loads, Moves}
 use Rattle.loader.specs.Moving.{SameRoom, LoadsAt}
@@ -55,14 +54,14 @@ far-all : (q : ℕ) (seen : List ℕ) (ts : List Target) → clash seen ts ≡ P
 unfolding clash
 far-all q seen [] h a = tt
 far-all q seen (t ∷ ts) h a =
-    let p = pick-passed (nearAny (t .loadedAt) seen) (refusal 42 (t .byte)) _ h in
+    let p = pick-passed (nearAny (t .loadedAt) seen) (refusal fault.nearTargets (t .byte)) _ h in
     (far-one (t .loadedAt) q seen (p .0) a, far-all q (t .loadedAt ∷ seen) ts (p .1) (inr a))
 
 pub apart : (seen : List ℕ) (ts : List Target) → clash seen ts ≡ Passed → Apart ts
 unfolding clash
 apart seen [] h = tt
 apart seen (t ∷ ts) h =
-    let p = pick-passed (nearAny (t .loadedAt) seen) (refusal 42 (t .byte)) _ h in
+    let p = pick-passed (nearAny (t .loadedAt) seen) (refusal fault.nearTargets (t .byte)) _ h in
     (far-all (t .loadedAt) (t .loadedAt ∷ seen) ts (p .1) (inl refl), apart (t .loadedAt ∷ seen) ts (p .1))
 
 -- ---- a move between bases at which loads are accepted is accepted

@@ -7,6 +7,7 @@ use mathlib.Core.Logic.{_↔_, _⊎_, inl, inr, ⊎-elim}
 use native.Mathlib.Omega.{arith}
 use lib.Dec.{ltb}
 use borrow.Author.Tests.{ltb-true, lt-ltb}
+use Rattle.answers.specs.Numbers as fault
 use Rattle.words.specs.Shift.{Target}
 use Rattle.words.proofs.Words.{Far}
 use Rattle.words.proofs.Shifts.{FarAll, Apart}
@@ -28,7 +29,7 @@ pub record ClashWhy (ts : List Target) (f : Refusal) : Type 0 where
   pub target : Target
   pub after : List Target
   pub split : ts ≡ before ++ (target ∷ after)
-  pub said : f ≡ refusal 42 (target .byte)
+  pub said : f ≡ refusal fault.nearTargets (target .byte)
   pub first : clash [] before ≡ Passed
   pub other : Target
   pub among : (other ∈ before)
@@ -60,7 +61,7 @@ Clashes seen ts f =
     × (t : Target)
     × (vs : List Target)
     × (ts ≡ us ++ (t ∷ vs))
-    × (f ≡ refusal 42 (t .byte))
+    × (f ≡ refusal fault.nearTargets (t .byte))
     × (clash seen us ≡ Passed)
     × (q : ℕ)
     × Before seen us q
@@ -70,20 +71,20 @@ Clashes seen ts f =
 clash-from : (seen : List ℕ) (ts : List Target) (f : Refusal) → clash seen ts ≡ Failed f → Clashes seen ts f
 unfolding clash
 clash-from seen [] f h = not-failed h
-clash-from seen (s ∷ ts) f h = go (pick-failed (nearAny (s .loadedAt) seen) (refusal 42 (s .byte)) (clash (s .loadedAt ∷ seen) ts) f h) (clash-from (s .loadedAt ∷ seen) ts f)
+clash-from seen (s ∷ ts) f h = go (pick-failed (nearAny (s .loadedAt) seen) (refusal fault.nearTargets (s .byte)) (clash (s .loadedAt ∷ seen) ts) f h) (clash-from (s .loadedAt ∷ seen) ts f)
   where
     earlier : (us : List Target) (q : ℕ) → Before (s .loadedAt ∷ seen) us q → Before seen (s ∷ us) q
     earlier us q (inl (inl e)) = inr (s, inl refl, e)
     earlier us q (inl (inr a)) = inl a
     earlier us q (inr x) = inr (x .0, inr (x .1), x .2)
 
-    go : ((nearAny (s .loadedAt) seen ≡ true) × (f ≡ refusal 42 (s .byte))) ⊎ ((nearAny (s .loadedAt) seen ≡ false) × (clash (s .loadedAt ∷ seen) ts ≡ Failed f)) → (clash (s .loadedAt ∷ seen) ts ≡ Failed f → Clashes (s .loadedAt ∷ seen) ts f) → Clashes seen (s ∷ ts) f
+    go : ((nearAny (s .loadedAt) seen ≡ true) × (f ≡ refusal fault.nearTargets (s .byte))) ⊎ ((nearAny (s .loadedAt) seen ≡ false) × (clash (s .loadedAt ∷ seen) ts ≡ Failed f)) → (clash (s .loadedAt ∷ seen) ts ≡ Failed f → Clashes (s .loadedAt ∷ seen) ts f) → Clashes seen (s ∷ ts) f
     go (inl x) g = let r = near-there (s .loadedAt) seen (x .0) in ([], s, ts, refl, x .1, refl, r .0, inl (r .1), r .2, r .3)
     go (inr x) g =
         let r = g (x .1) in
         (s ∷ r .0, r .1, r .2, ap (λ (l : List Target). s ∷ l) (r .3), r .4, pick-goes _ _ _ _ (x .0) (r .5), r .6, earlier (r .0) (r .6) (r .7), r .8, r .9)
 
-clash-then : (seen : List ℕ) (us : List Target) (t : Target) (vs : List Target) (q : ℕ) → clash seen us ≡ Passed → Before seen us q → t .loadedAt < q + 4 → q < t .loadedAt + 4 → clash seen (us ++ (t ∷ vs)) ≡ Failed (refusal 42 (t .byte))
+clash-then : (seen : List ℕ) (us : List Target) (t : Target) (vs : List Target) (q : ℕ) → clash seen us ≡ Passed → Before seen us q → t .loadedAt < q + 4 → q < t .loadedAt + 4 → clash seen (us ++ (t ∷ vs)) ≡ Failed (refusal fault.nearTargets (t .byte))
 unfolding clash
 clash-then seen [] t vs q c b h k = pick-fails _ _ _ (near-back (t .loadedAt) q seen (old b) h k)
   where
@@ -91,7 +92,7 @@ clash-then seen [] t vs q c b h k = pick-fails _ _ _ (near-back (t .loadedAt) q 
     old (inl a) = a
     old (inr x) = absurd (x .1)
 clash-then seen (s ∷ us) t vs q c b h k =
-    let p = pick-passed (nearAny (s .loadedAt) seen) (refusal 42 (s .byte)) (clash (s .loadedAt ∷ seen) us) c in
+    let p = pick-passed (nearAny (s .loadedAt) seen) (refusal fault.nearTargets (s .byte)) (clash (s .loadedAt ∷ seen) us) c in
     pick-goes _ _ _ _ (p .0) (clash-then (s .loadedAt ∷ seen) us t vs q (p .1) (later b) h k)
   where
     later : Before seen (s ∷ us) q → Before (s .loadedAt ∷ seen) us q

@@ -6,10 +6,11 @@ use mathlib.Core.Logic.{_⊎_, inl, inr, ⊎-elim}
 use mathlib.Core.List.{List, [], _∷_, _++_, append-assoc}
 use native.Mathlib.Omega.{arith}
 use native.Mathlib.Decide.{decLt}
-use lib.ListN.{length, take}
+use lib.ListN.{length}
+use Rattle.program.specs.Types as type
 use Rattle.words.specs.Word.{wordAt, wordsAt}
 use Rattle.answers.proofs.Clashes.{impossible}
-use Rattle.program.specs.Page.{Group, Part, Hunk, relocation, symbols, debug, joined, nameWords, bodyWords, groupWords, symbolWords, partWords, hunkWords, written, headWords, Each, storedWords, OffsetFits, GroupFits, PartFits, HunkFits, Holds, total}
+use Rattle.program.specs.Page.{Group, Part, Hunk, relocation, symbols, debug, joined, nameWords, bodyWords, groupWords, partWords, hunkWords, Each, storedWords, OffsetFits, GroupFits, PartFits, HunkFits, Holds, total}
 use Rattle.program.specs.Header.{startAt}
 use Rattle.program.proofs.Heading.{split}
 use Rattle.program.proofs.Pages.{is-total, rest-words}
@@ -99,7 +100,7 @@ module _ (file : List ℕ) (places sizes : ℕ → ℕ) where
     parts-stand (relocation gs ∷ ps) rest at m f e =
         let q = e ∙ append-assoc (partWords (relocation gs)) (joined partWords ps) rest in
         let s = split file (partWords (relocation gs)) (joined partWords ps ++ rest) at m q in
-        let u = split file (0x3EC ∷ []) (joined groupWords gs ++ (0 ∷ (joined partWords ps ++ rest))) at m (q ∙ ap (λ (l : List ℕ). 0x3EC ∷ l) (append-assoc (joined groupWords gs) (0 ∷ []) (joined partWords ps ++ rest))) in
+        let u = split file (type.relocation ∷ []) (joined groupWords gs ++ (0 ∷ (joined partWords ps ++ rest))) at m (q ∙ ap (λ (l : List ℕ). type.relocation ∷ l) (append-assoc (joined groupWords gs) (0 ∷ []) (joined partWords ps ++ rest))) in
         each-append Stands (groupsAt i p (at + 4) gs) (partsAt i p (at + 4 * length (partWords (relocation gs))) ps)
         (groups-stand gs _ (at + 4) (m - 1) (f .0) (u .others))
         (parts-stand ps rest _ _ (f .1) (s .others))
@@ -119,11 +120,11 @@ module _ (file : List ℕ) (places sizes : ℕ → ℕ) where
       let ep : places i ≡ p = omega (arith, rw o at (g 0)) in
       let es : sizes i ≡ h .size = rw o at (z 0) in
       let en : n ≤ sizes i = omega (arith, es, stored-fit (h .body), f .0 .body) in
-      let q : hunkWords h ++ rest ≡ front ++ (parts ++ (0x3F2 ∷ rest)) = simp append-assoc in
+      let q : hunkWords h ++ rest ≡ front ++ (parts ++ (type.end ∷ rest)) = simp append-assoc in
       let s = split file (hunkWords h) rest at m e in
-      let u = split file front (parts ++ (0x3F2 ∷ rest)) at m (e ∙ q) in
+      let u = split file front (parts ++ (type.end ∷ rest)) at m (e ∙ q) in
       each-append Stands (hunkAt i p at h) (hunksAt (i + 1) (p + 4 * h .size) (at + 4 * length (hunkWords h)) hs)
-      (parts-stand t n i p ep en (h .parts) (0x3F2 ∷ rest) _ _ (f .0 .parts) (u .others))
+      (parts-stand t n i p ep en (h .parts) (type.end ∷ rest) _ _ (f .0 .parts) (u .others))
       (hunks-stand t hs (i + 1) (p + 4 * h .size) _ _ (f .1)
       (λ k. let y : i + suc k ≡ i + 1 + k = omega arith in omega (arith, rw y at (g (suc k))))
       (λ k. let y : i + suc k ≡ i + 1 + k = omega arith in rw y at (z (suc k)))

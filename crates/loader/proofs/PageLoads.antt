@@ -174,11 +174,6 @@ targets-page h p at (x ∷ xs) =
     ∙ ap (λ (u : List Target). map bare (hunkAt h p at x) ++ u) (targets-page (h + 1) (p + 4 * x .size) to xs)
     ∙ sym (map-append bare (hunkAt h p at x) (hunksAt (h + 1) (p + 4 * x .size) to xs))
 
-relocated-bare : (m : List ℕ) (ts : List PageTarget) (f : ℕ → ℕ) → shiftAll m (map bare ts) f ≡ relocated m ts f
-unfolding shiftAll relocated
-relocated-bare m [] f = refl
-relocated-bare m (t ∷ ts) f = relocated-bare (addAt m (t .loadedAt) (f (t .named))) ts f
-
 -- ---- of a file
 
 module _ (file : List ℕ) (hs : List Hunk) (pr : Program hs) (whole : length file % 4 ≡ 0) (e : wordsAt file 0 (length file / 4) ≡ written hs) where
@@ -223,7 +218,7 @@ module _ (file : List ℕ) (hs : List Hunk) (pr : Program hs) (whole : length fi
 
   -- a load and a move, by the page alone
   page-relocated : (m : List ℕ) (f : ℕ → ℕ) → shiftAll m (targetsOf file) f ≡ relocated m (fileTargets hs) f
-  page-relocated m f = ap (λ (ts : List Target). shiftAll m ts f) page-targets ∙ relocated-bare m (fileTargets hs) f
+  page-relocated m f = ap (λ (ts : List Target). shiftAll m ts f) page-targets
 
   pub page-loads : (bases m : List ℕ) → loadOf file bases m ≡ relocated (imageOf hs ++ drop (4 * total hs) m) (fileTargets hs) (amountOf bases)
   page-loads bases m = page-load bases m ∙ page-relocated (imageOf hs ++ drop (4 * total hs) m) (amountOf bases)

@@ -1,10 +1,11 @@
 -- 42 in the terms of the page: it is given at the first target that is near an earlier one of its hunk, at its byte in the file. Assumes nothing.
 use Prim.Native.Nat.{ℕ, _+_, _<_}
 use mathlib.Core.Path.{_≡_, refl, sym, ap, ap₂, subst, _∙_}
-use mathlib.Core.Logic.{_↔_, _⊎_, inl, inr}
+use mathlib.Core.Logic.{_↔_, inl, inr}
 use mathlib.Core.List.{List, [], _∷_, _++_, map, map-append}
 use native.Mathlib.Omega.{arith}
 use native.Mathlib.Decide.{decLt}
+use Rattle.answers.specs.Numbers as fault
 use Rattle.words.specs.Shift.{Target}
 use Rattle.words.proofs.Words.{Far}
 use Rattle.words.proofs.Shifts.{FarAll, Apart}
@@ -20,7 +21,7 @@ use Rattle.answers.specs.Members.{_∈_}
 use Rattle.loader.specs.Verdicts.{Near, Spaced, FirstNear}
 use Rattle.loader.proofs.NearTargets.{ClashWhy, clash-why, apart-exactly}
 use Rattle.loader.proofs.PageLoads.{page-targets}
-use Rattle.loader.proofs.OneHunk.{each-member, member-left, targets-named, near-one-hunk}
+use Rattle.loader.proofs.OneHunk.{each-member, targets-named, near-one-hunk}
 
 -- ---- lists of bare targets
 
@@ -117,7 +118,7 @@ module _ (file : List ℕ) (hs : List Hunk) (held : Holds file hs) where
     λ s. apart-exactly (targetsOf file) .1 (subst Apart (sym triples) (spaced-apart (fileTargets hs) named s)),
   )
 
-  near-there : (f : Refusal) → ClashWhy (targetsOf file) f → (p : ℕ) × (f ≡ refusal 42 p) × FirstNear hs p
+  near-there : (f : Refusal) → ClashWhy (targetsOf file) f → (p : ℕ) × (f ≡ refusal fault.nearTargets p) × FirstNear hs p
   near-there f r =
       let c = cut-at (fileTargets hs) (r .before) (r .target) (r .after) (sym triples ∙ r .split) in
       let o = bare-member (r .other) (c .before) (subst (λ l. r .other ∈ l) (sym (c .firsts)) (r .among)) in
@@ -129,7 +130,7 @@ module _ (file : List ℕ) (hs : List Hunk) (held : Holds file hs) where
       let u : c .target .loadedAt < o .0 .loadedAt + 4 = omega (arith, pt, po, r .below) in
       let v : o .0 .loadedAt < c .target .loadedAt + 4 = omega (arith, pt, po, r .above) in (
         c .target .byte,
-        r .said ∙ ap (λ (t : Target). refusal 42 (t .byte)) (sym (c .this)),
+        r .said ∙ ap (λ (t : Target). refusal fault.nearTargets (t .byte)) (sym (c .this)),
         record {
           before = c .before;
           target = c .target;
@@ -143,7 +144,7 @@ module _ (file : List ℕ) (hs : List Hunk) (held : Holds file hs) where
         },
       )
 
-  near-back : (f : Refusal) (p : ℕ) → f ≡ refusal 42 p → FirstNear hs p → ClashWhy (targetsOf file) f
+  near-back : (f : Refusal) (p : ℕ) → f ≡ refusal fault.nearTargets p → FirstNear hs p → ClashWhy (targetsOf file) f
   near-back f p e r =
       let all = subst (Each (Named file hs)) (r .split) named in
       let b = each-left (Named file hs) (r .before) (r .target ∷ r .after) all in
@@ -152,7 +153,7 @@ module _ (file : List ℕ) (hs : List Hunk) (held : Holds file hs) where
         target = bare (r .target);
         after = map bare (r .after);
         split = triples ∙ ap (map bare) (r .split) ∙ map-append bare (r .before) (r .target ∷ r .after);
-        said = e ∙ ap (refusal 42) (r .place);
+        said = e ∙ ap (refusal fault.nearTargets) (r .place);
         first = apart-exactly (map bare (r .before)) .1 (spaced-apart (r .before) b (r .spaced));
         other = bare (r .other);
         among = member-bare (r .other) (r .before) (r .earlier);
@@ -161,5 +162,5 @@ module _ (file : List ℕ) (hs : List Hunk) (held : Holds file hs) where
       }
 
   -- 42 is given exactly at the first target that is near an earlier one of its hunk, at its byte in the file.
-  pub near-exactly : (f : Refusal) → (clashOf file ≡ Failed f) ↔ ((p : ℕ) × (f ≡ refusal 42 p) × FirstNear hs p)
+  pub near-exactly : (f : Refusal) → (clashOf file ≡ Failed f) ↔ ((p : ℕ) × (f ≡ refusal fault.nearTargets p) × FirstNear hs p)
   near-exactly f = (λ h. near-there f (clash-why (targetsOf file) f .0 h), λ h. clash-why (targetsOf file) f .1 (near-back f (h .0) (h .1) (h .2)))

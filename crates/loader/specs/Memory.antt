@@ -1,6 +1,6 @@
 -- Loaded memory: hunks end to end, their stored words, zeros up to their sizes, and each target with its amount (docs/FORMAT.md, "The
 -- program file").
-use Prim.Native.Nat.{ℕ, _+_, _-_, _%_, _^_, _<_, _≤_}
+use Prim.Native.Nat.{ℕ, _+_, _-_, _%_, _^_}
 use mathlib.Core.List.{List, [], _∷_, _++_}
 use lib.ListN.{getD, drop, replicate}
 use Rattle.words.specs.Word.{setWord, addAt}
@@ -14,13 +14,6 @@ use Rattle.program.specs.Cursors.{placeOf}
 -- the bytes that the hunks take
 abbrev pub loadedOf : List ℕ → ℕ
 loadedOf file = placeOf (sizeOf file) (totalOf file)
-
--- what an act asks lies within n bytes and t hunks
-abbrev pub ActFits : ℕ → ℕ → Act → Type 0
-ActFits n t Quiet = Unit
-ActFits n t (Body h p k) = (h < t) × (p < 4294967296)
-ActFits n t (Store p w) = p + 4 ≤ n
-ActFits n t (Add p k b) = (p + 4 ≤ n) × (k < t)
 
 -- memory with the word of an act stored, and of all acts
 abbrev pub storeOne : List ℕ → Act → List ℕ

@@ -2,11 +2,11 @@
 use Prim.Native.Nat.{ℕ, zero, suc, _+_, _-_, _*_, _/_, _%_, _^_, _<_, _≤_}
 use mathlib.Core.Path.{_≡_}
 use mathlib.Core.Logic.{_⊎_}
-use mathlib.Core.List.{List, [], _∷_, _++_}
+use mathlib.Core.List.{List, [], _∷_, _++_, map}
 use lib.ListN.{length, replicate, take, drop}
 use Rattle.program.specs.Types as type
-use Rattle.words.specs.Word.{wordAt, addAt}
-use Rattle.words.specs.Shift.{Target}
+use Rattle.words.specs.Word.{wordAt}
+use Rattle.words.specs.Shift.{Target, shiftAll}
 use Rattle.program.specs.Page.{Body, Group, Part, Hunk, code, stores, bss, relocation, symbols, debug, joined, nameWords, bodyWords, groupWords, partWords, hunkWords, Each, storedWords, total}
 use Rattle.loader.specs.Memory.{amountOf, moved}
 
@@ -95,9 +95,8 @@ pub record Named (file : List ℕ) (hs : List Hunk) (x : PageTarget) : Type 0 wh
   pub within : wordAt file (x .byte) + 4 ≤ 4 * sizeAt hs (x .hunk)
 
 -- each target gets its amount, one after the other
-unfoldable pub relocated : List ℕ → List PageTarget → (ℕ → ℕ) → List ℕ
-relocated m [] f = m
-relocated m (t ∷ ts) f = relocated (addAt m (t .loadedAt) (f (t .named))) ts f
+abbrev pub relocated : List ℕ → List PageTarget → (ℕ → ℕ) → List ℕ
+relocated m ts f = shiftAll m (map bare ts) f
 
 -- the word at each target in m′ is that in m and the target's amount, modulo 2^32
 abbrev pub Adds : List ℕ → List ℕ → List PageTarget → (ℕ → ℕ) → Type 0

@@ -18,7 +18,8 @@ ghost use Prim.Native.Nat.{ℕ, _<_, _≤_};
 ghost use lib.ListN.{length, getD, take, drop};
 ghost use Rattle.answers.specs.Refusals.{refusal};
 ghost use Rattle.loader.specs.Memory.{moved, amountOf};
-ghost use Rattle.loader.specs.Calls.{roomFault, also, lastTests, loadAnswer, moveAnswer, LoadsCore, MovesCore, Fills, filled, Loads, Moves, AcceptedFile};
+ghost use Rattle.loader.specs.Calls.{roomFault, also, lastTests, loadAnswer, moveAnswer, Loads, Moves};
+ghost use Rattle.loader.specs.Parts.{LoadsCore, MovesCore, Fills, filled, AcceptedFile};
 
 // An answer, and the records' numbers beside it.
 pub struct Outcome {

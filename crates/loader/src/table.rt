@@ -14,7 +14,7 @@ ghost use lib.ListN.{length};
 ghost use Rattle.program.specs.Header.{totalOf};
 ghost use Rattle.program.specs.Acts.{actsOf};
 ghost use Rattle.program.specs.Cursors.{HeaderFits};
-ghost use Rattle.loader.specs.Memory.{ActFits};
+ghost use Rattle.loader.specs.Parts.{ActFits};
 ghost use Rattle.loader.specs.Table.{recordOne, withRecords};
 
 fn write_act(file: &[u8], bases: &[u32], table: &mut [u32], a: Act)
@@ -43,8 +43,8 @@ pub(crate) fn write_all(file: &[u8], bases: &[u32], table: &mut [u32])
         let Next::On(d) = n else {
             return;
         };
-        write_act(file, bases, table, act_of(c, at, w));
         let s = past(file, d, at + 4);
+        write_act(file, bases, table, act_of(c, at, w));
         c = s.cursor;
         at = s.at;
     }

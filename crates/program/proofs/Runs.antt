@@ -1,5 +1,5 @@
 -- Words that are stored or passed over lead on (`past-stored`, `past-skipped`), and what a reader or a pass makes of the rest stays
--- (`leads-reads`, `going-past`). Assumes nothing.
+-- (`leads-reads`, `passing-turn`). Assumes nothing.
 use Prim.Native.Nat.{ℕ, zero, suc, _+_, _-_, _*_, _/_, _%_, _<_, _≤_, min}
 use mathlib.Core.Path.{_≡_, refl, sym, ap, subst, _∙_}
 use mathlib.Core.List.{List, _∷_}
@@ -22,7 +22,7 @@ use Rattle.program.specs.Acts.{actOf, actsFrom, pass}
 use Rattle.program.specs.Cursors.{CursorFits}
 use Rattle.program.specs.Runs.{modedOf, skipAt, storedAt, QuietOrStore, Leads, here, along}
 use Rattle.program.proofs.Walks.{Reads, reads-on}
-use Rattle.program.proofs.Passes.{acts-on, Going, Passing, passing-on}
+use Rattle.program.proofs.Passes.{acts-on, Passing, passing-on}
 
 -- ---- where a step takes the cursor
 
@@ -100,43 +100,44 @@ module _ (file : List ℕ) where
 
   -- ---- what stays
 
-  pub leads-far : {c d : Cursor} {at to : ℕ} → Leads file c at d to → at ≤ to
+  leads-far : {c d : Cursor} {at to : ℕ} → Leads file c at d to → at ≤ to
   leads-far here = omega arith
   leads-far (along l e a k) = let h = leads-far k in omega arith
 
-  pub leads-reads : {c d : Cursor} {at to : ℕ} → length file % 4 ≡ 0 → Leads file c at d to → Reads file c at → Reads file d to
-  leads-reads h here i = i
-  leads-reads h (along {c = c} {d = d} {at = at} l e a k) i = leads-reads h k (reads-on file c at _ _ d i h l refl refl e)
+  pub leads-reads : {c d : Cursor} {at to : ℕ} → Leads file c at d to → Reads file c at → Reads file d to
+  leads-reads here i = i
+  leads-reads (along {c = c} {d = d} {at = at} l e a k) i = leads-reads k (reads-on file c at _ _ d i l refl refl e)
 
 -- what makes nothing of quiet acts and stores makes the same of the acts from here and from there
-pub leads-acts : {Y : Type 0} (f : List Act → Y) (file : List ℕ) → ((a : Act) (us : List Act) → QuietOrStore a → f (a ∷ us) ≡ f us) → {c d : Cursor} {at to : ℕ} → length file % 4 ≡ 0 → Leads file c at d to → Reads file c at → f (actsFrom file at c) ≡ f (actsFrom file to d)
-leads-acts f file quiet h here i = refl
-leads-acts f file quiet h (along {c = c} {d = d} {at = at} l e a k) i =
-    ap f (acts-on file at c _ _ h i l refl refl d _ e refl)
+pub leads-acts : {Y : Type 0} (f : List Act → Y) (file : List ℕ) → ((a : Act) (us : List Act) → QuietOrStore a → f (a ∷ us) ≡ f us) → {c d : Cursor} {at to : ℕ} → Leads file c at d to → Reads file c at → f (actsFrom file at c) ≡ f (actsFrom file to d)
+leads-acts f file quiet here i = refl
+leads-acts f file quiet (along {c = c} {d = d} {at = at} l e a k) i =
+    ap f (acts-on file at c _ _ i l refl refl d _ e refl)
     ∙ quiet _ _ a
-    ∙ leads-acts f file quiet h k (reads-on file c at _ _ d i h l refl refl e)
-
-pub going-past : {X : Type 0} (g : X → Act → X) → ((x : X) (a : Act) → QuietOrStore a → g x a ≡ x) → (file : List ℕ) (x₀ x : X) {c d : Cursor} {at to : ℕ} → length file % 4 ≡ 0 → Going g file x₀ x c at → Leads file c at d to → Going g file x₀ x d to
-unfolding pass
-going-past g quiet file x₀ x h i k =
-    record {
-      reads = leads-reads file h k (i .reads);
-      left = i .left ∙ leads-acts (pass g x) file (λ a us m. ap (λ y. pass g y us) (quiet x a m)) h k (i .reads);
-    }
+    ∙ leads-acts f file quiet k (reads-on file c at _ _ d i l refl refl e)
 
 -- ---- a turn of a loop that goes on past such words
 
-pub turn-aligned : (file : List ℕ) (c : Cursor) (at : ℕ) → Reads file c at → (at + 4) % 4 ≡ 0
-turn-aligned file c at i = omega (arith, i .aligned)
+pub turn-less : (file : List ℕ) (d e : Cursor) (at to : ℕ) → at < length file → Leads file d (at + 4) e to → length file - to < length file - at
+turn-less file d e at to h k = omega (arith, leads-far file k)
 
-module _ (file : List ℕ) (c d : Cursor) (at w : ℕ) (r : Next) (i : Reads file c at) (h : length file % 4 ≡ 0) (l : at < length file) (p : w ≡ wordAt file at) (q : r ≡ stepOf (totalOf file) (sizeOf file) c w) (n : r ≡ On d) where
-  pub turn-fits : CursorFits file d
-  turn-fits = reads-on file c at w r d i h l p q n .fits
+module _ (file : List ℕ) (c : Cursor) (at : ℕ) (i : Reads file c at) where
+  pub turn-aligned : (at + 4) % 4 ≡ 0
+  turn-aligned = omega (arith, i .aligned)
 
-  pub reads-turn : (e : Cursor) (to : ℕ) → Leads file d (at + 4) e to → Reads file e to
-  reads-turn e to k = leads-reads file h k (reads-on file c at w r d i h l p q n)
+  module _ (w : ℕ) (r : Next) (d : Cursor) (l : at < length file) (p : w ≡ wordAt file at) (q : r ≡ stepOf (totalOf file) (sizeOf file) c w) (n : r ≡ On d) where
+    pub turn-fits : CursorFits file d
+    turn-fits = reads-on file c at w r d i l p q n .fits
 
-pub passing-turn : (g : List ℕ → Act → List ℕ) (file x₀ x : List ℕ) (c d e : Cursor) (at w : ℕ) (r : Next) (a : Act) (y : List ℕ) (to : ℕ) → Passing g file x₀ x c at → length file % 4 ≡ 0 → at < length file → w ≡ wordAt file at → r ≡ stepOf (totalOf file) (sizeOf file) c w → r ≡ On d → a ≡ actOf c at w → y ≡ g x a → Leads file d (at + 4) e to → ((z : List ℕ) (b : Act) → length (g z b) ≡ length z) → ((z : List ℕ) (b : Act) → QuietOrStore b → g z b ≡ z) → Passing g file x₀ y e to
-passing-turn g file x₀ x c d e at w r a y to i h l p q n z k f long quiet =
-    let j = passing-on g file x₀ x c at i w r d a y h l p q n z k long in
-    record { going = going-past g quiet file x₀ y h (j .going) f; long = j .long }
+    pub reads-turn : (e : Cursor) (to : ℕ) → Leads file d (at + 4) e to → Reads file e to
+    reads-turn e to k = leads-reads file k (reads-on file c at w r d i l p q n)
+
+pub passing-turn : (g : List ℕ → Act → List ℕ) (file x₀ x : List ℕ) (c d e : Cursor) (at w : ℕ) (r : Next) (a : Act) (y : List ℕ) (to : ℕ) → Passing g file x₀ x c at → at < length file → w ≡ wordAt file at → r ≡ stepOf (totalOf file) (sizeOf file) c w → r ≡ On d → a ≡ actOf c at w → y ≡ g x a → Leads file d (at + 4) e to → ((z : List ℕ) (b : Act) → length (g z b) ≡ length z) → ((z : List ℕ) (b : Act) → QuietOrStore b → g z b ≡ z) → Passing g file x₀ y e to
+unfolding pass
+passing-turn g file x₀ x c d e at w r a y to i l p q n z k f long quiet =
+    let j = passing-on g file x₀ x c at i w r l p q d a y n z k long in
+    record {
+      reads = leads-reads file f (j .reads);
+      left = j .left ∙ leads-acts (pass g y) file (λ b us m. ap (λ u. pass g u us) (quiet y b m)) f (j .reads);
+      long = j .long;
+    }

@@ -77,5 +77,5 @@ module _ (file : List ℕ) (whole : length file % 4 ≡ 0) where
 
   -- where the reader comes to, the rest of the file gives the file's answer
   pub comes-reads : HeaderFits file → {c : Cursor} {at : ℕ} → Comes file c at → Reads file c at
-  comes-reads s begins = reads-start file start (startAt file) (totalOf file) s refl refl refl
-  comes-reads s (takes {c} {d} {at} r h q) = reads-on file c at (wordAt file at) _ d (comes-reads s r) whole h refl refl q
+  comes-reads s begins = reads-start file start (startAt file) (totalOf file) s whole refl refl refl
+  comes-reads s (takes {c} {d} {at} r h q) = reads-on file c at (wordAt file at) _ d (comes-reads s r) h refl refl q

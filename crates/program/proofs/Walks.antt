@@ -56,28 +56,30 @@ module _ (file : List ℕ) (at : ℕ) where
 
 pub record Reads (file : List ℕ) (c : Cursor) (at : ℕ) : Type 0 where
   pub fits : CursorFits file c
+  pub whole : length file % 4 ≡ 0
   pub within : at ≤ length file
   pub aligned : at % 4 ≡ 0
   pub rest : walkOf file ≡ restOf file at c
 
-pub reads-start : (file : List ℕ) (c : Cursor) (at t : ℕ) → HeaderFits file → c ≡ start → t ≡ totalOf file → at ≡ 20 + 4 * t → Reads file c at
-reads-start file c at t s e g h =
-    record { fits = rw e (start-fits file s); within = omega (arith, s .long); aligned = omega arith; rest = rw (e, h, g) }
+pub reads-start : (file : List ℕ) (c : Cursor) (at t : ℕ) → HeaderFits file → length file % 4 ≡ 0 → c ≡ start → t ≡ totalOf file → at ≡ 20 + 4 * t → Reads file c at
+reads-start file c at t s v e g h =
+    record { fits = rw e (start-fits file s); whole = v; within = omega (arith, s .long); aligned = omega arith; rest = rw (e, h, g) }
 
-pub reads-on : (file : List ℕ) (c : Cursor) (at w : ℕ) (r : Next) (d : Cursor) → Reads file c at → length file % 4 ≡ 0 → at < length file → w ≡ wordAt file at → r ≡ stepOf (totalOf file) (sizeOf file) c w → r ≡ On d → Reads file d (at + 4)
-reads-on file c at w r d i h l p q e =
+pub reads-on : (file : List ℕ) (c : Cursor) (at w : ℕ) (r : Next) (d : Cursor) → Reads file c at → at < length file → w ≡ wordAt file at → r ≡ stepOf (totalOf file) (sizeOf file) c w → r ≡ On d → Reads file d (at + 4)
+reads-on file c at w r d i l p q e =
     record {
       fits = step-fits file c w d (i .fits) (sym q ∙ e);
-      within = omega (arith, i .aligned);
+      whole = i .whole;
+      within = omega (arith, i .whole, i .aligned);
       aligned = omega (arith, i .aligned);
-      rest = i .rest ∙ walk-on file at c w r h (i .aligned) l p q d e;
+      rest = i .rest ∙ walk-on file at c w r (i .whole) (i .aligned) l p q d e;
     }
 
 -- ---- its returns
 
 module _ (file : List ℕ) (c : Cursor) (at : ℕ) (i : Reads file c at) (a : Answer) where
-  pub reads-bad : (w : ℕ) (r : Next) (v : ℕ) → length file % 4 ≡ 0 → at < length file → w ≡ wordAt file at → r ≡ stepOf (totalOf file) (sizeOf file) c w → r ≡ Bad v → a ≡ refuse v at → a ≡ walkOf file
-  reads-bad w r v h l p q e k = k ∙ sym (i .rest ∙ walk-bad file at c w r h (i .aligned) l p q v e)
+  pub reads-bad : (w : ℕ) (r : Next) (v : ℕ) → at < length file → w ≡ wordAt file at → r ≡ stepOf (totalOf file) (sizeOf file) c w → r ≡ Bad v → a ≡ refuse v at → a ≡ walkOf file
+  reads-bad w r v l p q e k = k ∙ sym (i .rest ∙ walk-bad file at c w r (i .whole) (i .aligned) l p q v e)
 
   pub reads-end : length file ≤ at → a ≡ endedOf (length file) c (c .mode) → a ≡ walkOf file
   reads-end h k = k ∙ sym (i .rest ∙ walk-end file at c h)

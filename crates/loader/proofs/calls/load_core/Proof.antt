@@ -12,7 +12,7 @@ wipe-requires : tie.Need-wipe-requires
 wipe-requires c κs = search needs
 
 load-answer-requires : tie.Need-load-answer-requires
-load-answer-requires c κs = all-zero _ (length (c .before .before .before .before .before .before .before .before .before .args .work .now)) (c .before .before .before .wipe .ensures)
+load-answer-requires c κs = search all-zero
 
 wipe-requires-2 : tie.Need-wipe-requires-2
 wipe-requires-2 c κs = search needs
@@ -51,7 +51,7 @@ same-length-3 : tie.Need-same-length-3
 same-length-3 c = search needs
 
 returns-2 : tie.Need-returns-2
-returns-2 c = core-refused _ (c .before .before .before .before .before .before .before .before .before .before .before .before .wipe .last .0) (c .before .before .before .before .before .before .before .before .load-answer .last .1 .1 .1 .1 .0) (c .before .before .before .before .wipe2 .last .0) (c .before .before .before .before .before .before .before .before .before .before .before .before .wipe .ensures) (omega arith) (c .before .before .before .before .wipe2 .ensures) _ _ _ _ _ refl _ (c .before .before .before .before .before .before .before .before .load-answer .ensures) _ (c .enum-told .given .1) refl
+returns-2 c = search core-refused depth 12
 
 pub load-core-spec : {M : Type 1} → statement M
 load-core-spec =

@@ -1,9 +1,8 @@
 -- `program::check::hunks` meets its contract: what is left of the walk decides. Assumes nothing.
 use Prim.Native.Nat.{_-_}
-use native.Mathlib.Omega.{arith}
 use lib.ListN.{length}
 use Rattle.program.proofs.Walks.{Reads, reads-start, reads-bad, reads-end}
-use Rattle.program.proofs.Runs.{leads-far, turn-aligned, turn-fits, reads-turn}
+use Rattle.program.proofs.Runs.{turn-less, turn-aligned, turn-fits, reads-turn}
 use borrow.Author.Needs.{needs}
 use Rattle.program.proofs.check.hunks.Statement.{statement}
 use Rattle.program.proofs.check.hunks.Tie as tie
@@ -51,7 +50,7 @@ past-requires : tie.Need-past-requires Inv-loop μ-loop
 past-requires c κs = (search turn-fits depth 7, search, search turn-aligned)
 
 loop-less : tie.Need-loop-less Inv-loop μ-loop
-loop-less c = omega (arith, leads-far _ (c .before .past .ensures))
+loop-less c = search turn-less
 
 loop-again : tie.Need-loop-again Inv-loop μ-loop
 loop-again c = search reads-turn depth 7
