@@ -136,19 +136,44 @@ fn structs_lie_as_in_c() {
     assert_eq!(size_of::<Hunk>(), 16);
 }
 
-/// `pub const NAME: u32 = 7;` and `#define JUFFERDEEG_NAME 7`, as name and number.
+/// `pub const NAME: u32 = 7;` or `#define JUFFERDEEG_NAME 7 /* why */`, as name and number.
 fn constants(text: &str, before: &str, between: &str) -> Vec<(String, String)> {
-    let lines = text.lines().filter_map(|l| l.trim().strip_prefix(before));
+    let lines = text.lines().filter_map(|l| l.trim().split("/*").next().unwrap().trim().strip_prefix(before));
     let pairs = lines.filter_map(|l| l.trim_end_matches(';').split_once(between));
-    pairs.map(|(name, number)| (name.to_string(), number.trim().to_string())).collect()
+    pairs.map(|(name, number)| (name.to_string(), number.to_string())).collect()
+}
+
+/// What stands from one text to the next other.
+fn stretch<'a>(text: &'a str, from: &str, to: &str) -> &'a str {
+    let rest = &text[text.find(from).unwrap_or_else(|| panic!("there is no {from}"))..];
+    &rest[..rest.find(to).unwrap()]
 }
 
 #[test]
 fn refusals_have_the_same_numbers() {
+    let (c, rust) = (text("include/jufferdeeg.h"), text("include/rust/src/lib.rs"));
     let proved = constants(&text("crates/answers/src/lib.rt"), "pub const ", ": u32 = ");
     assert_eq!(proved.len(), 33);
-    let rust = text("include/rust/src/lib.rs");
-    let module = &rust[rust.find("pub mod fault {").unwrap()..];
-    let faults = &module[..module.find("\n}").unwrap()];
+    let defined = stretch(&c, "/* The numbers of refusals", "\n\n");
+    assert_eq!(constants(defined, "#define JUFFERDEEG_", " "), proved);
+    let faults = stretch(&rust, "pub mod fault {", "\n}");
     assert_eq!(constants(faults, "pub const ", ": u32 = "), proved);
+}
+
+#[test]
+fn lengths_and_versions_are_the_same() {
+    let c = constants(&text("include/jufferdeeg.h"), "#define JUFFERDEEG_", " ");
+    let of = |name: &str| &c.iter().find(|(one, _)| one == name).unwrap_or_else(|| panic!("{name}")).1[..];
+    assert_eq!(of("IMAGE_BYTES"), jufferdeeg::IMAGE_BYTES.to_string());
+    assert_eq!(of("CLAIM_BYTES"), jufferdeeg::CLAIM_BYTES.to_string());
+    assert_eq!(of("MOST_HUNKS"), jufferdeeg::MOST_HUNKS.to_string());
+    assert_eq!(of("MOST_BYTES"), jufferdeeg::MOST_BYTES.to_string());
+    assert_eq!(of("DIRECTORY"), format!("{}u", jufferdeeg::DIRECTORY));
+    assert_eq!(of("FILE"), format!("0x{:X}u", jufferdeeg::FILE));
+    let version = of("VERSION");
+    let parts = [of("VERSION_MAJOR"), of("VERSION_MINOR"), of("VERSION_PATCH")];
+    assert_eq!(version, format!("\"{}\"", parts.join(".")));
+    assert!(text("include/rust/Cargo.toml").contains(&format!("\nversion = {version}\n")));
+    let newest = format!("\n## {}\n", version.trim_matches('"'));
+    assert!(text("CHANGELOG.md").contains(&newest));
 }

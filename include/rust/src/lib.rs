@@ -21,6 +21,8 @@ pub const IMAGE_BYTES: usize = 901_120;
 pub const CLAIM_BYTES: usize = 1_760;
 /// The most hunks of a program: a table of so many records is never short.
 pub const MOST_HUNKS: usize = 64;
+/// The most bytes of a loaded program: memory and a work area of so many are never short.
+pub const MOST_BYTES: usize = 16_777_216;
 
 /// `kind` of [`FindNumbers`] for a directory.
 pub const DIRECTORY: u32 = 2;
