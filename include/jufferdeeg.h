@@ -1,5 +1,5 @@
-/* Jufferdeeg: audits the image of an 880 KB floppy of the old file system, finds and reads its files, loads a
- * program file into memory and moves a loaded program to other addresses.
+/* Jufferdeeg: audits the image of an 880 KB floppy of the old file system, finds and reads its files, checks a
+ * program file, loads it into memory and moves a loaded program to other addresses.
  *
  * `./make-archive` proves the library and makes target/native/libjufferdeeg.a for this processor, x86-64 or
  * aarch64. It needs memcpy and memset of a C library, and nothing else from outside.
@@ -142,6 +142,20 @@ struct jufferdeeg_read_numbers jufferdeeg_read(const uint8_t *image, size_t imag
 #define JUFFERDEEG_MOST_HUNKS 64
 #define JUFFERDEEG_MOST_BYTES 16777216
 
+struct jufferdeeg_program_numbers {
+    uint32_t number;
+    size_t place;
+    uint32_t hunks;
+    size_t bytes; /* how much of the memory they take */
+};
+
+/* Checks a program file, and says how many hunks it has and how many bytes they take: the room that a load needs.
+ *
+ * Lent: the file.
+ * Left: nothing is written.
+ * Numbers: 0, 30 to 39: the file's first fault. */
+struct jufferdeeg_program_numbers jufferdeeg_check(const uint8_t *file, size_t file_bytes);
+
 /* One for each hunk of a loaded program. */
 struct jufferdeeg_hunk {
     uint32_t kind;  /* 0x3E9 code, 0x3EA data, 0x3EB bss */
@@ -150,19 +164,12 @@ struct jufferdeeg_hunk {
     uint32_t base;  /* the address that it was loaded for */
 };
 
-struct jufferdeeg_program_numbers {
-    uint32_t number;
-    size_t place;
-    uint32_t hunks;
-    size_t bytes; /* how much of the memory they take */
-};
-
 /* Loads a program file for the given bases: the hunks' addresses on the machine that will run it. Memory gets the
  * hunks end to end from its first byte on, 0 in the words that the file does not store, and at each relocated word
  * the base of the hunk that the relocation names is added, modulo 2^32.
  *
- * Lent: the file; the bases, exactly one for each hunk, in their order; memory and a work area, each of 4 bytes or
- * more for each word of the hunks; a table, of a record or more for each hunk. What these three hold does not matter.
+ * Lent: the file; the bases, exactly one for each hunk, in their order; memory and a work area, each of the bytes that
+ * the check says or more; a table, of a record for each hunk or more. What these three hold does not matter.
  * A base is a multiple of 4; base plus bytes of the hunk are at most 2^32; no two hunks share an address. A hunk of
  * 0 words has none, and may stand anywhere.
  * Left: accepted, the loaded bytes and the hunks' records, and the rest of memory and table as it was; refused, no

@@ -94,23 +94,32 @@ fn proved(source: &str, call: &str) -> Vec<String> {
     types
 }
 
+/// The type after `->` of a function.
+fn answer(source: &str, call: &str) -> String {
+    let rest = &source[source.find(&format!("fn {call}(")).unwrap_or_else(|| panic!("there is no {call}"))..];
+    let after = rest[rest.find("->").unwrap() + 2..].trim_start();
+    after[..after.find(|c: char| !c.is_ascii_alphanumeric()).unwrap()].to_string()
+}
+
 #[test]
 fn calls_are_declared_alike() {
     let (c, rust) = (text("include/jufferdeeg.h"), text("include/rust/src/lib.rs"));
     let (volumes, programs) =
         (text("crates/jufferdeeg/src/volumes.rt"), text("crates/jufferdeeg/src/programs.rt"));
-    for (call, answer, source) in [
-        ("jufferdeeg_audit", "audit_numbers", &volumes),
-        ("jufferdeeg_find", "find_numbers", &volumes),
-        ("jufferdeeg_read", "read_numbers", &volumes),
-        ("jufferdeeg_load", "program_numbers", &programs),
-        ("jufferdeeg_move", "program_numbers", &programs),
+    for (call, in_c, of, source) in [
+        ("jufferdeeg_audit", "struct jufferdeeg_audit_numbers", "AuditNumbers", &volumes),
+        ("jufferdeeg_find", "struct jufferdeeg_find_numbers", "FindNumbers", &volumes),
+        ("jufferdeeg_read", "struct jufferdeeg_read_numbers", "ReadNumbers", &volumes),
+        ("jufferdeeg_check", "struct jufferdeeg_program_numbers", "ProgramNumbers", &programs),
+        ("jufferdeeg_load", "struct jufferdeeg_program_numbers", "ProgramNumbers", &programs),
+        ("jufferdeeg_move", "struct jufferdeeg_program_numbers", "ProgramNumbers", &programs),
     ] {
-        let for_c = parts(&inside(&c, &format!("struct jufferdeeg_{answer} {call}"), '(', ')'), ',', of_c);
+        let for_c = parts(&inside(&c, &format!("{in_c} {call}"), '(', ')'), ',', of_c);
         let for_rust = parts(&inside(&rust, &format!("pub fn {call}"), '(', ')'), ',', of_rust);
         assert_eq!(for_c, for_rust, "{call}");
         let types: Vec<String> = for_c.into_iter().map(|(_, of)| of).collect();
         assert_eq!(types, proved(source, call), "{call}");
+        assert_eq!([answer(&rust, call), answer(source, call)], [of, of], "{call}");
     }
 }
 

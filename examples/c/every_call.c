@@ -61,6 +61,13 @@ static size_t read_file(size_t image_bytes, const char *path, size_t offset) {
     return r.count;
 }
 
+/* The check of a file that was read: how many hunks it has. */
+static uint32_t check(const char *what, size_t file_bytes) {
+    struct jufferdeeg_program_numbers p = jufferdeeg_check(file, file_bytes);
+    printf("check of %s: number %u, place %zu, hunks %u, bytes %zu\n", what, p.number, p.place, p.hunks, p.bytes);
+    return p.hunks;
+}
+
 static void say_program(const char *what, struct jufferdeeg_program_numbers l) {
     printf("%s: number %u, place %zu, hunks %u, bytes %zu; the work area is clean: %s\n", what, l.number, l.place,
            l.hunks, l.bytes, yes_or_no(all_are(work, sizeof work, 0)));
@@ -125,7 +132,7 @@ int main(int argc, char **argv) {
     read_file(image_bytes, "", 0);
     read_file(image_bytes, argv[2], 4);
     size_t file_bytes = read_file(image_bytes, argv[2], 0);
-    /* word 2 of a program file is the number of its hunks; the load itself sees whether that is so */
-    load_and_move(file_bytes, file[11] % (MOST + 1));
+    check("half of it", file_bytes / 8 * 4);
+    load_and_move(file_bytes, check("it", file_bytes));
     return 0;
 }

@@ -2,8 +2,8 @@
  * that was overwritten. It makes its own input: a volume whose directories lie one in the other, with a file as deep
  * as a path can lead, and a program of 64 hunks with a relocation each.
  *
- * It prints the distance from the caller's frame to the lowest byte that changed. `examples/c/run stack` builds and
- * runs it. */
+ * It prints the distance from the caller's frame to the lowest byte that changed; less than 500 cannot be told apart.
+ * `examples/c/run stack` builds and runs it. */
 #define _GNU_SOURCE
 #include <pthread.h>
 #include <stdio.h>
@@ -120,6 +120,9 @@ static uint32_t find(void) {
 static uint32_t read_file(void) {
     return jufferdeeg_read(image, sizeof image, path, sizeof path, 0, output, sizeof output).number;
 }
+static uint32_t check(void) {
+    return jufferdeeg_check(file, file_bytes).number;
+}
 static uint32_t load(void) {
     return jufferdeeg_load(file, file_bytes, old_bases, HUNKS, memory, sizeof memory, table, HUNKS, work, sizeof work)
         .number;
@@ -136,8 +139,17 @@ static uint32_t (*call)(void);
 static uint32_t number;
 static size_t taken;
 
+/* Paints the stack from its end up to this function's own frame. What the thread's start has left there is gone. */
+static __attribute__((noinline)) void paint(void) {
+    volatile uint8_t *at = stack, *frame = __builtin_frame_address(0);
+    while (at < frame - 256) {
+        *at++ = PAINT;
+    }
+}
+
 static void *on_thread(void *unused) {
     const uint8_t *top = __builtin_frame_address(0), *low = stack;
+    paint();
     number = call();
     while (*low == PAINT) {
         low++;
@@ -151,7 +163,6 @@ static int measure(const char *name, uint32_t (*made)(void)) {
     pthread_t thread;
     call = made;
     call(); /* what is bound at the first use is bound now */
-    memset(stack, PAINT, sizeof stack);
     if (pthread_attr_init(&attributes) || pthread_attr_setstack(&attributes, stack, sizeof stack) ||
         pthread_create(&thread, &attributes, on_thread, NULL) || pthread_join(thread, NULL)) {
         fprintf(stderr, "stack: there is no thread\n");
@@ -165,5 +176,5 @@ int main(void) {
     make_volume();
     make_program();
     int bad = measure("audit", audit) + measure("find", find) + measure("read", read_file);
-    return bad + measure("load", load) + measure("move", move);
+    return bad + measure("check", check) + measure("load", load) + measure("move", move);
 }
