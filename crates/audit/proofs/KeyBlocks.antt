@@ -15,8 +15,8 @@ use Rattle.volume.specs.Rules.{fileFault}
 use Rattle.volume.proofs.Passes.{list-passed}
 use Rattle.walk.specs.declared.Counts.{Counts}
 use Rattle.walk.specs.Nodes.{Node, list, datum, keyNodes, keyBlockNodes, leadsTo, noted, withList, withBlock, faultOf}
-use Rattle.audit.specs.declared.claims.Walked.{Walked}
-use Rattle.audit.specs.declared.claims.Walked.the-variants.{Done, Stopped}
+use Rattle.audit.specs.declared.walked.Walked.{Walked}
+use Rattle.audit.specs.declared.walked.Walked.the-variants.{Done, Stopped}
 use Rattle.walk.specs.declared.KeyBlock.{KeyBlock}
 use Rattle.walk.specs.KeyBlocks.{KeysReady, nextList}
 use Rattle.walk.proofs.Links.{linked-next, is-known}

@@ -14,8 +14,8 @@ use Rattle.volume.specs.Law.{chainKey}
 use Rattle.walk.specs.Nodes.{Node, entry, list, keyOf, keyFault, keyNodes, chained, graph}
 use Rattle.walk.specs.declared.KeyBlock.{KeyBlock}
 use Rattle.walk.specs.KeyBlocks.{keysIn, nextList, KeysKnown}
-use Rattle.audit.specs.declared.claims.Walked.{Walked}
-use Rattle.audit.specs.declared.claims.Walked.the-variants.{Done, Stopped}
+use Rattle.audit.specs.declared.walked.Walked.{Walked}
+use Rattle.audit.specs.declared.walked.Walked.the-variants.{Done, Stopped}
 
 -- a key is claimed, or refused
 pub record Claims (d : Disk) (cl : List ℕ) (k r : ℕ) (cl′ : List ℕ) : Type 0 where

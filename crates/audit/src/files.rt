@@ -1,7 +1,7 @@
 // The walk through a file: the data blocks of its header, then each list block with its own.
-use crate::claims::Walked;
 use crate::claims::claim_key;
-use crate::claims::stopped;
+use crate::walked::Walked;
+use crate::walked::stopped;
 use volume::block::Block;
 use volume::block::word_of;
 use volume::disk::Disk;
