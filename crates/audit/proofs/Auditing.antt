@@ -24,8 +24,8 @@ use Rattle.volume.proofs.Sizes.{range-is}
 use Rattle.walk.specs.declared.Counts.{Counts}
 use Rattle.walk.specs.Nodes.{Node, root, bitmap, leadsTo, noted, slotNodes, nothing, graph, walkOf}
 use Rattle.walk.proofs.Accepts.{accepted-lawful}
-use Rattle.audit.specs.declared.claims.Walked.{Walked}
-use Rattle.audit.specs.declared.claims.Walked.the-variants.{Done, Stopped}
+use Rattle.audit.specs.declared.walked.Walked.{Walked}
+use Rattle.audit.specs.declared.walked.Walked.the-variants.{Done, Stopped}
 use Rattle.audit.specs.declared.bitmap.Mapped.{Mapped}
 use Rattle.audit.specs.declared.bitmap.Mapped.the-variants.{Right, Wrong}
 use Rattle.audit.specs.declared.audit.Report.{Report}

@@ -24,8 +24,8 @@ use Rattle.volume.proofs.Names.{name-short}
 use Rattle.volume.proofs.Passes.{entry-passed}
 use Rattle.walk.specs.declared.Counts.{Counts}
 use Rattle.walk.specs.Nodes.{Node, entry, chained, slotNodes, contents, leadsTo, noted, withEntry, twin, keyFault, hangsFault, faultOf}
-use Rattle.audit.specs.declared.claims.Walked.{Walked}
-use Rattle.audit.specs.declared.claims.Walked.the-variants.{Done, Stopped}
+use Rattle.audit.specs.declared.walked.Walked.{Walked}
+use Rattle.audit.specs.declared.walked.Walked.the-variants.{Done, Stopped}
 use Rattle.audit.specs.Walks.{Claims, Met, Walks, Ready, Known, Chain, EntryWalked}
 use Rattle.audit.proofs.Meeting.{met-tests}
 use Rattle.audit.proofs.Walking.{not-both, walks-none, walks-stopped, walks-then, walks-part, met-free, met-range, met-passed, met-stops, met-goes, ready-met, ready-walked}

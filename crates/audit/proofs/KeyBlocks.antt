@@ -6,21 +6,17 @@ use native.Mathlib.Omega.{arith}
 use lib.ListN.{length}
 use Rattle.answers.specs.declared.Refusal.{Refusal}
 use Rattle.answers.specs.Refusals.{refusal}
+use Rattle.reach.specs.Walk.{free}
 use Rattle.volume.specs.declared.disk.Disk.{Disk}
-use Rattle.volume.specs.Disks.{fileLimit}
-use Rattle.volume.specs.Blocks.{slots, Holds, wordOf, keyWord}
-use Rattle.volume.specs.Files.{sizeOf, blocksOf}
-use Rattle.volume.specs.Law.{KeyCount}
-use Rattle.volume.specs.Rules.{fileFault}
-use Rattle.volume.proofs.Passes.{list-passed}
+use Rattle.volume.specs.Blocks.{Holds, wordOf, keyWord}
 use Rattle.walk.specs.declared.Counts.{Counts}
-use Rattle.walk.specs.Nodes.{Node, list, datum, keyNodes, keyBlockNodes, leadsTo, noted, withList, withBlock, faultOf}
-use Rattle.audit.specs.declared.claims.Walked.{Walked}
-use Rattle.audit.specs.declared.claims.Walked.the-variants.{Done, Stopped}
-use Rattle.walk.specs.declared.KeyBlock.{KeyBlock}
-use Rattle.walk.specs.KeyBlocks.{KeysReady, nextList}
-use Rattle.walk.proofs.Links.{linked-next, is-known}
-use Rattle.walk.proofs.Loops.{in-image, nodes, next, Turn, turn-few, turn-next, turn-again, turn-all, headerOf, header-next, Link, link-start, link-more, link-last, link-again}
+use Rattle.walk.specs.declared.file.KeyBlock.{KeyBlock}
+use Rattle.walk.specs.Nodes.{Node, list, datum, listLink, keyNodes, keyBlockNodes, leadsTo, noted, withList, withBlock}
+use Rattle.walk.specs.KeyBlocks.{headerOf, nextOf, keysIn, listNode, linkTo, InFile, KeysReady, InImage, NextReady}
+use Rattle.walk.proofs.Links.{link-next}
+use Rattle.walk.proofs.Loops.{in-image, ready-image, nodes, next, Turn, turn-next, turn-again, turn-end, list-ready}
+use Rattle.audit.specs.declared.walked.Walked.{Walked}
+use Rattle.audit.specs.declared.walked.Walked.the-variants.{Done, Stopped}
 use Rattle.audit.specs.Walks.{Met, Walks, Ready, KeysWalked, ListWalked}
 use Rattle.audit.proofs.Walking.{not-both, walks-none, walks-stopped, walks-then, walks-part, met-free, met-inside, met-passed, met-stops, met-goes, ready-met, ready-walked}
 
@@ -44,11 +40,12 @@ module _ (d : Disk) (s : List ℕ) (b : KeyBlock) where
       record { turn = v; ready = r; long = refl; walked = rw y (walks-none d s (nodes d s b 0 count) c cl) }
 
   module _ (cl₀ : List ℕ) (c₀ : Counts) (count : ℕ) (cl : List ℕ) (c : Counts) (last i : ℕ) (v : KeysInv cl₀ c₀ count cl c last i) where
-    pub keys-asks : i < count → (n : ℕ) → n ≡ b .done + i + 1 → (Ready d s cl c) × (b .header < d .blocks) × (last < d .blocks) × (sizeOf s (b .header) ≤ fileLimit d) × (1 ≤ n) × (n ≤ blocksOf d s (b .header))
-    keys-asks h n e = (v .ready, v .turn .ready .header, v .turn .inside, v .turn .ready .size, omega arith, rw e (turn-few d s b count last i (v .turn) h (v .ready .sized) .1))
-
     keys-on : (cl′ : List ℕ) (r : Walked) → i < count → Walks d s (next d s b i last ∷ []) [] c cl r cl′ → Walks d s (nodes d s b 0 count) (nodes d s b (i + 1) (count - (i + 1))) c₀ cl₀ r cl′
     keys-on cl′ r h w = walks-then d s (nodes d s b 0 count) _ (next d s b i last ∷ []) [] (nodes d s b (i + 1) (count - (i + 1))) c₀ c cl₀ cl cl′ (Done c) r (v .walked) refl (turn-next d s b count last i (v .turn) h) w
+
+    -- what was walked of the data blocks, and then the link
+    keys-link : (rest : List Node) (r : Walked) (cl′ : List ℕ) → Walks d s (nodes d s b 0 count) rest c₀ cl₀ r cl′ → Walks d s (keyBlockNodes d s (b .header) (b .key) (b .done) (b .last)) (rest ++ linkTo (nextOf s b)) c₀ cl₀ r cl′
+    keys-link rest r cl′ w = rw (link-next d s b (v .turn .ready), ← v .turn .counted) (walks-part d s (nodes d s b 0 count) rest (linkTo (nextOf s b)) c₀ cl₀ cl′ r w)
 
     module _ (k f : ℕ) (cl′ : List ℕ) (h : i < count) (e : k ≡ keyWord s (b .key) i) (m : Met d s (datum k (b .header) (b .done + i + 1) last) cl f cl′) where
       abbrev met : Met d s (next d s b i last) cl f cl′
@@ -57,8 +54,8 @@ module _ (d : Disk) (s : List ℕ) (b : KeyBlock) where
       pub keys-out : (r : Walked) → (f ≡ 0 → ⊥) → r ≡ Stopped (refusal f k) → KeysWalked d s b c₀ cl₀ r cl′
       keys-out r t q =
           record {
-            walks = rw (← v .turn .counted) (walks-stopped d s (nodes d s b 0 count) _ [] c₀ cl₀ cl′ r _ (keys-on cl′ r h (met-stops d s (next d s b i last) cl cl′ f met [] c cl′ r t (rw e at q))) q);
-            keys = λ x p. not-both _ x (sym q ∙ p);
+            walks = walks-stopped d s _ _ _ c₀ cl₀ cl′ r _ (keys-link _ r cl′ (keys-on cl′ r h (met-stops d s (next d s b i last) cl cl′ f met [] c cl′ r t (rw e at q)))) q;
+            next = λ x p. not-both _ x (sym q ∙ p);
           }
 
       pub keys-step : (c′ : Counts) → f ≡ 0 → length cl′ ≡ length cl → c′ ≡ withBlock c → KeysInv cl₀ c₀ count cl′ c′ k (i + 1)
@@ -75,87 +72,92 @@ module _ (d : Disk) (s : List ℕ) (b : KeyBlock) where
     unfolding keyNodes
     keys-end h =
         let e : count - i ≡ 0 = omega arith in
-        record { walks = rw (← v .turn .counted) (rw e at (v .walked)); keys = λ x p. turn-all d s b count last i (v .turn) h }
+        record { walks = keys-link [] (Done c) cl (rw e at (v .walked)); next = λ x p. turn-end d s b count last i (v .turn) h }
 
 -- ---- a list block
 
 module _ (d : Disk) (s : List ℕ) (b : KeyBlock) (n : Counts) (cl cl₁ : List ℕ) (f : ℕ) where
-  abbrev node : Node
-  node = list (b .key) (b .header) (b .done) (b .last)
-
-  pub list-stops : (cl″ : List ℕ) (r : Walked) → Met d s node cl f cl₁ → (f ≡ 0 → ⊥) → r ≡ Stopped (refusal f (b .key)) → ListWalked d s b n cl r cl″
+  pub list-stops : (cl″ : List ℕ) (r : Walked) → Met d s (listNode b) cl f cl₁ → (f ≡ 0 → ⊥) → r ≡ Stopped (refusal f (b .key)) → ListWalked d s b n cl r cl″
   list-stops cl″ r m t e =
-      record { walks = met-stops d s node cl cl₁ f m _ n cl″ r t e; known = λ c p. not-both _ c (sym e ∙ p); less = λ c p. not-both _ c (sym e ∙ p) }
+      record {
+        walks = met-stops d s (listNode b) cl cl₁ f m _ n cl″ r t e;
+        image = λ c p. not-both _ c (sym e ∙ p);
+        next = λ c p. not-both _ c (sym e ∙ p);
+        less = λ c p. not-both _ c (sym e ∙ p);
+      }
 
-  module _ (m : Met d s node cl f cl₁) (z : f ≡ 0) where
-    counted-so : KeyCount s (b .key) (blocksOf d s (b .header) - b .done)
-    unfolding faultOf
-    counted-so = list-passed s (b .key) (b .header) _ (met-passed d s node cl cl₁ f m z) .2
-
-    pub list-asks : (c : Counts) → Ready d s cl n → b .header < d .blocks → b .last < d .blocks → sizeOf s (b .header) ≤ fileLimit d → b .done ≤ blocksOf d s (b .header) → length cl₁ ≡ length cl → c ≡ withList n → Ready d s cl₁ c × KeysReady d s b
+  module _ (m : Met d s (listNode b) cl f cl₁) (z : f ≡ 0) where
+    pub list-counts : (c : Counts) → Ready d s cl n → length cl₁ ≡ length cl → c ≡ withList n → Ready d s cl₁ c
     unfolding noted
-    list-asks c r h l u o e q = (ready-met d s node n cl cl₁ f r m z e c q, record { size = u; header = h; key = met-inside d s node cl cl₁ f m z; last = l; done = o })
+    list-counts c r e q = ready-met d s (listNode b) n cl cl₁ f r m z e c q
 
-    pub list-goes : (c : Counts) (r : Walked) (cl₂ : List ℕ) → c ≡ withList n → KeysWalked d s b c cl₁ r cl₂ → ListWalked d s b n cl r cl₂
+    pub list-lists : InFile d s b → KeysReady d s b
+    list-lists i = list-ready d s b i (met-inside d s (listNode b) cl cl₁ f m z) (met-passed d s (listNode b) cl cl₁ f m z)
+
+    pub list-goes : (c : Counts) (r : Walked) (cl₂ : List ℕ) → Ready d s cl n → InFile d s b → c ≡ withList n → KeysWalked d s b c cl₁ r cl₂ → ListWalked d s b n cl r cl₂
     unfolding noted leadsTo
-    list-goes c r cl₂ q w =
+    list-goes c r cl₂ y i q w =
         record {
-          walks = met-goes d s node cl cl₁ f m _ n cl₂ r z (rw (linked-next d s (b .header) (b .key) (b .done) (b .last) counted-so, ← q) (walks-part d s _ [] (nextList s (b .header) (b .key) (b .done)) c cl₁ cl₂ r (w .walks)));
-          known = λ x p. is-known d s (b .header) (b .key) (b .done) (b .last) counted-so (met-inside d s node cl cl₁ f m z) (w .keys x p);
-          less = λ x p. omega (arith, w .walks .less x p, met-free d s node cl cl₁ f m z);
+          walks = met-goes d s (listNode b) cl cl₁ f m _ n cl₂ r z (rw q at (w .walks));
+          image = λ x p. ready-image d s b (list-lists i) (y .sized) (y .image);
+          next = w .next;
+          less = λ x p. omega (arith, w .walks .less x p, met-free d s (listNode b) cl cl₁ f m z);
         }
 
--- ---- a file
+-- what the code asks of it once it is walked
+module _ (d : Disk) (s : List ℕ) (b : KeyBlock) (n : Counts) (cl : List ℕ) (r : Walked) (cl′ : List ℕ) (v : ListWalked d s b n cl r cl′) (c : Counts) (e : r ≡ Done c) where
+  pub list-image : InImage s b
+  list-image = v .image c e
 
-module _ (d : Disk) (s : List ℕ) (h : ℕ) where
-  pub file-stops : (cl : List ℕ) (n : Counts) (w : Walked) (x : Refusal) (cl₁ : List ℕ) → KeysWalked d s (headerOf h) n cl w cl₁ → w ≡ Stopped x → Walks d s (keyBlockNodes d s h h 0 h) [] n cl w cl₁
-  file-stops cl n w x cl₁ k e = walks-stopped d s _ _ [] n cl cl₁ w x (walks-part d s _ [] _ n cl cl₁ w (k .walks)) e
+  pub list-less : free cl′ < free cl
+  list-less = v .less c e
 
-  pub record FileInv (m₀ : Counts) (cl₀ cl : List ℕ) (m : Counts) (keyBlock done next : ℕ) : Type 0 where
-    pub link : Link d s h keyBlock done next
+-- ---- a file: the header's data blocks, and then its list blocks from block b₀ on
+
+module _ (d : Disk) (s : List ℕ) (h : ℕ) (b : KeyBlock) (g : b ≡ headerOf s h) (cl : List ℕ) (n : Counts) (w : Walked) (cl₁ : List ℕ) (k : KeysWalked d s b n cl w cl₁) where
+  header-walks : Walks d s (keyBlockNodes d s h h 0 h) (linkTo (nextOf s (headerOf s h))) n cl w cl₁
+  header-walks = (rw g at k) .walks
+
+  pub file-stops : (x : Refusal) → w ≡ Stopped x → Walks d s (keyBlockNodes d s h h 0 h) [] n cl w cl₁
+  file-stops x e = walks-stopped d s _ _ [] n cl cl₁ w x header-walks e
+
+  pub file-joins : (c : Counts) (b₀ : KeyBlock) (r : Walked) (cl₂ : List ℕ) → w ≡ Done c → b₀ ≡ nextOf s b → Walks d s (linkTo b₀) [] c cl₁ r cl₂ → Walks d s (keyBlockNodes d s h h 0 h) [] n cl r cl₂
+  file-joins c b₀ r cl₂ q e v = walks-then d s _ _ (linkTo (nextOf s (headerOf s h))) [] [] n c cl cl₁ cl₂ w r header-walks q (sym (append-nil _)) (rw (e, g) at v)
+
+module _ (d : Disk) (s : List ℕ) (b₀ : KeyBlock) where
+  pub record ListsInv (m₀ : Counts) (cl₀ cl : List ℕ) (m : Counts) (b : KeyBlock) : Type 0 where
+    pub next : NextReady d s b
     pub ready : Ready d s cl m
     pub long : length cl ≡ length cl₀
-    pub walked : Walks d s (nextList s h h 0) (nextList s h keyBlock done) m₀ cl₀ (Done m) cl
+    pub walked : Walks d s (linkTo b₀) (linkTo b) m₀ cl₀ (Done m) cl
 
-  module _ (cl : List ℕ) (n : Counts) (w : Walked) (c : Counts) (cl₁ : List ℕ) (e : fileFault d s h ≡ 0) (k : KeysWalked d s (headerOf h) n cl w cl₁) (q : w ≡ Done c) where
-    pub file-start : (x : ℕ) → Ready d s cl n → h < d .blocks → length cl₁ ≡ length cl → x ≡ wordOf s h 126 → FileInv c cl₁ cl₁ c h 0 x
-    file-start x r l y f =
-        record { link = link-start d s h x e l (k .keys c q) f; ready = ready-walked d s _ [] n c cl cl₁ w r (k .walks) q y; long = refl; walked = walks-none d s (nextList s h h 0) c cl₁ }
+  pub lists-start : (b : KeyBlock) (cl : List ℕ) (n : Counts) (w : Walked) (c : Counts) (cl₁ : List ℕ) → KeysWalked d s b n cl w cl₁ → w ≡ Done c → b₀ ≡ nextOf s b → Ready d s cl n → length cl₁ ≡ length cl → ListsInv c cl₁ cl₁ c b₀
+  lists-start b cl n w c cl₁ k q e r y =
+      record { next = rw e (k .next c q); ready = ready-walked d s _ _ n c cl cl₁ w r (k .walks) q y; long = refl; walked = walks-none d s (linkTo b₀) c cl₁ }
 
-    -- the header's own data blocks, and then list blocks
-    pub file-joins : (r : Walked) (cl₂ : List ℕ) → Walks d s (nextList s h h 0) [] c cl₁ r cl₂ → Walks d s (keyBlockNodes d s h h 0 h) [] n cl r cl₂
-    file-joins r cl₂ v =
-        rw (header-next d s h e)
-        (walks-then d s _ (nextList s h h 0) (nextList s h h 0) [] [] n c cl cl₁ cl₂ w r (walks-part d s _ [] (nextList s h h 0) n cl cl₁ w (k .walks)) q (sym (append-nil _)) v)
+  module _ (m₀ : Counts) (cl₀ cl : List ℕ) (m : Counts) (b : KeyBlock) (i : ListsInv m₀ cl₀ cl m b) where
+    pub lists-file : (b .key ≡ 0 → ⊥) → InFile d s b
+    lists-file t = i .next .file t
 
-  -- ---- the list blocks
+    pub lists-end : b .key ≡ 0 → Walks d s (linkTo b₀) [] m₀ cl₀ (Done m) cl
+    lists-end z = rw z at (i .walked)
 
-  module _ (m₀ : Counts) (cl₀ cl : List ℕ) (m : Counts) (keyBlock done next : ℕ) (i : FileInv m₀ cl₀ cl m keyBlock done next) where
-    pub lists-end : next ≡ 0 → Walks d s (nextList s h h 0) [] m₀ cl₀ (Done m) cl
-    lists-end z = let y : wordOf s keyBlock 126 ≡ 0 = sym (i .link .word) ∙ z in rw y at (i .walked)
-
-    module _ (l : ℕ) (v : Walked) (cl′ : List ℕ) (t : next ≡ 0 → ⊥) (g : l ≡ keyWord s keyBlock 71) where
-      abbrev block : KeyBlock
-      block = record { header = h; key = next; done = done + slots; last = l }
-
-      lists-on : ListWalked d s block m cl v cl′ → Walks d s (nextList s h h 0) (nextList s h next (done + slots)) m₀ cl₀ v cl′
-      lists-on u = rw (append-nil _) at (walks-then d s _ _ (list next h (done + slots) l ∷ []) _ [] m₀ m cl₀ cl cl′ (Done m) v (i .walked) refl (is-link next (i .link .word) t) (u .walks))
+    module _ (t : b .key ≡ 0 → ⊥) (v : Walked) (cl′ : List ℕ) (u : ListWalked d s b m cl v cl′) where
+      lists-on : Walks d s (linkTo b₀) (linkTo (nextOf s b)) m₀ cl₀ v cl′
+      lists-on = rw (append-nil _) at (walks-then d s _ _ (listNode b ∷ []) _ [] m₀ m cl₀ cl cl′ (Done m) v (i .walked) refl (is-there (b .key) t) (u .walks))
         where
-          is-link : (x : ℕ) → x ≡ wordOf s keyBlock 126 → (x ≡ 0 → ⊥) → nextList s h keyBlock done ≡ (list x h (done + slots) l ∷ []) ++ []
-          is-link zero e t = absurd (t refl)
-          is-link (suc x) e t = rw (← e, ← g) refl
+          is-there : (x : ℕ) → (x ≡ 0 → ⊥) → listLink x (b .header) (b .done) (b .last) ≡ list x (b .header) (b .done) (b .last) ∷ []
+          is-there zero t = absurd (t refl)
+          is-there (suc x) t = refl
 
-      pub lists-out : (x : Refusal) → ListWalked d s block m cl v cl′ → v ≡ Stopped x → Walks d s (nextList s h h 0) [] m₀ cl₀ v cl′
-      lists-out x u o = walks-stopped d s _ _ [] m₀ cl₀ cl′ v x (lists-on u) o
+      pub lists-out : (x : Refusal) → v ≡ Stopped x → Walks d s (linkTo b₀) [] m₀ cl₀ v cl′
+      lists-out x o = walks-stopped d s _ _ [] m₀ cl₀ cl′ v x lists-on o
 
-      pub lists-again : (m′ : Counts) (y : ℕ) → ListWalked d s block m cl v cl′ → v ≡ Done m′ → length cl′ ≡ length cl → y ≡ wordOf s next 126 → FileInv m₀ cl₀ cl′ m′ next (done + slots) y
-      lists-again m′ y u o e f =
+      pub lists-again : (m′ : Counts) (b′ : KeyBlock) → v ≡ Done m′ → length cl′ ≡ length cl → b′ ≡ nextOf s b → ListsInv m₀ cl₀ cl′ m′ b′
+      lists-again m′ b′ o e q =
           record {
-            link = link-again d s h keyBlock done next (i .link) t y (u .known m′ o) f;
+            next = rw q (u .next m′ o);
             ready = ready-walked d s _ _ m m′ cl cl′ v (i .ready) (u .walks) o e;
             long = e ∙ i .long;
-            walked = rw o at (lists-on u);
+            walked = rw q (rw o at lists-on);
           }
-
-    pub lists-next : (l : ℕ) → (next ≡ 0 → ⊥) → l ≡ keyWord s keyBlock 71 → (Ready d s cl m) × (h < d .blocks) × (l < d .blocks) × (sizeOf s h ≤ fileLimit d) × (done + slots ≤ blocksOf d s h)
-    lists-next l t g = (i .ready, i .link .inside, link-last d s h keyBlock done next (i .link) t l g, i .link .size, omega (arith, link-more d s h keyBlock done next (i .link) t))

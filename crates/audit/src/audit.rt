@@ -1,11 +1,8 @@
 // The audit of a disk's image.
 use crate::bitmap::Mapped;
 use crate::bitmap::check_bits;
-use crate::claims::Walked;
-use crate::claims::meet_bitmap;
-use crate::claims::meet_root;
-use crate::claims::stopped;
-use crate::directories::walk_directory;
+use crate::top::walk_volume;
+use crate::walked::Walked;
 use answers::Fault;
 use answers::Refusal;
 use volume::block::Block;
@@ -15,12 +12,10 @@ use walk::Counts;
 use words::clear;
 use words::wipe;
 ghost use mathlib.Core.Path.{_≡_};
-ghost use mathlib.Core.List.{[], _∷_};
 ghost use Prim.Native.Nat.{_+_, _≤_};
 ghost use lib.ListN.{length, replicate};
 ghost use Rattle.volume.specs.Disks.{Sized, mostBlocks, floppy, imageBytes, claimBytes};
-ghost use Rattle.walk.specs.Nodes.{root, nothing};
-ghost use Rattle.audit.specs.Walks.{total, Walks};
+ghost use Rattle.audit.specs.Walks.{total};
 ghost use Rattle.audit.specs.Audits.{refuse, reportOf, Within, Tagged, Audits};
 
 // How much there is of what: directories without the root, files, list blocks, data blocks; then all blocks in use, and those that are free.
@@ -59,29 +54,6 @@ fn reported(c: Counts, free: u32) -> Report
         used: c.directories + c.files + c.lists + c.blocks + 2,
         free: free,
     }
-}
-
-// The walk from the root, with nothing claimed yet.
-fn walk_volume(disk: Disk, image: &[u8], claim: &mut [u8]) -> Walked
-    requires { ⌜ (Sized disk) × (length (now image) ≡ imageBytes disk) × (now claim ≡ replicate (claimBytes disk) 0) ⌝ }
-    ensures { λ r. ⌜ Walks disk (now (image .entry)) (root ∷ []) [] nothing (now (claim .entry)) r (now (claim .exit)) ⌝ }
-{
-    let f = meet_root(disk, image, claim);
-    if f != 0 {
-        return stopped(f, disk.root());
-    }
-    let bitmap = word_of(image, disk.root(), Block::MAP_KEY);
-    let g = meet_bitmap(disk, image, claim, bitmap);
-    if g != 0 {
-        return stopped(g, bitmap);
-    }
-    let none = Counts {
-        directories: 0,
-        files: 0,
-        lists: 0,
-        blocks: 0,
-    };
-    walk_directory(disk, image, claim, disk.root(), none)
 }
 
 // The walk and the bitmap; the claim area has a byte for each block, all 0.

@@ -1,8 +1,8 @@
 // The walk through a directory, slot by slot and along each chain; what is in an entry is walked before its link is followed.
-use crate::claims::Walked;
 use crate::claims::claim_key;
-use crate::claims::stopped;
 use crate::files::walk_file;
+use crate::walked::Walked;
+use crate::walked::stopped;
 use answers::Fault;
 use volume::block::Block;
 use volume::block::word_of;

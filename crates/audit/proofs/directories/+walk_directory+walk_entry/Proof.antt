@@ -18,7 +18,7 @@ use Rattle.audit.proofs.directories.+walk_directory+walk_entry.Lts-walk
 use Rattle.audit.proofs.directories.walk_entry.Reads as walk-entry
 use Rattle.audit.proofs.directories.walk_entry.Kinds as walk-entry-kinds
 use Rattle.audit.proofs.directories.+walk_directory+walk_entry.Lts-walk_entry as walk-entry-lts
-use Rattle.audit.proofs.claims.stopped.Reads as stopped-reads
+use Rattle.audit.proofs.walked.stopped.Reads as stopped-reads
 use Rattle.audit.proofs.directories.meet_entry.Reads as meet-entry-reads
 use Rattle.audit.proofs.directories.next_entry.Reads as next-entry-reads
 use Rattle.audit.proofs.directories.with_directory.Reads as with-directory-reads

@@ -1,8 +1,8 @@
--- `audit::claims::meet_root` meets its contract. Assumes nothing.
+-- `audit::top::meet_root` meets its contract. Assumes nothing.
 use Rattle.audit.proofs.Meeting.{root-holds, met-root-claim, met-root}
 use borrow.Author.Needs.{needs}
-use Rattle.audit.proofs.claims.meet_root.Statement.{statement}
-use Rattle.audit.proofs.claims.meet_root.Tie as tie
+use Rattle.audit.proofs.top.meet_root.Statement.{statement}
+use Rattle.audit.proofs.top.meet_root.Tie as tie
 
 root-requires : tie.Need-root-requires
 root-requires c κs = search needs

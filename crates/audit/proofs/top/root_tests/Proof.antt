@@ -1,8 +1,8 @@
--- `audit::claims::root_tests` meets its contract. Assumes nothing.
+-- `audit::top::root_tests` meets its contract. Assumes nothing.
 use Rattle.audit.proofs.Meeting.{first-stops, first-goes}
 use borrow.Author.Needs.{needs}
-use Rattle.audit.proofs.claims.root_tests.Statement.{statement}
-use Rattle.audit.proofs.claims.root_tests.Tie as tie
+use Rattle.audit.proofs.top.root_tests.Statement.{statement}
+use Rattle.audit.proofs.top.root_tests.Tie as tie
 
 root-fault-requires : tie.Need-root-fault-requires
 root-fault-requires c κs = search needs

@@ -1,8 +1,8 @@
--- `audit::claims::meet_bitmap` meets its contract. Assumes nothing.
+-- `audit::top::meet_bitmap` meets its contract. Assumes nothing.
 use Rattle.audit.proofs.Meeting.{claims-holds, met-claim, met-bitmap}
 use borrow.Author.Needs.{needs}
-use Rattle.audit.proofs.claims.meet_bitmap.Statement.{statement}
-use Rattle.audit.proofs.claims.meet_bitmap.Tie as tie
+use Rattle.audit.proofs.top.meet_bitmap.Statement.{statement}
+use Rattle.audit.proofs.top.meet_bitmap.Tie as tie
 
 claim-key-requires : tie.Need-claim-key-requires
 claim-key-requires c κs = search needs

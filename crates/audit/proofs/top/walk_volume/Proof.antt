@@ -1,10 +1,10 @@
--- `audit::audit::walk_volume` meets its contract. Assumes nothing.
+-- `audit::top::walk_volume` meets its contract. Assumes nothing.
 use mathlib.Core.Path.{_∙_}
 use lib.ListN.{length-replicate}
 use Rattle.audit.proofs.Auditing.{root-stops, root-inside, root-range, bitmap-stops, root-ready, root-goes}
 use borrow.Author.Needs.{needs}
-use Rattle.audit.proofs.audit.walk_volume.Statement.{statement}
-use Rattle.audit.proofs.audit.walk_volume.Tie as tie
+use Rattle.audit.proofs.top.walk_volume.Statement.{statement}
+use Rattle.audit.proofs.top.walk_volume.Tie as tie
 
 meet-root-requires : tie.Need-meet-root-requires
 meet-root-requires c κs = (c .before .before .before .pre .1, rw (c .before .before .before .pre .2) (length-replicate _ 0))
