@@ -212,7 +212,7 @@ module _ (file : List ℕ) (hs : List Hunk) (pr : Program hs) (whole : length fi
   pub page-load : (bases m : List ℕ) → loadOf file bases m ≡ shiftAll (imageOf hs ++ drop (4 * total hs) m) (targetsOf file) (amountOf bases)
   page-load bases m = ap (λ (u : List ℕ). shiftAll u (targetsOf file) (amountOf bases)) (page-bodies m)
 
-  -- the targets: place, hunk, and byte in the file
+  -- the targets: byte in memory, hunk, and byte in the file
   pub page-targets : targetsOf file ≡ map bare (fileTargets hs)
   page-targets = targets-plain (actsOf file) ∙ ap targets (page-acts file hs pr whole e) ∙ targets-page 0 0 (20 + 4 * length hs) hs
 
