@@ -63,14 +63,14 @@ use Rattle.program.proofs.Pages as pages
 use Rattle.program.proofs.Refusing as faults
 use Rattle.loader.specs.Calls.{callRefusals, loadAnswer, moveAnswer}
 use Rattle.loader.specs.Memory.{amountOf, moved}
-use Rattle.loader.specs.Pages.{imageOf, fileTargets, Named, Adds, Outside, withHunks}
+use Rattle.loader.specs.Pages.{imageOf, fileTargets, Named, Adds, Outside, withHunks, LoadedPage, MovedPage}
 use Rattle.loader.specs.Verdicts.{Takes, CallWhy}
 use Rattle.loader.proofs.OneHunk as targets
 use Rattle.loader.proofs.PageVerdicts as verdicts
 use Rattle.hunks.specs.declared.Hunk.{Hunk}
 use Rattle.hunks.specs.Calls.{Loads, Moves}
-use Rattle.hunks.specs.Moving.{SameRoom, LoadsAt}
-use Rattle.hunks.specs.Pages.{LoadedPage, MovedPage}
+use Rattle.loader.specs.Moving.{SameRoom, LoadsAt}
+use Rattle.hunks.specs.Pages.{pageRecords}
 use Rattle.hunks.proofs.PageCalls as calls
 use Rattle.hunks.proofs.Moving as moving
 use Rattle.hunks.proofs.Deciding as deciding
@@ -231,10 +231,10 @@ module _ (file : List ℕ) where
 -- an accepted load or move, in the terms of the page
 module _ (file m : List ℕ) (t : List Hunk) (w : List ℕ) (x n : ℕ) (m1 : List ℕ) (t1 : List Hunk) (w1 : List ℕ) where
   -- the file holds hunks, and memory and table are theirs
-  pub load-page : (bases : List ℕ) → Loads file bases m t w (Accepted x n) m1 t1 w1 → (hs : List paper.Hunk) × paper.Holds file hs × LoadedPage hs bases m t x n m1 t1
+  pub load-page : (bases : List ℕ) → Loads file bases m t w (Accepted x n) m1 t1 w1 → (hs : List paper.Hunk) × paper.Holds file hs × LoadedPage (pageRecords 0 0) hs bases m t x n m1 t1
   load-page = calls.load-page file m t w x n m1 t1 w1
 
-  pub move-page : (old new : List ℕ) → Moves file old new m t w (Accepted x n) m1 t1 w1 → (hs : List paper.Hunk) × paper.Holds file hs × MovedPage hs old new m t x n m1 t1
+  pub move-page : (old new : List ℕ) → Moves file old new m t w (Accepted x n) m1 t1 w1 → (hs : List paper.Hunk) × paper.Holds file hs × MovedPage (pageRecords 0 0) hs old new m t x n m1 t1
   move-page = calls.move-page file m t w x n m1 t1 w1
 
   -- a load adds the base of its hunk to each target's stored word; a move adds new minus old base to what stood there
@@ -258,17 +258,17 @@ module _ (file m : List ℕ) (t : List Hunk) (w : List ℕ) where
   load-move A B x n y k = moving.load-move file m t w x n A B y k
 
   -- A to B to C is A to C, on memory with any contents
-  pub move-move : (A B C : List ℕ) (x n y k z j : ℕ) → LoadsAt file A m t w x n → LoadsAt file B m t w y k → LoadsAt file C m t w z j
+  pub move-move : (A B C : List ℕ) (x n y k z j : ℕ) → LoadsAt file A m (length t) w x n → LoadsAt file B m (length t) w y k → LoadsAt file C m (length t) w z j
       → (m′ : List ℕ) (t′ : List Hunk) (w′ w″ w‴ m1 : List ℕ) (t1 : List Hunk) (w1 m2 : List ℕ) (t2 : List Hunk) (w2 m3 : List ℕ) (t3 : List Hunk) (w3 : List ℕ) (r1 r2 r3 : Answer) → SameRoom m t w m′ t′ w′ → length w″ ≡ length w → length w‴ ≡ length w
       → Moves file A B m′ t′ w′ r1 m1 t1 w1 → Moves file B C m1 t1 w″ r2 m2 t2 w2 → Moves file A C m′ t′ w‴ r3 m3 t3 w3 → (r1 ≡ Accepted x n) × (r2 ≡ Accepted x n) × (r3 ≡ Accepted x n) × (m2 ≡ m3) × (t2 ≡ t3) × (w2 ≡ w3)
   move-move A B C x n y k z j a b c = moving.move-move file m t w x n A a B C y k z j b c
 
   -- A to A changes no byte of memory
-  pub move-stays : (A : List ℕ) (x n : ℕ) → LoadsAt file A m t w x n → (m′ : List ℕ) (t′ : List Hunk) (w′ m1 : List ℕ) (t1 : List Hunk) (w1 : List ℕ) (r : Answer) → Bytes m′ → SameRoom m t w m′ t′ w′ → Moves file A A m′ t′ w′ r m1 t1 w1 → (r ≡ Accepted x n) × (m1 ≡ m′)
+  pub move-stays : (A : List ℕ) (x n : ℕ) → LoadsAt file A m (length t) w x n → (m′ : List ℕ) (t′ : List Hunk) (w′ m1 : List ℕ) (t1 : List Hunk) (w1 : List ℕ) (r : Answer) → Bytes m′ → SameRoom m t w m′ t′ w′ → Moves file A A m′ t′ w′ r m1 t1 w1 → (r ≡ Accepted x n) × (m1 ≡ m′)
   move-stays A x n a = moving.move-stays file m t w x n A a
 
   -- A to B and back brings every byte back
-  pub move-back : (A B : List ℕ) (x n y k : ℕ) → LoadsAt file A m t w x n → LoadsAt file B m t w y k
+  pub move-back : (A B : List ℕ) (x n y k : ℕ) → LoadsAt file A m (length t) w x n → LoadsAt file B m (length t) w y k
       → (m′ : List ℕ) (t′ : List Hunk) (w′ w″ m1 : List ℕ) (t1 : List Hunk) (w1 m2 : List ℕ) (t2 : List Hunk) (w2 : List ℕ) (r1 r2 : Answer) → Bytes m′ → SameRoom m t w m′ t′ w′ → length w″ ≡ length w
       → Moves file A B m′ t′ w′ r1 m1 t1 w1 → Moves file B A m1 t1 w″ r2 m2 t2 w2 → (r1 ≡ Accepted x n) × (r2 ≡ Accepted x n) × (m2 ≡ m′)
   move-back A B x n y k a b = moving.move-back file m t w x n A a B y k b

@@ -35,6 +35,29 @@ use Rattle.loader.specs.Memory.{loadedOf, storeOne, targetOne, targets, 
 use Rattle.loader.specs.Parts.{ActFits}
 use Rattle.loader.specs.Table.{recordOne}
 
+-- ---- the acts by their tags, in the order of `Act`; a `match` tells that an act has none but some of them
+
+abbrev tagQuiet : ℕ
+tagQuiet = 0
+
+abbrev tagBody : ℕ
+tagBody = 1
+
+abbrev tagStore : ℕ
+tagStore = 2
+
+abbrev pub tagAdd : ℕ
+tagAdd = 3
+
+abbrev notBody : List ℕ
+notBody = tagQuiet ∷ tagStore ∷ tagAdd ∷ []
+
+abbrev notStore : List ℕ
+notStore = tagQuiet ∷ tagBody ∷ tagAdd ∷ []
+
+abbrev pub notAdd : List ℕ
+notAdd = tagQuiet ∷ tagBody ∷ tagStore ∷ []
+
 -- ---- what a word asks for lies inside
 
 zero-le : {n : ℕ} → 0 ≤ n
@@ -124,11 +147,11 @@ store-room n t a p w f e = subst (ActFits n t) e f
 pub store-done : (m r : List ℕ) (a : Act) (p w : ℕ) → a ≡ Store p w → r ≡ setWord m p w → r ≡ storeOne m a
 store-done m r a p w e h = h ∙ sym (ap (storeOne m) e)
 
-pub store-rest : (m : List ℕ) (a : Act) → OneOf (0 ∷ 1 ∷ 3 ∷ []) (tagOf the-type a) → m ≡ storeOne m a
+pub store-rest : (m : List ℕ) (a : Act) → OneOf notStore (tagOf the-type a) → m ≡ storeOne m a
 unfolding pick
 store-rest m Quiet h = refl
 store-rest m (Body x p k) h = refl
-store-rest m (Store p w) h = absurd (none (0 ∷ 1 ∷ 3 ∷ []) 2 tt h)
+store-rest m (Store p w) h = absurd (none notStore tagStore tt h)
 store-rest m (Add p k b) h = refl
 
 pub length-storeOne : (m : List ℕ) (a : Act) → length (storeOne m a) ≡ length m
@@ -152,12 +175,12 @@ module _ (n t : ℕ) (a : Act) (p k b : ℕ) (f : ActFits n t a) (e : a ≡ Add 
 pub add-done : (m r : List ℕ) (f : ℕ → ℕ) (a : Act) (p k b : ℕ) → a ≡ Add p k b → r ≡ addAt m p (f k) → r ≡ shiftOne m f a
 add-done m r f a p k b e h = h ∙ sym (ap (shiftOne m f) e)
 
-pub add-rest : (m : List ℕ) (f : ℕ → ℕ) (a : Act) → OneOf (0 ∷ 1 ∷ 2 ∷ []) (tagOf the-type a) → m ≡ shiftOne m f a
+pub add-rest : (m : List ℕ) (f : ℕ → ℕ) (a : Act) → OneOf notAdd (tagOf the-type a) → m ≡ shiftOne m f a
 unfolding pick
 add-rest m f Quiet h = refl
 add-rest m f (Body x p k) h = refl
 add-rest m f (Store p w) h = refl
-add-rest m f (Add p k b) h = absurd (none (0 ∷ 1 ∷ 2 ∷ []) 3 tt h)
+add-rest m f (Add p k b) h = absurd (none notAdd tagAdd tt h)
 
 pub length-shiftOne : (f : ℕ → ℕ) (m : List ℕ) (a : Act) → length (shiftOne m f a) ≡ length m
 length-shiftOne f m Quiet = refl
@@ -215,10 +238,10 @@ module _ (file : List ℕ) (n : ℕ) (a : Act) (h p k : ℕ) (f : ActFits n (tot
 pub record-done : (file bases t r : List ℕ) (a : Act) (h p k s : ℕ) → a ≡ Body h p k → s ≡ sizeOf file h → r ≡ set (set (set (set t (4 * h) k) (4 * h + 1) p) (4 * h + 2) s) (4 * h + 3) (amountOf bases h) → r ≡ recordOne file bases t a
 record-done file bases t r a h p k s e q x = x ∙ rw (e, q)
 
-pub record-rest : (file bases t : List ℕ) (a : Act) → OneOf (0 ∷ 2 ∷ 3 ∷ []) (tagOf the-type a) → t ≡ recordOne file bases t a
+pub record-rest : (file bases t : List ℕ) (a : Act) → OneOf notBody (tagOf the-type a) → t ≡ recordOne file bases t a
 unfolding pick
 record-rest file bases t Quiet h = refl
-record-rest file bases t (Body x p k) h = absurd (none (0 ∷ 2 ∷ 3 ∷ []) 1 tt h)
+record-rest file bases t (Body x p k) h = absurd (none notBody tagBody tt h)
 record-rest file bases t (Store p w) h = refl
 record-rest file bases t (Add p k b) h = refl
 

@@ -177,27 +177,27 @@ module _ (file bases : List ℕ) where
   entry-why i = (entry-there i, entry-back i)
 
   -- an entry that is not bad is good
-  fine-good : (i : ℕ) → entryBad file bases i ≡ false → GoodEntry (sizeOf file) bases i
-  fine-good i h =
+  passes-good : (i : ℕ) → entryBad file bases i ≡ false → GoodEntry (sizeOf file) bases i
+  passes-good i h =
       record {
         multiple = multiple (eqb (amountOf bases i % 4) 0) refl;
         below = low (decLt (2 ^ 32) (amountOf bases i + 4 * sizeOf file i));
-        alone = λ j l s. fine (inr (inr (j, l, s)));
+        alone = λ j l s. not-bad (inr (inr (j, l, s)));
       }
     where
-      fine : BadEntry (sizeOf file) bases i → ⊥
-      fine w = no-bool (sym h ∙ entry-back i w)
+      not-bad : BadEntry (sizeOf file) bases i → ⊥
+      not-bad w = no-bool (sym h ∙ entry-back i w)
 
       multiple : (b : Bool) → eqb (amountOf bases i % 4) 0 ≡ b → amountOf bases i % 4 ≡ 0
       multiple true e = eqb-true _ _ e
-      multiple false e = absurd (fine (inl (eqb-false _ _ e)))
+      multiple false e = absurd (not-bad (inl (eqb-false _ _ e)))
 
       low : Dec (2 ^ 32 < amountOf bases i + 4 * sizeOf file i) → amountOf bases i + 4 * sizeOf file i ≤ 2 ^ 32
-      low (yes a) = absurd (fine (inr (inl a)))
+      low (yes a) = absurd (not-bad (inr (inl a)))
       low (no a) = omega arith
 
-  good-fine : (i : ℕ) → GoodEntry (sizeOf file) bases i → entryBad file bases i ≡ false
-  good-fine i g = go (entryBad file bases i) (entry-there i)
+  good-passes : (i : ℕ) → GoodEntry (sizeOf file) bases i → entryBad file bases i ≡ false
+  good-passes i g = go (entryBad file bases i) (entry-there i)
     where
       none : BadEntry (sizeOf file) bases i → ⊥
       none (inl x) = x (g .multiple)
@@ -209,7 +209,7 @@ module _ (file bases : List ℕ) where
       go false f = refl
 
   pub entry-good : (i : ℕ) → (entryBad file bases i ≡ false) ↔ GoodEntry (sizeOf file) bases i
-  entry-good i = (fine-good i, good-fine i)
+  entry-good i = (passes-good i, good-passes i)
 
 -- ---- a list passes if and only if its count is right and no entry is bad, wherever it counts from
 

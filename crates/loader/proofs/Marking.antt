@@ -38,16 +38,16 @@ use Rattle.program.proofs.Runs.{leads-reads, leads-acts}
 use Rattle.loader.specs.Memory.{loadedOf, targets}
 use Rattle.loader.specs.Near.{near, nearAny, clash, clashOf}
 use Rattle.loader.specs.Parts.{ActFits, marksOne, Marks}
-use Rattle.loader.proofs.Acts.{quiet-target, reads-fits}
+use Rattle.loader.proofs.Acts.{tagAdd, notAdd, quiet-target, reads-fits}
 
 -- ---- one act
 
-pub mark-rest : (m : List ℕ) (a : Act) → OneOf (0 ∷ 1 ∷ 2 ∷ []) (tagOf the-type a) → Marks m a false m
+pub mark-rest : (m : List ℕ) (a : Act) → OneOf notAdd (tagOf the-type a) → Marks m a false m
 unfolding pick
 mark-rest m Quiet h = record { marks = (refl, refl) }
 mark-rest m (Body x p k) h = record { marks = (refl, refl) }
 mark-rest m (Store p w) h = record { marks = (refl, refl) }
-mark-rest m (Add p k b) h = absurd (none (0 ∷ 1 ∷ 2 ∷ []) 3 tt h)
+mark-rest m (Add p k b) h = absurd (none notAdd tagAdd tt h)
 
 pub mark-met : (m : List ℕ) (a : Act) (p k b w : ℕ) → a ≡ Add p k b → w ≡ wordAt m p → (w ≡ 0 → ⊥) → Marks m a true m
 mark-met m a p k b w e q h = record { marks = subst (λ (x : Act). marksOne m x true m) (sym e) ((λ z. h (q ∙ z)), refl) }

@@ -138,20 +138,20 @@ length-table file bases t s h =
 
 module _ (file m t w : List ℕ) (x n : ℕ) where
   -- what an accepted move leaves
-  moved-to : (A B : List ℕ) (y k : ℕ) → LoadsAt file A m t w x n → LoadsAt file B m t w y k → (m′ t′ w′ m1 t1 w1 : List ℕ) (r : Answer) → SameRoom m t w m′ t′ w′ → Moves file A B m′ t′ w′ r m1 t1 w1 → (r ≡ Accepted x n) × (m1 ≡ moveOf file A B m′) × (t1 ≡ tableOf file B t′) × (w1 ≡ replicate (length w) 0)
+  moved-to : (A B : List ℕ) (y k : ℕ) → LoadsAt file A m (length t / 4) w x n → LoadsAt file B m (length t / 4) w y k → (m′ t′ w′ m1 t1 w1 : List ℕ) (r : Answer) → SameRoom m t w m′ t′ w′ → Moves file A B m′ t′ w′ r m1 t1 w1 → (r ≡ Accepted x n) × (m1 ≡ moveOf file A B m′) × (t1 ≡ tableOf file B t′) × (w1 ≡ replicate (length w) 0)
   moved-to A B y k a b m′ t′ w′ m1 t1 w1 r s v =
       let e : r ≡ Accepted x n = v .answer ∙ rw (s .memory, s .table, s .work) (move-accepted file A B (length m) (length t / 4) (length w) x n y k a b) in
       (e, v .shifted ∙ rw e, v .recorded ∙ rw e, v .clean ∙ ap (λ j. replicate j 0) (s .work))
 
-  low-of : (A : List ℕ) (y k : ℕ) → LoadsAt file A m t w y k → Low A
+  low-of : (A : List ℕ) (y k : ℕ) → LoadsAt file A m (length t / 4) w y k → Low A
   low-of A y k a = low-bases file A 0 (load-facts file A (length m) (length t / 4) (length w) y k _ refl a .bases-good)
 
-  module _ (A : List ℕ) (a : LoadsAt file A m t w x n) where
+  module _ (A : List ℕ) (a : LoadsAt file A m (length t / 4) w x n) where
     facts : LoadFacts file A (length m) (length t / 4) (length w) x n
     facts = load-facts file A (length m) (length t / 4) (length w) x n _ refl a
 
-    sound : HeaderFits file
-    sound = facts .file-accepted .header
+    header : HeaderFits file
+    header = facts .file-accepted .header
 
     low : Low A
     low = low-of A x n a
@@ -161,7 +161,7 @@ module _ (file m t w : List ℕ) (x n : ℕ) where
     move-room B m′ t′ w′ w1 s e C =
         record {
           memory = length-shiftAll m′ (targetsOf file) (moved A B) ∙ s .memory;
-          table = length-table file C t′ sound (omega (arith, facts .records, s .table)) ∙ s .table;
+          table = length-table file C t′ header (omega (arith, facts .records, s .table)) ∙ s .table;
           work = ap length e ∙ length-replicate (length w) 0;
         }
 
@@ -169,7 +169,7 @@ module _ (file m t w : List ℕ) (x n : ℕ) where
     load-room m1 t1 w1 l =
         record {
           memory = ap length (l .loaded) ∙ length-shiftAll (bodiesOf file m) (targetsOf file) (amountOf A) ∙ length-bodies file m (facts .fits);
-          table = ap length (l .recorded) ∙ length-table file A t sound (omega (arith, facts .records));
+          table = ap length (l .recorded) ∙ length-table file A t header (omega (arith, facts .records));
           work = ap length (l .clean) ∙ length-replicate (length w) 0;
         }
 
@@ -177,28 +177,28 @@ module _ (file m t w : List ℕ) (x n : ℕ) where
     pub load-move : (B : List ℕ) (y k : ℕ) → (m1 t1 w1 mB tB wB : List ℕ) → Loads file A m t w (Accepted x n) m1 t1 w1 → Loads file B m t w (Accepted y k) mB tB wB → (w′ m2 t2 w2 : List ℕ) (r : Answer) → length w′ ≡ length w → Moves file A B m1 t1 w′ r m2 t2 w2 → (r ≡ Accepted y k) × (m2 ≡ mB) × (t2 ≡ tB) × (w2 ≡ wB)
     load-move B y k m1 t1 w1 mB tB wB l lb w′ m2 t2 w2 r lw v =
         let room = load-room m1 t1 w1 l in
-        let b : LoadsAt file B m t w y k = sym (lb .answer) in
+        let b : LoadsAt file B m (length t / 4) w y k = sym (lb .answer) in
         let q = moved-to A B y k a b m1 t1 w′ m2 t2 w2 r (record { memory = room .memory; table = room .table; work = lw }) v in (
           q .0 ∙ one-answer file A B (length m) (length t / 4) (length w) x n y k a b,
-          q .1 ∙ ap (moveOf file A B) (l .loaded) ∙ memory-load-move file sound (facts .apart) m (facts .fits) A B low ∙ sym (lb .loaded),
-          q .2 ∙ ap (tableOf file B) (l .recorded) ∙ table-table file A B t sound ∙ sym (lb .recorded),
+          q .1 ∙ ap (moveOf file A B) (l .loaded) ∙ memory-load-move file header (facts .apart) m (facts .fits) A B low ∙ sym (lb .loaded),
+          q .2 ∙ ap (tableOf file B) (l .recorded) ∙ table-table file A B t header ∙ sym (lb .recorded),
           q .3 ∙ sym (lb .clean),
         )
 
     -- On memory with any contents, A to B and then B to C is A to C.
-    pub move-move : (B C : List ℕ) (y k z j : ℕ) → LoadsAt file B m t w y k → LoadsAt file C m t w z j → (m′ t′ w′ w″ w‴ m1 t1 w1 m2 t2 w2 m3 t3 w3 : List ℕ) (r1 r2 r3 : Answer) → SameRoom m t w m′ t′ w′ → length w″ ≡ length w → length w‴ ≡ length w → Moves file A B m′ t′ w′ r1 m1 t1 w1 → Moves file B C m1 t1 w″ r2 m2 t2 w2 → Moves file A C m′ t′ w‴ r3 m3 t3 w3 → (r1 ≡ Accepted x n) × (r2 ≡ Accepted x n) × (r3 ≡ Accepted x n) × (m2 ≡ m3) × (t2 ≡ t3) × (w2 ≡ w3)
+    pub move-move : (B C : List ℕ) (y k z j : ℕ) → LoadsAt file B m (length t / 4) w y k → LoadsAt file C m (length t / 4) w z j → (m′ t′ w′ w″ w‴ m1 t1 w1 m2 t2 w2 m3 t3 w3 : List ℕ) (r1 r2 r3 : Answer) → SameRoom m t w m′ t′ w′ → length w″ ≡ length w → length w‴ ≡ length w → Moves file A B m′ t′ w′ r1 m1 t1 w1 → Moves file B C m1 t1 w″ r2 m2 t2 w2 → Moves file A C m′ t′ w‴ r3 m3 t3 w3 → (r1 ≡ Accepted x n) × (r2 ≡ Accepted x n) × (r3 ≡ Accepted x n) × (m2 ≡ m3) × (t2 ≡ t3) × (w2 ≡ w3)
     move-move B C y k z j b c m′ t′ w′ w″ w‴ m1 t1 w1 m2 t2 w2 m3 t3 w3 r1 r2 r3 s lw lw′ v1 v2 v3 =
         let p = moved-to A B y k a b m′ t′ w′ m1 t1 w1 r1 s v1 in
         let same : Accepted x n ≡ Accepted y k = one-answer file A B (length m) (length t / 4) (length w) x n y k a b in
-        let b′ : LoadsAt file B m t w x n = b ∙ sym same in
+        let b′ : LoadsAt file B m (length t / 4) w x n = b ∙ sym same in
         let room = move-room B m′ t′ w′ w1 s (p .3) B in
         let q = moved-to B C z j b′ c m1 t1 w″ m2 t2 w2 r2 (record { memory = ap length (p .1) ∙ room .memory; table = ap length (p .2) ∙ room .table; work = lw }) v2 in
         let o = moved-to A C z j a c m′ t′ w‴ m3 t3 w3 r3 (record { memory = s .memory; table = s .table; work = lw′ }) v3 in (
           p .0,
           q .0,
           o .0,
-          q .1 ∙ ap (moveOf file B C) (p .1) ∙ memory-move-move file sound (facts .apart) m′ (omega (arith, facts .fits, s .memory)) A B C low (low-of B y k b) ∙ sym (o .1),
-          q .2 ∙ ap (tableOf file C) (p .2) ∙ table-table file B C t′ sound ∙ sym (o .2),
+          q .1 ∙ ap (moveOf file B C) (p .1) ∙ memory-move-move file header (facts .apart) m′ (omega (arith, facts .fits, s .memory)) A B C low (low-of B y k b) ∙ sym (o .1),
+          q .2 ∙ ap (tableOf file C) (p .2) ∙ table-table file B C t′ header ∙ sym (o .2),
           q .3 ∙ sym (o .3),
         )
 
@@ -209,14 +209,14 @@ module _ (file m t w : List ℕ) (x n : ℕ) where
         (p .0, p .1 ∙ memory-stays file A m′ low bytes)
 
     -- A to B and back to A brings every byte of memory back.
-    pub move-back : (B : List ℕ) (y k : ℕ) → LoadsAt file B m t w y k → (m′ t′ w′ w″ m1 t1 w1 m2 t2 w2 : List ℕ) (r1 r2 : Answer) → Bytes m′ → SameRoom m t w m′ t′ w′ → length w″ ≡ length w → Moves file A B m′ t′ w′ r1 m1 t1 w1 → Moves file B A m1 t1 w″ r2 m2 t2 w2 → (r1 ≡ Accepted x n) × (r2 ≡ Accepted x n) × (m2 ≡ m′)
+    pub move-back : (B : List ℕ) (y k : ℕ) → LoadsAt file B m (length t / 4) w y k → (m′ t′ w′ w″ m1 t1 w1 m2 t2 w2 : List ℕ) (r1 r2 : Answer) → Bytes m′ → SameRoom m t w m′ t′ w′ → length w″ ≡ length w → Moves file A B m′ t′ w′ r1 m1 t1 w1 → Moves file B A m1 t1 w″ r2 m2 t2 w2 → (r1 ≡ Accepted x n) × (r2 ≡ Accepted x n) × (m2 ≡ m′)
     move-back B y k b m′ t′ w′ w″ m1 t1 w1 m2 t2 w2 r1 r2 bytes s lw v1 v2 =
         let p = moved-to A B y k a b m′ t′ w′ m1 t1 w1 r1 s v1 in
         let same : Accepted x n ≡ Accepted y k = one-answer file A B (length m) (length t / 4) (length w) x n y k a b in
-        let b′ : LoadsAt file B m t w x n = b ∙ sym same in
+        let b′ : LoadsAt file B m (length t / 4) w x n = b ∙ sym same in
         let room = move-room B m′ t′ w′ w1 s (p .3) B in
         let q = moved-to B A x n b′ a m1 t1 w″ m2 t2 w2 r2 (record { memory = ap length (p .1) ∙ room .memory; table = ap length (p .2) ∙ room .table; work = lw }) v2 in (
           p .0,
           q .0,
-          q .1 ∙ ap (moveOf file B A) (p .1) ∙ memory-move-move file sound (facts .apart) m′ (omega (arith, facts .fits, s .memory)) A B A low (low-of B y k b) ∙ memory-stays file A m′ low bytes,
+          q .1 ∙ ap (moveOf file B A) (p .1) ∙ memory-move-move file header (facts .apart) m′ (omega (arith, facts .fits, s .memory)) A B A low (low-of B y k b) ∙ memory-stays file A m′ low bytes,
         )

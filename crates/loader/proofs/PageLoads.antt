@@ -80,7 +80,7 @@ module _ (file bases : List ℕ) (t : ℕ) where
       ∙ ap (λ (u : List ℕ). withRecords file bases u q) (four-at done more′ 0 0 0 0 (kindOf (x .body)) p (sizeOf file h) (amountOf bases h) (4 * h) e)
       ∙ rw (← f .0) (rw (append-assoc done four more′, append-assoc done four) at r)
 
-length-numbers : (p i : ℕ) (hs : List Hunk) (bases : List ℕ) → length (recordNumbers p i hs bases) ≡ 4 * length hs
+pub length-numbers : (p i : ℕ) (hs : List Hunk) (bases : List ℕ) → length (recordNumbers p i hs bases) ≡ 4 * length hs
 length-numbers p i [] bases = refl
 length-numbers p i (x ∷ xs) bases = omega (arith, length-numbers (p + 4 * x .size) (i + 1) xs bases)
 
@@ -212,7 +212,7 @@ module _ (file : List ℕ) (hs : List Hunk) (pr : Program hs) (whole : length fi
   pub page-load : (bases m : List ℕ) → loadOf file bases m ≡ shiftAll (imageOf hs ++ drop (4 * total hs) m) (targetsOf file) (amountOf bases)
   page-load bases m = ap (λ (u : List ℕ). shiftAll u (targetsOf file) (amountOf bases)) (page-bodies m)
 
-  -- the targets: place, hunk, and byte in the file
+  -- the targets: byte in memory, hunk, and byte in the file
   pub page-targets : targetsOf file ≡ map bare (fileTargets hs)
   page-targets = targets-plain (actsOf file) ∙ ap targets (page-acts file hs pr whole e) ∙ targets-page 0 0 (20 + 4 * length hs) hs
 

@@ -1,5 +1,6 @@
--- What a load and a move answer, and what they leave: the file's own faults, then bases, room, near targets (docs/FORMAT.md, "The program
--- file" and "Numbers"). A refused call leaves memory and table; the work area comes back all 0.
+-- What a load and a move answer, and what they leave: the file's own faults, then bases, room, near targets
+-- (docs/FORMAT.md, "The program file" and "Numbers"). A refused call leaves memory and table; the work area comes
+-- back all 0.
 use Prim.Native.Nat.{ℕ, _/_}
 use mathlib.Core.Path.{_≡_}
 use mathlib.Core.List.{List, [], _∷_, _++_}
@@ -48,7 +49,9 @@ loadAnswer file bases memory records work =
 -- the new list counts on from T
 unfoldable pub moveAnswer : List ℕ → List ℕ → List ℕ → ℕ → ℕ → ℕ → Answer
 moveAnswer file old new memory records work =
-    lastTests file (also (also (checkOf file) (basesFault file old 0)) (basesFault file new (totalOf file))) memory records work
+    lastTests file
+    (also (also (checkOf file) (basesFault file old 0)) (basesFault file new (totalOf file)))
+    memory records work
 
 -- accepted: the new contents; refused: the old
 abbrev pub effect : Answer → List ℕ → List ℕ → List ℕ

@@ -1,5 +1,5 @@
--- Loaded memory: hunks end to end, their stored words, zeros up to their sizes, and each target with its amount (docs/FORMAT.md, "The
--- program file").
+-- Loaded memory: hunks end to end, their stored words, zeros up to their sizes, and each target with its amount
+-- (docs/FORMAT.md, "The program file").
 use Prim.Native.Nat.{ℕ, _+_, _-_, _%_, _^_}
 use mathlib.Core.List.{List, [], _∷_, _++_}
 use lib.ListN.{getD, drop, replicate}

@@ -1,5 +1,6 @@
--- Two targets in one hunk less than 4 bytes apart are refused, at the offset that comes later in the file (docs/FORMAT.md, "Bases and
--- room"; refusal 42). Places in all of memory are compared: those of two hunks are never that near (`near-one-hunk`, proofs/OneHunk.antt).
+-- Two targets in one hunk less than 4 bytes apart are refused, at the offset that comes later in the file
+-- (docs/FORMAT.md, "Bases and room"; refusal 42). Places in all of memory are compared: those of two hunks are never
+-- that near (`near-one-hunk`, proofs/OneHunk.antt).
 use Prim.Native.Nat.{ℕ, _+_}
 use mathlib.Core.List.{List, [], _∷_}
 use mathlib.Core.Bool.{Bool, true, false}
@@ -22,7 +23,10 @@ nearAny p (q ∷ qs) = pick (near p q) true (nearAny p qs)
 -- the first target too near one of those before it
 unfoldable pub clash : List ℕ → List Target → Tested
 clash seen [] = Passed
-clash seen (t ∷ ts) = pick (nearAny (t .loadedAt) seen) (Failed (refusal fault.nearTargets (t .byte))) (clash (t .loadedAt ∷ seen) ts)
+clash seen (t ∷ ts) =
+    pick (nearAny (t .loadedAt) seen)
+    (Failed (refusal fault.nearTargets (t .byte)))
+    (clash (t .loadedAt ∷ seen) ts)
 
 abbrev pub clashOf : List ℕ → Tested
 clashOf file = clash [] (targetsOf file)

@@ -1,5 +1,5 @@
--- What the parts of the code ask and tell each other: the core, which is lent a number of records and hands their numbers back, the passes,
--- and the marks. Nothing that a call promises is said here; that is Calls.
+-- What the parts of the code ask and tell each other: the core, which is lent a number of records and hands their
+-- numbers back, the passes, and the marks. Nothing that a call promises is said here; that is Calls.
 use Prim.Native.Nat.{ℕ, _+_, _*_, _%_, _<_, _≤_}
 use mathlib.Core.Path.{_≡_}
 use mathlib.Core.Bool.{Bool, true, false}
@@ -52,13 +52,15 @@ pub record Marks (m : List ℕ) (a : Act) (r : Bool) (n : List ℕ) : Type 0 whe
 abbrev pub handed : List ℕ → List ℕ → Answer → List ℕ
 handed file bases a = effect a (withRecords file bases (replicate tableRoom 0) (actsOf file)) (replicate tableRoom 0)
 
-pub record LoadsCore (file bases memory work : List ℕ) (records : ℕ) (o : Outcome) (memory′ work′ : List ℕ) : Type 0 where
+pub record LoadsCore (file bases memory work : List ℕ) (records : ℕ)
+    (o : Outcome) (memory′ work′ : List ℕ) : Type 0 where
   pub answer : o .answer ≡ loadAnswer file bases (length memory) records (length work)
   pub loaded : memory′ ≡ effect (o .answer) (loadOf file bases memory) memory
   pub numbers : o .records ≡ handed file bases (o .answer)
   pub clean : work′ ≡ replicate (length work) 0
 
-pub record MovesCore (file old new memory work : List ℕ) (records : ℕ) (o : Outcome) (memory′ work′ : List ℕ) : Type 0 where
+pub record MovesCore (file old new memory work : List ℕ) (records : ℕ)
+    (o : Outcome) (memory′ work′ : List ℕ) : Type 0 where
   pub answer : o .answer ≡ moveAnswer file old new (length memory) records (length work)
   pub shifted : memory′ ≡ effect (o .answer) (moveOf file old new memory) memory
   pub numbers : o .records ≡ handed file new (o .answer)

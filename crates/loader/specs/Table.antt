@@ -1,4 +1,5 @@
--- The hunk table: a record of four numbers for each hunk, in order: kind, place, size in words, base (docs/FORMAT.md, "The program file").
+-- The hunk table: a record of four numbers for each hunk, in order: kind, place, size in words, base (docs/FORMAT.md,
+-- "The program file").
 use Prim.Native.Nat.{ℕ, _+_, _*_}
 use mathlib.Core.List.{List, _++_}
 use lib.ListN.{set, take, drop, replicate}
@@ -11,7 +12,8 @@ use Rattle.loader.specs.Memory.{amountOf}
 -- a body writes its hunk's record
 abbrev pub recordOne : List ℕ → List ℕ → List ℕ → Act → List ℕ
 recordOne file bases t Quiet = t
-recordOne file bases t (Body h p k) = set (set (set (set t (4 * h) k) (4 * h + 1) p) (4 * h + 2) (sizeOf file h)) (4 * h + 3) (amountOf bases h)
+recordOne file bases t (Body h p k) =
+    set (set (set (set t (4 * h) k) (4 * h + 1) p) (4 * h + 2) (sizeOf file h)) (4 * h + 3) (amountOf bases h)
 recordOne file bases t (Store p w) = t
 recordOne file bases t (Add p k b) = t
 

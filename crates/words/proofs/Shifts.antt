@@ -24,7 +24,7 @@ abbrev pub Within : ℕ → List Target → Type 0
 Within n [] = Unit
 Within n (t ∷ ts) = (t .loadedAt + 4 ≤ n) × Within n ts
 
--- place k is no byte of any target
+-- byte k is no byte of any target
 abbrev pub OffAll : ℕ → List Target → Type 0
 OffAll k [] = Unit
 OffAll k (t ∷ ts) = Off k (t .loadedAt) × OffAll k ts
