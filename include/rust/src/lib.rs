@@ -178,7 +178,7 @@ mod c {
 // Each call is safe: a slice's pointer is not null and is aligned, its length is right, and what is lent to be written
 // overlaps nothing.
 
-/// Audits an image.
+/// Audits an image. Deep directories take stack: 0.9 MB for the deepest volume that there can be.
 pub fn audit(image: &[u8], claim: &mut [u8]) -> AuditNumbers {
     unsafe { c::jufferdeeg_audit(image.as_ptr(), image.len(), claim.as_mut_ptr(), claim.len()) }
 }
