@@ -61,13 +61,27 @@ pub const SENTENCES: [(u32, &str); 33] = [
     (42, "the offset is less than 4 bytes from another one of its hunk"),
 ];
 
-/// What a run says: on standard output and on standard error.
+/// Exit statuses: all was accepted, something was refused, the tool could not ask. Of several it is the highest.
+pub const ACCEPTED: i32 = 0;
+pub const REFUSED: i32 = 1;
+pub const UNASKED: i32 = 2;
+
+/// What a run says.
 #[derive(Clone, Debug, Default, PartialEq, Eq)]
 pub struct Said {
     /// Standard output.
     pub out: Vec<u8>,
     /// Standard error.
     pub err: Vec<u8>,
+    /// The exit status.
+    pub status: i32,
+}
+
+impl Said {
+    /// What is said on standard output alone, where all was accepted or not.
+    pub fn answer(out: Vec<u8>, accepted: bool) -> Said {
+        Said { out, err: Vec::new(), status: if accepted { ACCEPTED } else { REFUSED } }
+    }
 }
 
 /// What a refusal means.
@@ -110,14 +124,16 @@ pub fn audited(image: &[u8]) -> (String, bool) {
     }
 }
 
-/// What a lookup says of a path.
-pub fn looked_up(image: &[u8], path: &[u8]) -> String {
+/// What a lookup says of a path, and whether it leads anywhere.
+pub fn looked_up(image: &[u8], path: &[u8]) -> (String, bool) {
     match find(&DISK, image, path) {
         Ok(Found { kind, key, compared, .. }) if kind == DIRECTORY => {
-            format!("directory, key {key}, compared {compared}")
+            (format!("directory, key {key}, compared {compared}"), true)
         }
-        Ok(Found { key, size, compared, .. }) => format!("file, key {key}, size {size}, compared {compared}"),
-        Err(refusal) => refused(refusal),
+        Ok(Found { key, size, compared, .. }) => {
+            (format!("file, key {key}, size {size}, compared {compared}"), true)
+        }
+        Err(refusal) => (refused(refusal), false),
     }
 }
 
@@ -132,10 +148,10 @@ pub fn bytes_of(image: &[u8], path: &[u8]) -> Result<Vec<u8>, Refusal> {
 /// What a read says: the bytes of the file, or on the other side why not.
 pub fn read_out(image: &[u8], path: &[u8]) -> Said {
     match bytes_of(image, path) {
-        Ok(out) => Said { out, err: Vec::new() },
+        Ok(out) => Said::answer(out, true),
         Err(refusal) => {
             let err = [b"bench: ", &line(path, &refused(refusal))[..]].concat();
-            Said { out: Vec::new(), err }
+            Said { out: Vec::new(), err, status: REFUSED }
         }
     }
 }
@@ -156,6 +172,14 @@ impl Areas {
         Lent { memory: &mut self.memory, table: &mut self.table, work: &mut self.work }
     }
 
+    /// What is said of a program with this name, which came to this answer in these areas.
+    fn said(&self, name: &[u8], file: &[u8], answer: Result<Loaded, Refusal>) -> Said {
+        match answer {
+            Ok(loaded) => Said::answer(self.shown(loaded), true),
+            Err(refusal) => Said::answer(line(name, &program_refused(refusal, file)), false),
+        }
+    }
+
     /// The words and the table of a program in these areas.
     fn shown(&self, loaded: Loaded) -> Vec<u8> {
         let word = |four: &[u8]| four.iter().map(|byte| format!("{byte:02X}")).collect::<String>() + "\n";
@@ -170,54 +194,51 @@ impl Areas {
 }
 
 /// What a load says of a file with this name.
-pub fn loaded(name: &[u8], file: &[u8], bases: &[u32]) -> Vec<u8> {
+pub fn loaded(name: &[u8], file: &[u8], bases: &[u32]) -> Said {
     let mut areas = Areas::new();
-    match load(file, bases, areas.lent()) {
-        Ok(loaded) => areas.shown(loaded),
-        Err(refusal) => line(name, &program_refused(refusal, file)),
-    }
+    let answer = load(file, bases, areas.lent());
+    areas.said(name, file, answer)
 }
 
 /// What a load and a move say of a file with this name.
-pub fn moved(name: &[u8], file: &[u8], old: &[u32], new: &[u32]) -> Vec<u8> {
+pub fn moved(name: &[u8], file: &[u8], old: &[u32], new: &[u32]) -> Said {
     let mut areas = Areas::new();
     let answer = load(file, old, areas.lent()).and_then(|_| relocate(file, old, new, areas.lent()));
-    match answer {
-        Ok(loaded) => areas.shown(loaded),
-        Err(refusal) => line(name, &program_refused(refusal, file)),
-    }
+    areas.said(name, file, answer)
 }
 
 /// What a reset says: a line for each step, and whether the last of them is no refusal.
-fn steps(image: &[u8], path: &[u8], bases: &[u32]) -> Vec<(&'static str, String)> {
+fn steps(image: &[u8], path: &[u8], bases: &[u32]) -> (Vec<(&'static str, String)>, bool) {
     let (text, accepted) = audited(image);
     let mut steps = vec![("audit", text)];
     if !accepted {
-        return steps;
+        return (steps, false);
     }
-    steps.push(("find", looked_up(image, path)));
-    if find(&DISK, image, path).is_err() {
-        return steps;
+    let (text, accepted) = looked_up(image, path);
+    steps.push(("find", text));
+    if !accepted {
+        return (steps, false);
     }
     let file = match bytes_of(image, path) {
         Ok(file) => file,
         Err(refusal) => {
             steps.push(("read", refused(refusal)));
-            return steps;
+            return (steps, false);
         }
     };
     steps.push(("read", format!("{} bytes", file.len())));
-    let text = match load(&file, bases, Areas::new().lent()) {
-        Ok(Loaded { hunks, bytes }) => format!("{hunks} hunks, {bytes} bytes"),
-        Err(refusal) => program_refused(refusal, &file),
+    let (text, accepted) = match load(&file, bases, Areas::new().lent()) {
+        Ok(Loaded { hunks, bytes }) => (format!("{hunks} hunks, {bytes} bytes"), true),
+        Err(refusal) => (program_refused(refusal, &file), false),
     };
     steps.push(("load", text));
-    steps
+    (steps, accepted)
 }
 
 /// What a reset says of the program with this path.
-pub fn reset(image: &[u8], path: &[u8], bases: &[u32]) -> Vec<u8> {
-    steps(image, path, bases).iter().flat_map(|(step, text)| line(step.as_bytes(), text)).collect()
+pub fn reset(image: &[u8], path: &[u8], bases: &[u32]) -> Said {
+    let (steps, accepted) = steps(image, path, bases);
+    Said::answer(steps.iter().flat_map(|(step, text)| line(step.as_bytes(), text)).collect(), accepted)
 }
 
 #[cfg(test)]
@@ -244,37 +265,45 @@ mod tests {
         let (text, accepted) = audited(&damaged());
         assert_eq!((&text[..12], accepted), ("refused 7 at", false));
         assert!(text.ends_with(" (the sum of the block is not 0)"), "{text}");
-        assert_eq!(looked_up(&titles(), b""), "directory, key 880, compared 0");
+        assert_eq!(looked_up(&titles(), b""), ("directory, key 880, compared 0".to_string(), true));
         let size = title().len();
-        assert!(looked_up(&titles(), TITLE.as_bytes()).ends_with(&format!(", size {size}, compared 2")));
+        let (text, _) = looked_up(&titles(), TITLE.as_bytes());
+        assert!(text.ends_with(&format!(", size {size}, compared 2")), "{text}");
         let said = read_out(&titles(), b"s/nobody");
         assert_eq!(said.err, b"bench: s/nobody: refused 19 at 1 (there is no such name)\n");
-        assert_eq!(read_out(&titles(), SETTINGS.as_bytes()).err, b"");
+        assert_eq!(said.status, REFUSED);
+        let said = read_out(&titles(), SETTINGS.as_bytes());
+        assert_eq!((&said.err[..], said.status), (&b""[..], ACCEPTED));
     }
 
     /// The case that docs/FORMAT.md works out ("Worked cases"), loaded and moved.
     #[test]
     fn words_and_tables() {
-        let text = String::from_utf8(loaded(b"f", &worked_file(), &[0x3000, 0x7000])).expect("a text");
+        let said = loaded(b"f", &worked_file(), &[0x3000, 0x7000]);
+        assert_eq!(said.status, ACCEPTED);
+        let text = String::from_utf8(said.out).expect("a text");
         let lines: Vec<&str> = text.lines().collect();
         assert_eq!((lines.len(), lines[0], lines[9]), (12, "00003008", "0000300A"));
         assert_eq!(lines[10], "hunk 0: kind 3E9, place 0, size 6, base 00003000");
         assert_eq!(lines[11], "hunk 1: kind 3E9, place 24, size 4, base 00007000");
-        let text = moved(b"f", &worked_file(), &[0x3000, 0x7000], &[0x4000, 0x9000]);
-        assert_eq!(text, loaded(b"f", &worked_file(), &[0x4000, 0x9000]));
-        assert_eq!(text[..9], *b"00004008\n");
-        let text = moved(b"f", &worked_file(), &[0x3000, 0x7000], &[0, 1]);
+        let said = moved(b"f", &worked_file(), &[0x3000, 0x7000], &[0x4000, 0x9000]);
+        assert_eq!(said, loaded(b"f", &worked_file(), &[0x4000, 0x9000]));
+        assert_eq!(said.out[..9], *b"00004008\n");
+        let said = moved(b"f", &worked_file(), &[0x3000, 0x7000], &[0, 1]);
         let due = "f: refused 40 at 3 (the bases are not one for each hunk, or this one is not allowed)\n";
-        assert_eq!(text, due.as_bytes());
+        assert_eq!(said, Said::answer(due.into(), false));
     }
 
     #[test]
     fn a_reset_ends_at_the_first_refusal() {
-        let lines = |image: &[u8], path: &[u8], bases: &[u32]| steps(image, path, bases).len();
-        assert_eq!(lines(&titles(), TITLE.as_bytes(), &[0x1000, 0x2000, 0x3000]), 4);
-        assert_eq!(lines(&titles(), TITLE.as_bytes(), &[0x1000]), 4);
-        assert_eq!(lines(&titles(), b"c", &[0x1000]), 3);
-        assert_eq!(lines(&titles(), b"d", &[0x1000]), 2);
-        assert_eq!(lines(&damaged(), TITLE.as_bytes(), &[0x1000]), 1);
+        let lines = |image: &[u8], path: &[u8], bases: &[u32]| {
+            let (steps, accepted) = steps(image, path, bases);
+            (steps.len(), accepted)
+        };
+        assert_eq!(lines(&titles(), TITLE.as_bytes(), &[0x1000, 0x2000, 0x3000]), (4, true));
+        assert_eq!(lines(&titles(), TITLE.as_bytes(), &[0x1000]), (4, false));
+        assert_eq!(lines(&titles(), b"c", &[0x1000]), (3, false));
+        assert_eq!(lines(&titles(), b"d", &[0x1000]), (2, false));
+        assert_eq!(lines(&damaged(), TITLE.as_bytes(), &[0x1000]), (1, false));
     }
 }

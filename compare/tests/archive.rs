@@ -94,23 +94,32 @@ fn proved(source: &str, call: &str) -> Vec<String> {
     types
 }
 
+/// The type after `->` of a function.
+fn answer(source: &str, call: &str) -> String {
+    let rest = &source[source.find(&format!("fn {call}(")).unwrap_or_else(|| panic!("there is no {call}"))..];
+    let after = rest[rest.find("->").unwrap() + 2..].trim_start();
+    after[..after.find(|c: char| !c.is_ascii_alphanumeric()).unwrap()].to_string()
+}
+
 #[test]
 fn calls_are_declared_alike() {
     let (c, rust) = (text("include/jufferdeeg.h"), text("include/rust/src/lib.rs"));
     let (volumes, programs) =
         (text("crates/jufferdeeg/src/volumes.rt"), text("crates/jufferdeeg/src/programs.rt"));
-    for (call, answer, source) in [
-        ("jufferdeeg_audit", "audit_numbers", &volumes),
-        ("jufferdeeg_find", "find_numbers", &volumes),
-        ("jufferdeeg_read", "read_numbers", &volumes),
-        ("jufferdeeg_load", "program_numbers", &programs),
-        ("jufferdeeg_move", "program_numbers", &programs),
+    for (call, in_c, of, source) in [
+        ("jufferdeeg_audit", "struct jufferdeeg_audit_numbers", "AuditNumbers", &volumes),
+        ("jufferdeeg_find", "struct jufferdeeg_find_numbers", "FindNumbers", &volumes),
+        ("jufferdeeg_read", "struct jufferdeeg_read_numbers", "ReadNumbers", &volumes),
+        ("jufferdeeg_check", "struct jufferdeeg_program_numbers", "ProgramNumbers", &programs),
+        ("jufferdeeg_load", "struct jufferdeeg_program_numbers", "ProgramNumbers", &programs),
+        ("jufferdeeg_move", "struct jufferdeeg_program_numbers", "ProgramNumbers", &programs),
     ] {
-        let for_c = parts(&inside(&c, &format!("struct jufferdeeg_{answer} {call}"), '(', ')'), ',', of_c);
+        let for_c = parts(&inside(&c, &format!("{in_c} {call}"), '(', ')'), ',', of_c);
         let for_rust = parts(&inside(&rust, &format!("pub fn {call}"), '(', ')'), ',', of_rust);
         assert_eq!(for_c, for_rust, "{call}");
         let types: Vec<String> = for_c.into_iter().map(|(_, of)| of).collect();
         assert_eq!(types, proved(source, call), "{call}");
+        assert_eq!([answer(&rust, call), answer(source, call)], [of, of], "{call}");
     }
 }
 
@@ -136,19 +145,44 @@ fn structs_lie_as_in_c() {
     assert_eq!(size_of::<Hunk>(), 16);
 }
 
-/// `pub const NAME: u32 = 7;` and `#define JUFFERDEEG_NAME 7`, as name and number.
+/// `pub const NAME: u32 = 7;` or `#define JUFFERDEEG_NAME 7 /* why */`, as name and number.
 fn constants(text: &str, before: &str, between: &str) -> Vec<(String, String)> {
-    let lines = text.lines().filter_map(|l| l.trim().strip_prefix(before));
+    let lines = text.lines().filter_map(|l| l.trim().split("/*").next().unwrap().trim().strip_prefix(before));
     let pairs = lines.filter_map(|l| l.trim_end_matches(';').split_once(between));
-    pairs.map(|(name, number)| (name.to_string(), number.trim().to_string())).collect()
+    pairs.map(|(name, number)| (name.to_string(), number.to_string())).collect()
+}
+
+/// What stands from one text to the next other.
+fn stretch<'a>(text: &'a str, from: &str, to: &str) -> &'a str {
+    let rest = &text[text.find(from).unwrap_or_else(|| panic!("there is no {from}"))..];
+    &rest[..rest.find(to).unwrap()]
 }
 
 #[test]
 fn refusals_have_the_same_numbers() {
+    let (c, rust) = (text("include/jufferdeeg.h"), text("include/rust/src/lib.rs"));
     let proved = constants(&text("crates/answers/src/lib.rt"), "pub const ", ": u32 = ");
     assert_eq!(proved.len(), 33);
-    let rust = text("include/rust/src/lib.rs");
-    let module = &rust[rust.find("pub mod fault {").unwrap()..];
-    let faults = &module[..module.find("\n}").unwrap()];
+    let defined = stretch(&c, "/* The numbers of refusals", "\n\n");
+    assert_eq!(constants(defined, "#define JUFFERDEEG_", " "), proved);
+    let faults = stretch(&rust, "pub mod fault {", "\n}");
     assert_eq!(constants(faults, "pub const ", ": u32 = "), proved);
+}
+
+#[test]
+fn lengths_and_versions_are_the_same() {
+    let c = constants(&text("include/jufferdeeg.h"), "#define JUFFERDEEG_", " ");
+    let of = |name: &str| &c.iter().find(|(one, _)| one == name).unwrap_or_else(|| panic!("{name}")).1[..];
+    assert_eq!(of("IMAGE_BYTES"), jufferdeeg::IMAGE_BYTES.to_string());
+    assert_eq!(of("CLAIM_BYTES"), jufferdeeg::CLAIM_BYTES.to_string());
+    assert_eq!(of("MOST_HUNKS"), jufferdeeg::MOST_HUNKS.to_string());
+    assert_eq!(of("MOST_BYTES"), jufferdeeg::MOST_BYTES.to_string());
+    assert_eq!(of("DIRECTORY"), format!("{}u", jufferdeeg::DIRECTORY));
+    assert_eq!(of("FILE"), format!("0x{:X}u", jufferdeeg::FILE));
+    let version = of("VERSION");
+    let parts = [of("VERSION_MAJOR"), of("VERSION_MINOR"), of("VERSION_PATCH")];
+    assert_eq!(version, format!("\"{}\"", parts.join(".")));
+    assert!(text("include/rust/Cargo.toml").contains(&format!("\nversion = {version}\n")));
+    let newest = format!("\n## {}\n", version.trim_matches('"'));
+    assert!(text("CHANGELOG.md").contains(&newest));
 }

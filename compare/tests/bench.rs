@@ -2,8 +2,9 @@
 //! cannot ask.
 //!
 //! Answers due come from this package, see [`counter`](compare::counter); what is said of a wrong use is written out
-//! here. Standard output and standard error are both held to the byte. Every run has a folder of its own, and what
-//! is in it has to be the same afterwards.
+//! here. Standard output and standard error are both held to the byte, and so is the exit status: the program writes
+//! it to descriptor 9, for the script at the top of the repository. Every run has a folder of its own, and what is in
+//! it has to be the same afterwards.
 
 use std::collections::{BTreeMap, BTreeSet};
 use std::ffi::OsStr;
@@ -18,8 +19,8 @@ use compare::bad_programs::{bad_bases, scratch as scratch_program, BASE_CAUSES, 
 use compare::bad_volumes::{apply, scratch, Patch};
 use compare::bitmap::place;
 use compare::counter::{
-    audited, line, loaded, looked_up, moved, read_out, reset, Said, ARGUMENT_ROOM, BASES, FILE_ROOM, IMAGE_ROOM,
-    MEMORY, SENTENCES,
+    audited, line, loaded, looked_up, moved, read_out, reset, Said, ACCEPTED, ARGUMENT_ROOM, BASES, FILE_ROOM,
+    IMAGE_ROOM, MEMORY, REFUSED, SENTENCES, UNASKED,
 };
 use compare::disk::Disk;
 use compare::driver::rattle;
@@ -46,8 +47,9 @@ struct Desk {
 
 impl Drop for Desk {
     fn drop(&mut self) {
-        // nothing can be done about a folder that will not go, least of all while unwinding
+        // nothing can be done about what will not go, least of all while unwinding
         let _ = fs::remove_dir_all(&self.folder);
+        let _ = fs::remove_file(self.status_file());
     }
 }
 
@@ -75,14 +77,19 @@ impl Desk {
         &self.files[name]
     }
 
+    /// Where descriptor 9 of the program leads: beside the folder.
+    fn status_file(&self) -> PathBuf {
+        self.folder.with_extension("status")
+    }
+
     /// What a command says with these words; the files have to stay as they are, and no others to come.
     fn said_by(&self, mut command: Command, words: &[impl AsRef<[u8]>]) -> Said {
         command.args(words.iter().map(|word| OsStr::from_bytes(word.as_ref())));
         command.current_dir(&self.folder).stdin(Stdio::null());
         let run = command.output().expect("a program that starts");
-        assert!(run.status.success(), "{}: {}", shown(words), run.status);
+        let status = run.status.code().unwrap_or_else(|| panic!("{}: {}", shown(words), run.status));
         self.hold_files(words);
-        Said { out: run.stdout, err: run.stderr }
+        Said { out: run.stdout, err: run.stderr, status }
     }
 
     fn hold_files(&self, words: &[impl AsRef<[u8]>]) {
@@ -99,9 +106,21 @@ impl Desk {
         assert!(names.iter().eq(self.files.keys()), "{}: {names:?} are left", shown(words));
     }
 
-    /// What the tool says with these words.
+    /// What the program says with these words. It ends well; its status is what it writes to descriptor 9.
     fn said(&self, words: &[impl AsRef<[u8]>]) -> Said {
-        self.said_by(rattle("bench"), words)
+        let program = rattle("bench");
+        let mut command = Command::new("sh");
+        command.args(["-c", "exec \"$@\" 9>\"$0\""]).arg(self.status_file());
+        command.arg(program.get_program()).args(program.get_args());
+        let said = self.said_by(command, words);
+        assert_eq!(said.status, 0, "{}: the program's own status", shown(words));
+        let status = match &fs::read(self.status_file()).expect("a file of ours")[..] {
+            b"0" => ACCEPTED,
+            b"1" => REFUSED,
+            b"2" => UNASKED,
+            other => panic!("{}: {other:?} on descriptor 9", shown(words)),
+        };
+        Said { status, ..said }
     }
 
     fn hold(&self, words: &[impl AsRef<[u8]>], due: &Said) {
@@ -109,14 +128,14 @@ impl Desk {
     }
 
     /// Holds the tool to this standard output, and to silence on the other side.
-    fn hold_out(&self, words: &[impl AsRef<[u8]>], out: &[u8]) {
-        self.hold(words, &Said { out: out.to_vec(), err: Vec::new() });
+    fn hold_out(&self, words: &[impl AsRef<[u8]>], out: &[u8], accepted: bool) {
+        self.hold(words, &Said::answer(out.to_vec(), accepted));
     }
 
     /// Holds the tool to this one line on standard error, after `bench: `, and to nothing else.
     fn hold_err(&self, words: &[impl AsRef<[u8]>], text: impl AsRef<[u8]>) {
         let err = [b"bench: ", text.as_ref(), b"\n"].concat();
-        self.hold(words, &Said { out: Vec::new(), err });
+        self.hold(words, &Said { out: Vec::new(), err, status: UNASKED });
     }
 
     /// What an audit of these files is to say, all of which are there; several get a last line.
@@ -124,20 +143,21 @@ impl Desk {
         let words = [&["audit"], names].concat();
         let answers: Vec<_> = names.iter().map(|name| (name, audited(self.file(name)))).collect();
         let mut out: Vec<u8> = answers.iter().flat_map(|(name, (text, _))| line(name.as_bytes(), text)).collect();
+        let accepted = answers.iter().filter(|(_, (_, accepted))| *accepted).count();
+        let refused = names.len() - accepted;
         if names.len() > 1 {
-            let accepted = answers.iter().filter(|(_, (_, accepted))| *accepted).count();
-            let refused = names.len() - accepted;
             let last = format!("{} images: {accepted} accepted, {refused} refused, 0 not read\n", names.len());
             out.extend(last.bytes());
         }
-        self.hold_out(&words, &out);
+        self.hold_out(&words, &out, refused == 0);
     }
 
     fn hold_find(&self, image: &str, paths: &[impl AsRef<[u8]>]) {
         let given = paths.iter().map(|path| path.as_ref());
         let words: Vec<&[u8]> = [b"find", image.as_bytes()].into_iter().chain(given.clone()).collect();
-        let text = |path| line(path, &looked_up(self.file(image), path));
-        self.hold_out(&words, &given.flat_map(text).collect::<Vec<u8>>());
+        let answers: Vec<_> = given.map(|path| (path, looked_up(self.file(image), path))).collect();
+        let out: Vec<u8> = answers.iter().flat_map(|(path, (text, _))| line(path, text)).collect();
+        self.hold_out(&words, &out, answers.iter().all(|(_, (_, found))| *found));
     }
 
     fn hold_read(&self, image: &str, path: &[u8]) {
@@ -145,20 +165,20 @@ impl Desk {
     }
 
     fn hold_load(&self, name: &str, bases: &[u32]) {
-        let out = loaded(name.as_bytes(), self.file(name), bases);
-        self.hold_out(&words_of("load", name, &[bases]), &out);
+        let due = loaded(name.as_bytes(), self.file(name), bases);
+        self.hold(&words_of("load", name, &[bases]), &due);
     }
 
     fn hold_move(&self, name: &str, old: &[u32], new: &[u32]) {
-        let out = moved(name.as_bytes(), self.file(name), old, new);
-        self.hold_out(&words_of("move", name, &[old, new]), &out);
+        let due = moved(name.as_bytes(), self.file(name), old, new);
+        self.hold(&words_of("move", name, &[old, new]), &due);
     }
 
     fn hold_reset(&self, image: &str, path: &[u8], bases: &[u32]) {
         let bases_given = bases.iter().map(|base| format!("{base:X}").into_bytes());
         let start = [b"reset".to_vec(), image.as_bytes().to_vec(), path.to_vec()];
         let words: Vec<Vec<u8>> = start.into_iter().chain(bases_given).collect();
-        self.hold_out(&words, &reset(self.file(image), path, bases));
+        self.hold(&words, &reset(self.file(image), path, bases));
     }
 }
 
@@ -198,6 +218,7 @@ fn hold_said(words: &[impl AsRef<[u8]>], got: &Said, due: &Said) {
         let words = shown(words);
         assert!(got == due, "{words}: standard {side}, byte {same}: {:?}, not {:?}", near(got), near(due));
     }
+    assert_eq!(got.status, due.status, "{}: the exit status", shown(words));
 }
 
 fn laid_out(rng: &mut Rng, plan: &Plan) -> Volume {
@@ -210,13 +231,33 @@ fn alone_it_says_how_it_is_used() {
     let desk = Desk::with_samples();
     let none: [&str; 0] = [];
     let said = desk.said(&none);
-    assert_eq!(said.err, b"");
+    assert_eq!((&said.err[..], said.status), (&b""[..], ACCEPTED));
+    for words in [&["--help"][..], &["-h"], &["--help", "titles.adf"], &["-h", "audit"], &["--help", "--version"]]
+    {
+        desk.hold(words, &said);
+    }
     let text = String::from_utf8(said.out).expect("a text");
     assert!(text.ends_with('\n') && (7..=10).contains(&text.lines().count()), "{text}");
     for verb in ["audit", "find", "read", "load", "move", "reset"] {
         assert!(text.contains(verb), "{verb} in {text}");
     }
     assert!(text.replace(',', "").contains(&MEMORY.to_string()), "the room for program memory in {text}");
+}
+
+/// The newest version that the changelog names: its first heading that begins with a digit.
+fn newest_version() -> String {
+    let page = fs::read_to_string(repository().join("CHANGELOG.md")).expect("the page");
+    let mut headings = page.lines().filter_map(|line| line.strip_prefix("## "));
+    let version = headings.find(|text| text.starts_with(|first: char| first.is_ascii_digit()));
+    version.expect("a version").to_string()
+}
+
+#[test]
+fn the_version_is_the_newest_of_the_changelog() {
+    let desk = Desk::with_samples();
+    let due = format!("bench {}\n", newest_version());
+    desk.hold_out(&["--version"], due.as_bytes(), true);
+    desk.hold_out(&["--version", "titles.adf"], due.as_bytes(), true);
 }
 
 #[test]
@@ -260,7 +301,8 @@ fn wrong_uses() {
 fn verbs_that_are_none() {
     let desk = Desk::with_samples();
     let longest = "v".repeat(ARGUMENT_ROOM);
-    for verb in ["frobnicate", "AUDIT", "audits", "audi", "help", "--help", "-h", "", " ", "to", &longest] {
+    for verb in ["frobnicate", "AUDIT", "audits", "audi", "help", "-help", "--hel", "-v", "", " ", "to", &longest]
+    {
         let text = format!("{verb} is no verb; ./bench alone says how it is used");
         desk.hold_err(&[verb], &text);
         desk.hold_err(&[verb, "titles.adf"], &text);
@@ -413,7 +455,7 @@ fn images_of_other_lengths() {
     let desk = Desk::new(names.iter().cloned().zip(lengths.map(cut)));
     for name in &names {
         let due = "refused 1 at 0 (the image is not 901120 bytes long)";
-        desk.hold_out(&["audit", name], &line(name.as_bytes(), due));
+        desk.hold_out(&["audit", name], &line(name.as_bytes(), due), false);
         desk.hold_find(name, &["", TITLE, "a//b"]);
         desk.hold_read(name, TITLE.as_bytes());
         desk.hold_reset(name, TITLE.as_bytes(), &BASES_A);
@@ -440,10 +482,10 @@ fn audits_of_several_images_go_on() {
     ];
     let errors = "bench: nothing: cannot be opened\nbench: folder: cannot be read\n\
                   bench: long.adf: longer than 1802240 bytes, the room for an image\n";
-    desk.hold(&words, &Said { out: lines.concat(), err: errors.into() });
+    desk.hold(&words, &Said { out: lines.concat(), err: errors.into(), status: UNASKED });
     let last = b"2 images: 0 accepted, 0 refused, 2 not read\n".to_vec();
     let errors = "bench: folder: cannot be read\nbench: : cannot be opened\n";
-    desk.hold(&["audit", "folder", ""], &Said { out: last, err: errors.into() });
+    desk.hold(&["audit", "folder", ""], &Said { out: last, err: errors.into(), status: UNASKED });
     desk.hold_audit(&["titles.adf", "titles.adf"]);
 }
 
@@ -475,16 +517,19 @@ fn every_verb_on_the_samples() {
 #[test]
 fn resets() {
     let desk = Desk::with_samples();
-    let (audit, find) = (audited(&titles()).0, looked_up(&titles(), TITLE.as_bytes()));
+    let (audit, find) = (audited(&titles()).0, looked_up(&titles(), TITLE.as_bytes()).0);
     let start = format!("audit: {audit}\nfind: {find}\nread: 300 bytes\n");
-    let whole = |words: [&str; 6], last: &str| desk.hold_out(&words, format!("{start}load: {last}\n").as_bytes());
-    whole(["reset", "titles.adf", TITLE, "10000", "0x20000", "30000"], "3 hunks, 116 bytes");
+    let whole = |base: &str, last: &str, accepted: bool| {
+        let words = ["reset", "titles.adf", TITLE, "10000", base, "30000"];
+        desk.hold_out(&words, format!("{start}load: {last}\n").as_bytes(), accepted);
+    };
+    whole("0x20000", "3 hunks, 116 bytes", true);
     let not_allowed = "(the bases are not one for each hunk, or this one is not allowed)";
-    whole(["reset", "titles.adf", TITLE, "10000", "2", "30000"], &format!("refused 40 at 1 {not_allowed}"));
+    whole("2", &format!("refused 40 at 1 {not_allowed}"), false);
 
     let ends = |path: &str, lines: &str| {
         let words = ["reset", "titles.adf", path, "10000"];
-        desk.hold_out(&words, format!("audit: {audit}\n{lines}").as_bytes());
+        desk.hold_out(&words, format!("audit: {audit}\n{lines}").as_bytes(), false);
     };
     let as_directory = "(a file is used as a directory, or a directory as a file)";
     ends("c/tilte", "find: refused 19 at 1 (there is no such name)\n");
@@ -493,7 +538,7 @@ fn resets() {
     ends("c", &format!("find: directory, key 2, compared 1\nread: refused 20 at 0 {as_directory}\n"));
     ends("", &format!("find: directory, key 880, compared 0\nread: refused 20 at 0 {as_directory}\n"));
     let text = "audit: refused 7 at 4 (the sum of the block is not 0)\n";
-    desk.hold_out(&["reset", "damaged.adf", TITLE, "10000"], text.as_bytes());
+    desk.hold_out(&["reset", "damaged.adf", TITLE, "10000"], text.as_bytes(), false);
 }
 
 /// A program of hunks without stored words, of these sizes.
@@ -512,8 +557,8 @@ fn programs_as_large_as_the_memory() {
     let bases: Vec<u32> = (0..=count).map(|index| 4 * HUNK_WORDS * index).collect();
     desk.hold_load("full", &bases);
     let text = format!("refused 41 at 0 (the room is too small: {} bytes needed, {MEMORY} lent)", MEMORY + 4);
-    desk.hold_out(&words_of("load", "over", &[&bases]), &line(b"over", &text));
-    desk.hold_out(&words_of("move", "over", &[&bases, &bases]), &line(b"over", &text));
+    desk.hold_out(&words_of("load", "over", &[&bases]), &line(b"over", &text), false);
+    desk.hold_out(&words_of("move", "over", &[&bases, &bases]), &line(b"over", &text), false);
 }
 
 #[test]
@@ -635,7 +680,7 @@ fn finds_and_reads_on_generated_volumes() {
         for &number in &files {
             let path = by_paths.existing(&mut rng, number).path;
             let said = desk.said(&[b"read", &b"v"[..], &path]);
-            assert!(said.out == by_paths.contents(number) && said.err.is_empty(), "{name}: {path:?}");
+            assert!(said == Said::answer(by_paths.contents(number), true), "{name}: {path:?}");
             desk.hold_reset("v", &path, &[0]);
             read += 1;
             with_lists += usize::from(!volume.entries[number].lists.is_empty());
@@ -659,7 +704,7 @@ fn moves_are_loads_at_the_new_bases() {
         let [old, new] = [(); 2].map(|()| good_bases(&mut rng, &sizes));
         let load = desk.said(&words_of("load", "program", &[&new]));
         let there = desk.said(&words_of("move", "program", &[&old, &new]));
-        assert!(load == there && load.err.is_empty(), "round {round}");
+        assert!(load == there && load.err.is_empty() && load.status == ACCEPTED, "round {round}");
         desk.hold_load("program", &old);
         desk.hold_move("program", &old, &new);
     }
@@ -815,7 +860,7 @@ fn every_number_of_images_and_paths() {
     for (name, Flaw { number, image, audit, find, read }) in names.iter().zip(&flaws) {
         assert!(!audit || says(audited(image).0.as_bytes(), *number), "{number} by an audit");
         if let Some(path) = find {
-            assert!(says(looked_up(image, path.as_bytes()).as_bytes(), *number), "{number} by a lookup");
+            assert!(says(looked_up(image, path.as_bytes()).0.as_bytes(), *number), "{number} by a lookup");
             desk.hold_find(name, &[path]);
         }
         if let Some(path) = read {
@@ -860,15 +905,15 @@ fn program_flaws() -> Vec<(u32, Vec<u8>, Vec<u32>)> {
 #[test]
 fn every_number_of_programs_and_bases() {
     for (number, bytes, bases) in program_flaws() {
-        assert!(says(&loaded(b"p", &bytes, &bases), number), "{number} by a load");
-        assert!(says(&moved(b"p", &bytes, &bases, &bases), number), "{number} by a move");
+        assert!(says(&loaded(b"p", &bytes, &bases).out, number), "{number} by a load");
+        assert!(says(&moved(b"p", &bytes, &bases, &bases).out, number), "{number} by a move");
         let desk = Desk::new([("p", bytes)]);
         desk.hold_load("p", &bases);
         desk.hold_move("p", &bases, &bases);
     }
     // and in the second list alone
     let desk = Desk::with_samples();
-    assert!(says(&moved(b"title", &title(), &BASES_A, &[0]), 40));
+    assert!(says(&moved(b"title", &title(), &BASES_A, &[0]).out, 40));
     desk.hold_move("title", &BASES_A, &[0]);
     desk.hold_move("title", &BASES_A, &[BASES_A[0], BASES_A[1], BASES_A[1] + 44]);
 }
@@ -945,39 +990,171 @@ fn lines_left_out_of_a_page() {
     assert_eq!(shown_calls(page), [(vec!["find", "a", "b"], vec!["b: x"]), (vec!["audit", "a"], vec![])]);
 }
 
-/// A folder with a stand-in for `rt` that only says where the kit is, and complains of all else.
-fn kit_alone() -> Desk {
-    let script = "#!/bin/sh\ncase \"$1\" in doc | version) PATH=${PATH#*:} exec rt \"$@\" ;; esac\n\
-                  echo \"asked rt to $*\" >&2\nexit 1\n";
-    let desk = Desk::new([("rt", script.as_bytes().to_vec())]);
+/// A desk with a stand-in for `rt`: a script that says where the kit is, and does this where it is asked to check.
+fn kit_with(check: &str) -> Desk {
+    let asked = "case \"$1\" in doc | version) PATH=${PATH#*:} exec rt \"$@\" ;; esac";
+    stand_in(&format!("{asked}\n{check}"))
+}
+
+/// A desk with a stand-in for `rt` that does this.
+fn stand_in(text: &str) -> Desk {
+    let desk = Desk::new([("rt", format!("#!/bin/sh\n{text}\n").into_bytes())]);
     let mode = fs::Permissions::from_mode(0o755);
     fs::set_permissions(desk.folder.join("rt"), mode).expect("a program of ours");
     desk
 }
 
-/// The script runs the program that is there, from any folder, and proves nothing for it.
+/// The script of this folder, with that stand-in.
+fn script(top: &Path, kit: &Desk) -> Command {
+    let path = std::env::var("PATH").expect("a PATH");
+    let mut command = Command::new(top.join("bench"));
+    command.env("PATH", format!("{}:{path}", kit.folder.display()));
+    command
+}
+
+/// Names that look like what the tool says: the first three are of a volume, the others of the same damaged.
+const FORGED: [&str; 5] = [
+    "x: refused 1 at 0 (the image is not 901120 bytes long)",
+    "1",
+    "2\nbench: x: cannot be opened\n2",
+    "x: accepted, 4 directories, 3 files, 1 list blocks, 76 data blocks, 86 used, 1672 free",
+    "0",
+];
+
+/// The script runs the program that is there, from any folder, and proves nothing for it: it says what the program
+/// says, and ends with the status that the program writes.
 #[test]
 fn the_script_from_another_folder() {
     // it has to be built before
     let _program = rattle("bench");
-    let (desk, kit) = (Desk::with_samples(), kit_alone());
-    let path = std::env::var("PATH").expect("a PATH");
-    let said = |words: &[&str]| {
-        let mut command = Command::new(repository().join("bench"));
-        command.env("PATH", format!("{}:{path}", kit.folder.display()));
-        desk.said_by(command, words)
-    };
-    for words in [
-        &["audit", "titles.adf", "damaged.adf"][..],
-        &["find", "titles.adf", "", TITLE, "two words", "*"],
-        &["read", "titles.adf", FONT],
-        &["read", "titles.adf", ""],
-        &["load", "title", "10000", "", "30000"],
-        &["move", "title", "10000", "20000", "30000", "to", "0", "100", "200"],
-        &[],
-    ] {
-        hold_said(words, &said(words), &desk.said(words));
+    let images = [titles(), titles(), titles(), damaged(), damaged()];
+    let desk = Desk::new(compare::samples::all().into_iter().chain(FORGED.into_iter().zip(images)));
+    let kit = kit_with("echo \"asked rt to $*\" >&2\nexit 1");
+    let longest = "a".repeat(ARGUMENT_ROOM + 1);
+    let calls: [(i32, &[&str]); 39] = [
+        (ACCEPTED, &[]),
+        (ACCEPTED, &["--help"]),
+        (ACCEPTED, &["-h"]),
+        (ACCEPTED, &["--version"]),
+        (ACCEPTED, &["audit", "titles.adf"]),
+        (ACCEPTED, &["audit", FORGED[0], "titles.adf", FORGED[1], FORGED[2]]),
+        (ACCEPTED, &["find", "titles.adf", "", TITLE]),
+        (ACCEPTED, &["read", "titles.adf", FONT]),
+        (ACCEPTED, &["load", "title", "10000", "20000", "30000"]),
+        (ACCEPTED, &["move", "title", "10000", "20000", "30000", "to", "0", "100", "200"]),
+        (ACCEPTED, &["reset", FORGED[0], TITLE, "10000", "20000", "30000"]),
+        (REFUSED, &["audit", "titles.adf", "damaged.adf", "titles.adf"]),
+        (REFUSED, &["audit", FORGED[3]]),
+        (REFUSED, &["audit", FORGED[4]]),
+        (REFUSED, &["find", "titles.adf", "", TITLE, "two words", "*"]),
+        (REFUSED, &["find", "titles.adf", "0: file, key 3, size 300, compared 2", TITLE]),
+        (REFUSED, &["read", "titles.adf", ""]),
+        (REFUSED, &["read", "damaged.adf", TITLE]),
+        (REFUSED, &["load", "title", "10000", "20000"]),
+        (REFUSED, &["load", "titles.adf", "10000"]),
+        (REFUSED, &["move", "title", "10000", "20000", "to", "0", "100", "200"]),
+        (REFUSED, &["move", "title", "10000", "20000", "30000", "to", "0", "100", "1"]),
+        (REFUSED, &["reset", FORGED[3], TITLE, "10000", "20000", "30000"]),
+        (REFUSED, &["reset", "titles.adf", "c/tilte", "10000", "20000", "30000"]),
+        (REFUSED, &["reset", "titles.adf", "c", "10000", "20000", "30000"]),
+        (REFUSED, &["reset", "titles.adf", TITLE, "10000", "20000"]),
+        (UNASKED, &["audit"]),
+        (UNASKED, &["audit", "titles.adf", "nothing", "damaged.adf"]),
+        (UNASKED, &["audit", "nothing: accepted, 4 directories"]),
+        (UNASKED, &["find", "titles.adf"]),
+        (UNASKED, &["find", "nothing", TITLE]),
+        (UNASKED, &["read", "nothing", TITLE]),
+        (UNASKED, &["load", "title", "10000", "", "30000"]),
+        (UNASKED, &["load", ".", "10000"]),
+        (UNASKED, &["move", "title", "10000", "20000", "30000"]),
+        (UNASKED, &["reset", "nothing", TITLE, "10000"]),
+        (UNASKED, &["reset", "titles.adf", TITLE, "base"]),
+        (UNASKED, &["0"]),
+        (UNASKED, &["audit", "titles.adf", &longest]),
+    ];
+    for (status, words) in calls {
+        let said = desk.said_by(script(repository(), &kit), words);
+        assert_eq!(said.status, status, "{}", shown(words));
+        hold_said(words, &said, &desk.said(words));
     }
     let answer = line(b"titles.adf", &audited(&titles()).0);
-    hold_said(&["audit"], &said(&["audit", "titles.adf"]), &Said { out: answer, err: Vec::new() });
+    let said = desk.said_by(script(repository(), &kit), &["audit", "titles.adf"]);
+    hold_said(&["audit"], &said, &Said::answer(answer, true));
+}
+
+/// What cannot be written to the end is said, and no reader takes it for a whole file.
+#[test]
+fn output_that_cannot_be_written() {
+    let (desk, kit) = (Desk::with_samples(), kit_with("exit 1"));
+    let full = fs::File::options().write(true).open("/dev/full").expect("a device that is always full");
+    let mut command = script(repository(), &kit);
+    command.args(["read", "titles.adf", FONT]).current_dir(&desk.folder).stdin(Stdio::null());
+    let run = command.stdout(full).output().expect("a program that starts");
+    let text = String::from_utf8(run.stderr).expect("a text");
+    assert_eq!(text, format!("bench: {FONT}: cannot be written to standard output\n"));
+    assert_eq!(run.status.code(), Some(UNASKED));
+}
+
+#[test]
+fn the_script_without_the_kit() {
+    let (desk, kit) = (Desk::with_samples(), stand_in("exit 127"));
+    let said = desk.said_by(script(repository(), &kit), &["audit", "titles.adf"]);
+    let err = b"bench: the Rattle kit is not there: its command rt must be on the PATH\n".to_vec();
+    hold_said(&["audit"], &said, &Said { out: Vec::new(), err, status: UNASKED });
+}
+
+/// A folder as the repository is before the first use, with two crates; one of those that `bench` names is the kit's.
+fn unbuilt() -> Desk {
+    let script = fs::read(repository().join("bench")).expect("the script");
+    let list = b"words:\nother:\nbench: words io\n".to_vec();
+    let desk = Desk::new([("bench", script), ("crates.txt", list), ("titles.adf", titles())]);
+    fs::set_permissions(desk.folder.join("bench"), fs::Permissions::from_mode(0o755)).expect("a file of ours");
+    for name in ["words", "other", "bench"] {
+        fs::create_dir_all(desk.folder.join("crates").join(name)).expect("a folder");
+    }
+    desk
+}
+
+/// The text with the seconds that it took left out.
+fn untimed(text: &[u8]) -> String {
+    let text = String::from_utf8(text.to_vec()).expect("a text");
+    let cut = |line: &str| match line.strip_suffix(" s").and_then(|line| line.rsplit_once(", ")) {
+        Some((start, seconds)) if seconds.parse::<u32>().is_ok() => format!("{start}, N s\n"),
+        _ => format!("{line}\n"),
+    };
+    text.lines().map(cut).collect()
+}
+
+const PROVING: &str = "bench: proving and building; this takes some minutes, once\n\
+                       bench: proved words, 1 of 2 crates, N s\n";
+
+/// The first use proves and builds, says how far it is, and then does what is asked; the second says no more of it.
+#[test]
+fn the_first_use_says_how_far_it_is() {
+    let program = rattle("bench").get_args().last().expect("the program").to_owned();
+    let desk = unbuilt();
+    let check = format!(
+        "[ \"$1 $2\" = \"check bench\" ] || exit 1\necho \"rt: words proved (unchanged since it was last proved)\"\n\
+         echo \"note: bench proved nothing\"\nmkdir -p target/bin\ncp '{}' target/bin/\n\
+         echo \"rt: bench proved (88 s)\"\necho \"rt: ok, 2 crates proved\"",
+        program.to_str().expect("a path of ours")
+    );
+    let kit = kit_with(&check);
+    let words = ["audit", "titles.adf"];
+    let due = Said::answer(line(b"titles.adf", &audited(&titles()).0), true);
+    let first = desk.said_by(script(&desk.folder, &kit), &words);
+    assert_eq!(untimed(&first.err), format!("{PROVING}bench: proved bench, 2 of 2 crates, N s\n"));
+    hold_said(&words, &Said { err: Vec::new(), ..first }, &due);
+    hold_said(&words, &desk.said_by(script(&desk.folder, &kit), &words), &due);
+}
+
+#[test]
+fn a_first_use_that_fails() {
+    let desk = unbuilt();
+    let kit = kit_with("echo \"rt: words proved (7 s)\"\necho \"rt: bench NOT PROVED (exit 1, 9 s)\"\nexit 1");
+    let said = desk.said_by(script(&desk.folder, &kit), &["audit", "titles.adf"]);
+    let log = desk.folder.canonicalize().expect("a folder of ours").join("target/bench.log");
+    let told = "rt: words proved (7 s)\nrt: bench NOT PROVED (exit 1, 9 s)\nbench: not proved or not built";
+    assert_eq!(untimed(&said.err), format!("{PROVING}{told}; {} has all of it\n", log.display()));
+    assert_eq!((&said.out[..], said.status), (&b""[..], UNASKED));
 }

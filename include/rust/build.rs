@@ -27,7 +27,10 @@ fn main() {
     println!("cargo:rerun-if-env-changed=JUFFERDEEG_ARCHIVE");
     println!("cargo:rerun-if-changed=build.rs");
     let archive = match env::var_os("JUFFERDEEG_ARCHIVE") {
-        Some(given) => PathBuf::from(given),
+        Some(given) => {
+            println!("cargo:rerun-if-changed={}", Path::new(&given).display());
+            PathBuf::from(given)
+        }
         None => made(&Path::new(&var("CARGO_MANIFEST_DIR")).join("../..")),
     };
     // a copy, so that nothing is lost to this build if the archive is removed or made anew

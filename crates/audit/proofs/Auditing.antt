@@ -33,7 +33,7 @@ use Rattle.audit.specs.declared.audit.Audited.{Audited}
 use Rattle.audit.specs.declared.audit.Audited.the-variants.{Accepted, Refused}
 use Rattle.audit.specs.Walks.{Met, Walks, Ready, total, goesOn}
 use Rattle.audit.specs.Bits.{bitsOf}
-use Rattle.audit.specs.Audits.{numbersOf, refuse, reportOf, leaves, auditOf, Within, Tagged, Audits}
+use Rattle.audit.specs.Audits.{numbersOf, refuse, reportOf, claimAfter, auditOf, Within, Tagged, Audits}
 use Rattle.audit.proofs.Walking.{walks-none, walks-stopped, walks-then, walks-part, met-inside, met-stops, met-goes, ready-met}
 
 -- ---- the root and the bitmap block
@@ -152,7 +152,7 @@ module _ (d : Disk) (X : List ℕ) (n : ℕ) (e : n ≡ claimBytes d) (z : X ≡
 -- ---- the tests before the walk
 
 -- the answer's numbers are those of the answer
-audited : (d : Disk) (s : List ℕ) (n : ℕ) (r : Audited) (claim′ : List ℕ) → r ≡ auditOf d s n → claim′ ≡ leaves d s r n → Audits d s n r claim′
+audited : (d : Disk) (s : List ℕ) (n : ℕ) (r : Audited) (claim′ : List ℕ) → r ≡ auditOf d s n → claim′ ≡ claimAfter d s r n → Audits d s n r claim′
 audited d s n r claim′ e c = record { answer = e; numbers = ap numbersOf e; claim = c }
 
 module _ (d : Disk) (s X : List ℕ) (n b : ℕ) (r : Audited) (z : X ≡ replicate n 0) (e : b ≡ imageBytes d) where

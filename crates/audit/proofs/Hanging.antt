@@ -59,27 +59,27 @@ module _ (d : Disk) (s : List ℕ) (k head : ℕ) where
   unfolding twin pick
   twin-step i e t = rw (add-one i, e) t
 
-  pub record TwinInv (place e i : ℕ) : Type 0 where
-    pub upto : i ≤ place
+  pub record TwinInv (position e i : ℕ) : Type 0 where
+    pub upto : i ≤ position
     pub here : e ≡ chainKey s head i
     pub none : twin d s k head i ≡ false
 
-  pub twin-start : (place : ℕ) → TwinInv place head 0
+  pub twin-start : (position : ℕ) → TwinInv position head 0
   unfolding twin chainKey
-  twin-start place = record { upto = omega arith; here = refl; none = refl }
+  twin-start position = record { upto = omega arith; here = refl; none = refl }
 
-  module _ (place e i : ℕ) (v : TwinInv place e i) (l : i < place) (earlier : (q : ℕ) → q < place → Known d s (chainKey s head q)) where
+  module _ (position e i : ℕ) (v : TwinInv position e i) (l : i < position) (earlier : (q : ℕ) → q < position → Known d s (chainKey s head q)) where
     pub twin-known : Known d s e
     twin-known = rw (v .here) (earlier i l)
 
-    pub twin-yes : (b : Bool) → b ≡ same d (nameOf s e) (nameOf s k) → b ≡ true → true ≡ twin d s k head place
-    twin-yes b q t = twin-found i place (rw (v .here) at (sym q ∙ t)) l
+    pub twin-yes : (b : Bool) → b ≡ same d (nameOf s e) (nameOf s k) → b ≡ true → true ≡ twin d s k head position
+    twin-yes b q t = twin-found i position (rw (v .here) at (sym q ∙ t)) l
 
-    pub twin-again : (b : Bool) (e′ : ℕ) → b ≡ same d (nameOf s e) (nameOf s k) → b ≡ false → e′ ≡ wordOf s e 124 → TwinInv place e′ (i + 1)
+    pub twin-again : (b : Bool) (e′ : ℕ) → b ≡ same d (nameOf s e) (nameOf s k) → b ≡ false → e′ ≡ wordOf s e 124 → TwinInv position e′ (i + 1)
     twin-again b e′ q t f = record { upto = omega arith; here = f ∙ chain-next d s head i e twin-known (v .here); none = twin-step i (rw (v .here) at (sym q ∙ t)) (v .none) }
 
-  pub twin-no : (place e i : ℕ) → TwinInv place e i → place ≤ i → false ≡ twin d s k head place
-  twin-no place e i v l = let w : place ≡ i = omega (arith, v .upto) in rw w (sym (v .none))
+  pub twin-no : (position e i : ℕ) → TwinInv position e i → position ≤ i → false ≡ twin d s k head position
+  twin-no position e i v l = let w : position ≡ i = omega (arith, v .upto) in rw w (sym (v .none))
 
 pub known-holds : (d : Disk) (s : List ℕ) (k : ℕ) → length s ≡ imageBytes d → Known d s k → Holds s k
 known-holds d s k l h = omega (arith, h .high)
@@ -191,7 +191,7 @@ module _ (d : Disk) (s : List ℕ) (t i : ℕ) where
       }
 
   module _ (n₀ : Counts) (cl₀ cl : List ℕ) (n : Counts) (k p : ℕ) (v : ChainInv n₀ cl₀ cl n k p) where
-    -- the place on a chain stays small: each entry before it has claimed a block
+    -- the position on a chain stays small: each entry before it has claimed a block
     pub chain-few : p ≤ mostBlocks
     chain-few = omega (arith, v .few, v .most)
 

@@ -12,8 +12,8 @@ use Rattle.volume.specs.Names.{nameLength, longest}
 use Rattle.walk.specs.declared.Counts.{Counts}
 use Rattle.volume.specs.Law.{chainKey}
 use Rattle.walk.specs.Nodes.{Node, entry, list, keyOf, keyFault, keyNodes, chained, graph}
-use Rattle.walk.specs.declared.Lister.{Lister}
-use Rattle.walk.specs.Listings.{keysIn, nextList, Listed}
+use Rattle.walk.specs.declared.KeyBlock.{KeyBlock}
+use Rattle.walk.specs.KeyBlocks.{keysIn, nextList, KeysKnown}
 use Rattle.audit.specs.declared.claims.Walked.{Walked}
 use Rattle.audit.specs.declared.claims.Walked.the-variants.{Done, Stopped}
 
@@ -52,14 +52,14 @@ pub record Ready (d : Disk) (s cl : List ℕ) (n : Counts) : Type 0 where
 -- ---- files
 
 -- its data blocks are walked
-pub record KeysWalked (d : Disk) (s : List ℕ) (b : Lister) (n : Counts) (cl : List ℕ) (r : Walked) (cl′ : List ℕ) : Type 0 where
+pub record KeysWalked (d : Disk) (s : List ℕ) (b : KeyBlock) (n : Counts) (cl : List ℕ) (r : Walked) (cl′ : List ℕ) : Type 0 where
   pub walks : Walks d s (keyNodes s (b .header) (b .key) (b .done) (b .last) 0 (keysIn d s b)) [] n cl r cl′
   pub keys : (c : Counts) → r ≡ Done c → (i : ℕ) → i < keysIn d s b → keyWord s (b .key) i < d .blocks
 
 -- a list block is walked, up to the link to the next
-pub record ListWalked (d : Disk) (s : List ℕ) (b : Lister) (n : Counts) (cl : List ℕ) (r : Walked) (cl′ : List ℕ) : Type 0 where
+pub record ListWalked (d : Disk) (s : List ℕ) (b : KeyBlock) (n : Counts) (cl : List ℕ) (r : Walked) (cl′ : List ℕ) : Type 0 where
   pub walks : Walks d s (list (b .key) (b .header) (b .done) (b .last) ∷ []) (nextList s (b .header) (b .key) (b .done)) n cl r cl′
-  pub known : (c : Counts) → r ≡ Done c → Listed d s (b .header) (b .key) (b .done)
+  pub known : (c : Counts) → r ≡ Done c → KeysKnown d s (b .header) (b .key) (b .done)
   pub less : (c : Counts) → r ≡ Done c → free cl′ < free cl
 
 -- ---- directories

@@ -70,10 +70,10 @@ fn walk_volume(disk: Disk, image: &[u8], claim: &mut [u8]) -> Walked
     if f != 0 {
         return stopped(f, disk.root());
     }
-    let page = word_of(image, disk.root(), Block::MAP_KEY);
-    let g = meet_bitmap(disk, image, claim, page);
+    let bitmap = word_of(image, disk.root(), Block::MAP_KEY);
+    let g = meet_bitmap(disk, image, claim, bitmap);
     if g != 0 {
-        return stopped(g, page);
+        return stopped(g, bitmap);
     }
     let none = Counts {
         directories: 0,
@@ -93,8 +93,8 @@ fn audit_within(disk: Disk, image: &[u8], claim: &mut [u8]) -> Audited
     match w {
         Walked::Stopped(r) => Audited::Refused(r),
         Walked::Done(c) => {
-            let page = word_of(image, disk.root(), Block::MAP_KEY);
-            let m = check_bits(disk, image, page, claim);
+            let bitmap = word_of(image, disk.root(), Block::MAP_KEY);
+            let m = check_bits(disk, image, bitmap, claim);
             match m {
                 Mapped::Right(free) => Audited::Accepted(reported(c, free)),
                 Mapped::Wrong(key) => refused(Fault::WRONG_BIT, key),

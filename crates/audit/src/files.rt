@@ -10,15 +10,15 @@ use volume::file::key_of;
 use volume::file::keys_here;
 use volume::file::list_fault;
 use walk::Counts;
-use walk::Lister;
+use walk::KeyBlock;
 ghost use mathlib.Core.Path.{_≡_};
 ghost use mathlib.Core.List.{[]};
 ghost use Prim.Native.Nat.{_+_, _≤_, _<_};
 ghost use Rattle.volume.specs.Disks.{fileLimit};
 ghost use Rattle.volume.specs.Files.{sizeOf, blocksOf};
 ghost use Rattle.volume.specs.Rules.{fileFault};
-ghost use Rattle.walk.specs.Nodes.{list, datum, listed, withBlock, withList};
-ghost use Rattle.walk.specs.Listings.{Listing};
+ghost use Rattle.walk.specs.Nodes.{list, datum, keyBlockNodes, withBlock, withList};
+ghost use Rattle.walk.specs.KeyBlocks.{KeysReady};
 ghost use Rattle.audit.specs.Walks.{Met, Ready, Walks, KeysWalked, ListWalked};
 
 // Data block n of a file, after the block `last`: its claim and its tests.
@@ -58,8 +58,8 @@ fn with_block(c: Counts) -> Counts
 }
 
 // The data blocks that one block lists.
-fn walk_keys(disk: Disk, image: &[u8], claim: &mut [u8], b: Lister, n: Counts) -> Walked
-    requires { ⌜ (Ready disk (now image) (now claim) n) × (Listing disk (now image) b) ⌝ }
+fn walk_keys(disk: Disk, image: &[u8], claim: &mut [u8], b: KeyBlock, n: Counts) -> Walked
+    requires { ⌜ (Ready disk (now image) (now claim) n) × (KeysReady disk (now image) b) ⌝ }
     ensures { λ r. ⌜ KeysWalked disk (now (image .entry)) b n (now (claim .entry)) r (now (claim .exit)) ⌝ }
 {
     let size = word_of(image, b.header, Block::SIZE);
@@ -81,7 +81,7 @@ fn walk_keys(disk: Disk, image: &[u8], claim: &mut [u8], b: Lister, n: Counts) -
 }
 
 // A list block: its claim and its tests.
-fn meet_list(disk: Disk, image: &[u8], claim: &mut [u8], b: Lister, c: Counts) -> u32
+fn meet_list(disk: Disk, image: &[u8], claim: &mut [u8], b: KeyBlock, c: Counts) -> u32
     requires { ⌜ (Ready disk (now image) (now claim) c) × (b .header < disk .blocks) × (sizeOf (now image) (b .header) ≤ fileLimit disk) × (b .done ≤ blocksOf disk (now image) (b .header)) ⌝ }
     ensures { λ r. ⌜ Met disk (now (image .entry)) (list (b .key) (b .header) (b .done) (b .last)) (now (claim .entry)) r (now (claim .exit)) ⌝ }
 {
@@ -107,7 +107,7 @@ fn with_list(c: Counts) -> Counts
 }
 
 // A list block and what it lists, up to its link.
-fn walk_list(disk: Disk, image: &[u8], claim: &mut [u8], b: Lister, n: Counts) -> Walked
+fn walk_list(disk: Disk, image: &[u8], claim: &mut [u8], b: KeyBlock, n: Counts) -> Walked
     requires { ⌜ (Ready disk (now image) (now claim) n) × (b .header < disk .blocks) × (b .last < disk .blocks) × (sizeOf (now image) (b .header) ≤ fileLimit disk) × (b .done ≤ blocksOf disk (now image) (b .header)) ⌝ }
     ensures { λ r. ⌜ ListWalked disk (now (image .entry)) b n (now (claim .entry)) r (now (claim .exit)) ⌝ }
 {
@@ -127,9 +127,9 @@ pub(crate) fn walk_file(
     n: Counts,
 ) -> Walked
     requires { ⌜ (Ready disk (now image) (now claim) n) × (header < disk .blocks) × (fileFault disk (now image) header ≡ 0) ⌝ }
-    ensures { λ r. ⌜ Walks disk (now (image .entry)) (listed disk (now (image .entry)) header header 0 header) [] n (now (claim .entry)) r (now (claim .exit)) ⌝ }
+    ensures { λ r. ⌜ Walks disk (now (image .entry)) (keyBlockNodes disk (now (image .entry)) header header 0 header) [] n (now (claim .entry)) r (now (claim .exit)) ⌝ }
 {
-    let first = Lister {
+    let first = KeyBlock {
         header: header,
         key: header,
         done: 0,
@@ -140,24 +140,24 @@ pub(crate) fn walk_file(
         return w;
     };
     let mut m = c;
-    let mut lister = header;
+    let mut key_block = header;
     let mut done: u32 = 0;
     let mut next = word_of(image, header, Block::LIST);
     while next != 0 {
-        let b = Lister {
+        let b = KeyBlock {
             header: header,
             key: next,
             done: done + Block::SLOTS as u32,
-            last: key_of(image, lister, Block::SLOTS - 1),
+            last: key_of(image, key_block, Block::SLOTS - 1),
         };
         let v = walk_list(disk, image, claim, b, m);
         let Walked::Done(e) = v else {
             return v;
         };
         m = e;
-        lister = next;
+        key_block = next;
         done += Block::SLOTS as u32;
-        next = word_of(image, lister, Block::LIST);
+        next = word_of(image, key_block, Block::LIST);
     }
     Walked::Done(m)
 }

@@ -8,10 +8,12 @@ mod reset;
 mod rooms;
 mod saying;
 mod sentences;
+mod status;
 mod usage;
 mod volumes;
 
 use arguments::same;
+use status::Outcome;
 
 enum Verb {
     Audit,
@@ -20,6 +22,8 @@ enum Verb {
     Load,
     Move,
     Reset,
+    Help,
+    Version,
     Unknown,
 }
 
@@ -42,12 +46,21 @@ fn verb_of(text: &[u8]) -> Verb {
     if same(text, b"reset") {
         return Verb::Reset;
     }
+    if same(text, b"--help") {
+        return Verb::Help;
+    }
+    if same(text, b"-h") {
+        return Verb::Help;
+    }
+    if same(text, b"--version") {
+        return Verb::Version;
+    }
     Verb::Unknown
 }
 
 // Does what the verb says with so many arguments. The rooms are made once and lent to each: for an image, a program file, memory and the
 // work area.
-fn act(verb: Verb, count: usize) {
+fn act(verb: Verb, count: usize) -> Outcome {
     let mut image = rooms::image();
     let mut file = rooms::file();
     let mut memory = rooms::memory();
@@ -59,30 +72,37 @@ fn act(verb: Verb, count: usize) {
         Verb::Load => programs::load(count, &mut file, &mut memory, &mut work),
         Verb::Move => programs::move_program(count, &mut file, &mut memory, &mut work),
         Verb::Reset => reset::reset(count, &mut image, &mut file, &mut memory, &mut work),
-        Verb::Unknown => {}
+        Verb::Help => usage::say(),
+        Verb::Version => usage::version(),
+        Verb::Unknown => Outcome::Unasked,
     }
 }
 
 // The same for the verb that argument 1 is.
-fn run(count: usize) {
+fn run(count: usize) -> Outcome {
     let mut text = io::buffer();
     let n = os::arg(1, &mut text);
     let verb = verb_of(&text[..n]);
     if let Verb::Unknown = verb {
-        saying::wrong(
+        return saying::wrong(
             &text[..n],
             b" is no verb; ./bench alone says how it is used",
         );
     }
-    act(verb, count);
+    act(verb, count)
 }
 
-fn main() {
-    let count = os::arg_count();
+// The same, if there is one and all arguments fit.
+fn start(count: usize) -> Outcome {
     if count < 2 {
         return usage::say();
     }
-    if arguments::all_fit(count) {
-        run(count);
+    if !arguments::all_fit(count) {
+        return Outcome::Unasked;
     }
+    run(count)
+}
+
+fn main() {
+    status::tell(start(os::arg_count()));
 }

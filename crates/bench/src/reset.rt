@@ -7,6 +7,7 @@ use crate::rooms;
 use crate::saying::counted;
 use crate::saying::refused;
 use crate::saying::wrong;
+use crate::status::Outcome;
 use crate::volumes;
 use libc::STDOUT_FILENO;
 use program::check::Answer;
@@ -17,14 +18,15 @@ fn was_read(bytes: usize) {
     counted(STDOUT_FILENO, bytes as u64, b" bytes\n");
 }
 
-fn loaded(count: u32, bytes: usize) {
+fn loaded(count: u32, bytes: usize) -> Outcome {
     io::write_all(STDOUT_FILENO, b"load: ");
     counted(STDOUT_FILENO, count as u64, b" hunks, ");
     counted(STDOUT_FILENO, bytes as u64, b" bytes\n");
+    Outcome::Accepted
 }
 
 // The last step: the program.
-fn load(file: &[u8], bases: &[u32], memory: &mut [u8], work: &mut [u8]) {
+fn load(file: &[u8], bases: &[u32], memory: &mut [u8], work: &mut [u8]) -> Outcome {
     let mut table = rooms::table();
     let answer = loader::calls::load(file, bases, memory, &mut table, work);
     match answer {
@@ -41,38 +43,61 @@ fn read(
     output: &mut [u8],
     memory: &mut [u8],
     work: &mut [u8],
-) {
+) -> Outcome {
     let reading = reading::read::read(image, path, 0, output);
     match reading {
         Reading::Bytes(n) => {
             was_read(n);
-            load(&output[..n], bases, memory, work);
+            load(&output[..n], bases, memory, work)
         }
         Reading::Refused(fault) => refused(STDOUT_FILENO, b"read", fault, 0),
     }
 }
 
 // All steps, with the path that argument 3 is.
-fn steps(image: &[u8], bases: &[u32], file: &mut [u8], memory: &mut [u8], work: &mut [u8]) {
+fn steps(
+    image: &[u8],
+    bases: &[u32],
+    file: &mut [u8],
+    memory: &mut [u8],
+    work: &mut [u8],
+) -> Outcome {
     let mut path = io::buffer();
     let n = os::arg(3, &mut path);
-    if volumes::audit_image(b"audit", image) {
-        if volumes::find_path(b"find", image, &path[..n]) {
-            read(image, &path[..n], bases, file, memory, work);
-        }
-    }
+    let audited = volumes::audit_image(b"audit", image);
+    let Outcome::Accepted = audited else {
+        return audited;
+    };
+    let found = volumes::find_path(b"find", image, &path[..n]);
+    let Outcome::Accepted = found else {
+        return found;
+    };
+    read(image, &path[..n], bases, file, memory, work)
 }
 
 // The same on the image that argument 2 names.
-fn reset_at(bases: &[u32], room: &mut [u8], file: &mut [u8], memory: &mut [u8], work: &mut [u8]) {
+fn reset_at(
+    bases: &[u32],
+    room: &mut [u8],
+    file: &mut [u8],
+    memory: &mut [u8],
+    work: &mut [u8],
+) -> Outcome {
     let held = files::read_argument(2, Kind::Image, room);
-    if held.whole {
-        let n = held.bytes;
-        steps(&room[..n], bases, file, memory, work);
+    if !held.whole {
+        return Outcome::Unasked;
     }
+    let n = held.bytes;
+    steps(&room[..n], bases, file, memory, work)
 }
 
-pub fn reset(count: usize, room: &mut [u8], file: &mut [u8], memory: &mut [u8], work: &mut [u8]) {
+pub fn reset(
+    count: usize,
+    room: &mut [u8],
+    file: &mut [u8],
+    memory: &mut [u8],
+    work: &mut [u8],
+) -> Outcome {
     if count < 5 {
         return wrong(
             b"reset",
@@ -81,7 +106,8 @@ pub fn reset(count: usize, room: &mut [u8], file: &mut [u8], memory: &mut [u8], 
     }
     let mut list = rooms::bases();
     let n = bases::list(4, count, &mut list);
-    if n > 0 {
-        reset_at(&list[..n], room, file, memory, work);
+    if n == 0 {
+        return Outcome::Unasked;
     }
+    reset_at(&list[..n], room, file, memory, work)
 }

@@ -1,6 +1,7 @@
 // Parts of lines, and the lines that several verbs say.
 use crate::rooms;
 use crate::sentences;
+use crate::status::Outcome;
 use answers::Fault;
 use answers::Refusal;
 use libc::STDERR_FILENO;
@@ -20,11 +21,12 @@ pub fn begin() {
 }
 
 // What kept the tool from asking: what it is about, and the text after it.
-pub fn wrong(about: &[u8], text: &[u8]) {
+pub fn wrong(about: &[u8], text: &[u8]) -> Outcome {
     begin();
     io::write_all(STDERR_FILENO, about);
     io::write_all(STDERR_FILENO, text);
     io::write_all(STDERR_FILENO, b"\n");
+    Outcome::Unasked
 }
 
 // How much room was needed, and how much there is.
@@ -35,7 +37,7 @@ fn shortfall(fd: i32, needed: usize) {
 }
 
 // A refusal. `needed` is the bytes of memory that the program takes; only a 41 asks for it.
-pub fn refused(fd: i32, who: &[u8], fault: Refusal, needed: usize) {
+pub fn refused(fd: i32, who: &[u8], fault: Refusal, needed: usize) -> Outcome {
     io::write_all(fd, who);
     io::write_all(fd, b": refused ");
     counted(fd, fault.number as u64, b" at ");
@@ -45,4 +47,5 @@ pub fn refused(fd: i32, who: &[u8], fault: Refusal, needed: usize) {
         shortfall(fd, needed);
     }
     io::write_all(fd, b")\n");
+    Outcome::Refused
 }

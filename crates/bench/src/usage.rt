@@ -1,7 +1,14 @@
-// How the tool is used.
+// How the tool is used, and its version.
+use crate::status::Outcome;
 use libc::STDOUT_FILENO;
 
-pub fn say() {
+// The newest version that CHANGELOG.md names, in the line that says it.
+pub fn version() -> Outcome {
+    io::write_all(STDOUT_FILENO, b"bench 0.1.0\n");
+    Outcome::Accepted
+}
+
+pub fn say() -> Outcome {
     io::write_all(
         STDOUT_FILENO,
         b"\
@@ -12,6 +19,8 @@ pub fn say() {
 ./bench move FILE BASE... to BASE...   the same, moved from the first bases to the second\n\
 ./bench reset IMAGE PATH BASE...       audit, find, read and load, a line each\n\
 A BASE is 1 to 8 hex digits, 0x before them or not; one for each hunk, at most 256 in a list.\n\
-Rooms in bytes: image 1802240, program file 1048576, program memory 1048576, argument 4096.\n",
+Rooms in bytes: image 1802240, program file 1048576, program memory 1048576, argument 4096.\n\
+Exit status: 0 all accepted, 1 something refused, 2 a wrong use or something unreadable.\n",
     );
+    Outcome::Accepted
 }

@@ -5,6 +5,8 @@ use crate::saying;
 use crate::saying::counted;
 use crate::saying::refused;
 use crate::saying::wrong;
+use crate::status;
+use crate::status::Outcome;
 use audit::audit::Audited;
 use audit::audit::Report;
 use libc::STDERR_FILENO;
@@ -16,7 +18,7 @@ ghost use Rattle.bench.specs.Tallies.{Below, OneMore};
 // ---- the calls, and what is said of them; `who` begins the line
 
 // An accepted volume.
-fn accepted(who: &[u8], report: Report) {
+fn accepted(who: &[u8], report: Report) -> Outcome {
     io::write_all(STDOUT_FILENO, who);
     io::write_all(STDOUT_FILENO, b": accepted, ");
     counted(STDOUT_FILENO, report.directories as u64, b" directories, ");
@@ -25,66 +27,47 @@ fn accepted(who: &[u8], report: Report) {
     counted(STDOUT_FILENO, report.blocks as u64, b" data blocks, ");
     counted(STDOUT_FILENO, report.used as u64, b" used, ");
     counted(STDOUT_FILENO, report.free as u64, b" free\n");
+    Outcome::Accepted
 }
 
-// Audits an image, and answers whether it is accepted. The claim area has more bytes than there are blocks.
-pub fn audit_image(who: &[u8], image: &[u8]) -> bool {
+// Audits an image. The claim area has more bytes than there are blocks.
+pub fn audit_image(who: &[u8], image: &[u8]) -> Outcome {
     let mut claim = io::buffer();
     let answer = audit::audit::audit(image, &mut claim);
     match answer {
-        Audited::Accepted(report) => {
-            accepted(who, report);
-            true
-        }
-        Audited::Refused(fault) => {
-            refused(STDOUT_FILENO, who, fault, 0);
-            false
-        }
+        Audited::Accepted(report) => accepted(who, report),
+        Audited::Refused(fault) => refused(STDOUT_FILENO, who, fault, 0),
     }
 }
 
-fn directory(who: &[u8], key: u32, compared: u32) {
+fn directory(who: &[u8], key: u32, compared: u32) -> Outcome {
     io::write_all(STDOUT_FILENO, who);
     io::write_all(STDOUT_FILENO, b": directory, key ");
     counted(STDOUT_FILENO, key as u64, b", compared ");
     counted(STDOUT_FILENO, compared as u64, b"\n");
+    Outcome::Accepted
 }
 
-fn file(who: &[u8], key: u32, size: u32, compared: u32) {
+fn file(who: &[u8], key: u32, size: u32, compared: u32) -> Outcome {
     io::write_all(STDOUT_FILENO, who);
     io::write_all(STDOUT_FILENO, b": file, key ");
     counted(STDOUT_FILENO, key as u64, b", size ");
     counted(STDOUT_FILENO, size as u64, b", compared ");
     counted(STDOUT_FILENO, compared as u64, b"\n");
+    Outcome::Accepted
 }
 
-// Finds a path, and answers whether it leads anywhere.
-pub fn find_path(who: &[u8], image: &[u8], path: &[u8]) -> bool {
+// Finds a path.
+pub fn find_path(who: &[u8], image: &[u8], path: &[u8]) -> Outcome {
     let found = lookup::find::find(image, path);
     match found {
-        Found::Directory(key, compared) => {
-            directory(who, key, compared);
-            true
-        }
-        Found::File(key, size, compared) => {
-            file(who, key, size, compared);
-            true
-        }
-        Found::Refused(fault) => {
-            refused(STDOUT_FILENO, who, fault, 0);
-            false
-        }
+        Found::Directory(key, compared) => directory(who, key, compared),
+        Found::File(key, size, compared) => file(who, key, size, compared),
+        Found::Refused(fault) => refused(STDOUT_FILENO, who, fault, 0),
     }
 }
 
 // ---- the verbs, over so many arguments
-
-// What came of an image.
-enum Seen {
-    Accepted,
-    Refused,
-    Unread,
-}
 
 // How many images came to what.
 struct Tally {
@@ -95,40 +78,48 @@ struct Tally {
 
 impl Tally {
     // One image more.
-    fn with(mut self, seen: Seen) -> Tally
+    fn with(mut self, seen: Outcome) -> Tally
         requires { ⌜ Below self 18446744073709551615 ⌝ }
         ensures { λ r. ⌜ OneMore self r ⌝ }
     {
         match seen {
-            Seen::Accepted => {
+            Outcome::Accepted => {
                 self.accepted += 1;
             }
-            Seen::Refused => {
+            Outcome::Refused => {
                 self.refused += 1;
             }
-            Seen::Unread => {
+            Outcome::Unasked => {
                 self.unread += 1;
             }
         }
         self
     }
+
+    // What came of all of them.
+    fn outcome(self) -> Outcome {
+        if self.unread > 0 {
+            return Outcome::Unasked;
+        }
+        if self.refused > 0 {
+            return Outcome::Refused;
+        }
+        Outcome::Accepted
+    }
 }
 
 // Audits the image of this name.
-fn audit_named(name: &[u8], room: &mut [u8]) -> Seen {
+fn audit_named(name: &[u8], room: &mut [u8]) -> Outcome {
     let held = files::read(name, Kind::Image, room);
     if !held.whole {
-        return Seen::Unread;
+        return Outcome::Unasked;
     }
     let n = held.bytes;
-    if audit_image(name, &room[..n]) {
-        return Seen::Accepted;
-    }
-    Seen::Refused
+    audit_image(name, &room[..n])
 }
 
 // Audits the image that argument i names.
-fn audit_argument(i: usize, room: &mut [u8]) -> Seen {
+fn audit_argument(i: usize, room: &mut [u8]) -> Outcome {
     let mut name = io::buffer();
     let n = os::arg(i, &mut name);
     audit_named(&name[..n], room)
@@ -156,7 +147,7 @@ fn summary(images: usize, tally: Tally) {
     counted(STDOUT_FILENO, tally.unread as u64, b" not read\n");
 }
 
-pub fn audit_images(count: usize, room: &mut [u8]) {
+pub fn audit_images(count: usize, room: &mut [u8]) -> Outcome {
     if count < 3 {
         return wrong(b"audit", b" needs an IMAGE");
     }
@@ -164,64 +155,75 @@ pub fn audit_images(count: usize, room: &mut [u8]) {
     if count > 3 {
         summary(count - 2, tally);
     }
+    tally.outcome()
 }
 
 // Finds the path that argument i is.
-fn find_argument(i: usize, image: &[u8]) {
+fn find_argument(i: usize, image: &[u8]) -> Outcome {
     let mut path = io::buffer();
     let n = os::arg(i, &mut path);
     let text = &path[..n];
-    find_path(text, image, text);
+    find_path(text, image, text)
 }
 
 // Finds the paths from argument 3 on.
-fn find_each(count: usize, image: &[u8]) {
+fn find_each(count: usize, image: &[u8]) -> Outcome {
+    let mut all = Outcome::Accepted;
     let mut i: usize = 3;
     while i < count {
-        find_argument(i, image);
+        all = status::worse(all, find_argument(i, image));
         i += 1;
     }
+    all
 }
 
-pub fn find_paths(count: usize, room: &mut [u8]) {
+pub fn find_paths(count: usize, room: &mut [u8]) -> Outcome {
     if count < 4 {
         return wrong(b"find", b" needs an IMAGE and a PATH");
     }
     let held = files::read_argument(2, Kind::Image, room);
-    if held.whole {
-        let n = held.bytes;
-        find_each(count, &room[..n]);
+    if !held.whole {
+        return Outcome::Unasked;
     }
+    let n = held.bytes;
+    find_each(count, &room[..n])
 }
 
-// Reads a file and writes its bytes, and nothing else, to standard output.
-fn read_path(image: &[u8], path: &[u8], output: &mut [u8]) {
+// Writes a file's bytes, and nothing else, to standard output.
+fn put_out(path: &[u8], bytes: &[u8]) -> Outcome {
+    if io::write_all(STDOUT_FILENO, bytes) {
+        return Outcome::Accepted;
+    }
+    wrong(path, b": cannot be written to standard output")
+}
+
+// Reads a file and writes its bytes.
+fn read_path(image: &[u8], path: &[u8], output: &mut [u8]) -> Outcome {
     let reading = reading::read::read(image, path, 0, output);
     match reading {
-        Reading::Bytes(n) => {
-            io::write_all(STDOUT_FILENO, &output[..n]);
-        }
+        Reading::Bytes(n) => put_out(path, &output[..n]),
         Reading::Refused(fault) => {
             saying::begin();
-            refused(STDERR_FILENO, path, fault, 0);
+            refused(STDERR_FILENO, path, fault, 0)
         }
     }
 }
 
 // The same for the path that argument 3 is.
-fn read_argument(image: &[u8], output: &mut [u8]) {
+fn read_argument(image: &[u8], output: &mut [u8]) -> Outcome {
     let mut path = io::buffer();
     let n = os::arg(3, &mut path);
-    read_path(image, &path[..n], output);
+    read_path(image, &path[..n], output)
 }
 
-pub fn read_file(count: usize, room: &mut [u8], output: &mut [u8]) {
+pub fn read_file(count: usize, room: &mut [u8], output: &mut [u8]) -> Outcome {
     if count != 4 {
         return wrong(b"read", b" needs an IMAGE and one PATH");
     }
     let held = files::read_argument(2, Kind::Image, room);
-    if held.whole {
-        let n = held.bytes;
-        read_argument(&room[..n], output);
+    if !held.whole {
+        return Outcome::Unasked;
     }
+    let n = held.bytes;
+    read_argument(&room[..n], output)
 }

@@ -8,7 +8,7 @@ use Rattle.program.specs.declared.check.Answer.the-variants.{Accepted}
 use Rattle.program.specs.Page.{Holds}
 use Rattle.program.specs.Page as page
 use Rattle.loader.specs.Memory.{amountOf, moved}
-use Rattle.loader.specs.Pages.{imageOf, fileTargets, Adds, Outside, placedHunks}
+use Rattle.loader.specs.Pages.{imageOf, fileTargets, Adds, Outside, withHunks}
 use Rattle.loader.proofs.PageCalls as numbers
 use Rattle.loader.proofs.Targets as targets
 use Rattle.hunks.specs.declared.Hunk.{Hunk}
@@ -28,7 +28,7 @@ module _ (file m : List ℕ) (t : List Hunk) (w : List ℕ) (x n : ℕ) (m′ : 
           hunks = p .hunks;
           bytes = p .bytes;
           memory = p .memory;
-          table = l .recorded ∙ page-table file hs (h .fits) (h .even) (h .words) bases t;
+          table = l .recorded ∙ page-table file hs (h .fits) (h .whole) (h .words) bases t;
         }
 
     -- and it holds some
@@ -42,7 +42,7 @@ module _ (file m : List ℕ) (t : List Hunk) (w : List ℕ) (x n : ℕ) (m′ : 
     load-words hs h = targets.load-words file hs h m (numbersIn t) w x n m′ (numbersIn t′) w′ bases (load-numbers file bases m t w _ m′ t′ w′ l)
 
     -- every other byte: the hunks', and after them what stood there
-    pub load-others : (hs : List page.Hunk) → Holds file hs → (k : ℕ) → Outside k (fileTargets hs) → getD m′ k 0 ≡ getD (placedHunks hs m) k 0
+    pub load-others : (hs : List page.Hunk) → Holds file hs → (k : ℕ) → Outside k (fileTargets hs) → getD m′ k 0 ≡ getD (withHunks hs m) k 0
     load-others hs h = targets.load-others file hs h m (numbersIn t) w x n m′ (numbersIn t′) w′ bases (load-numbers file bases m t w _ m′ t′ w′ l)
 
   module _ (old new : List ℕ) (l : Moves file old new m t w (Accepted x n) m′ t′ w′) where
@@ -53,7 +53,7 @@ module _ (file m : List ℕ) (t : List Hunk) (w : List ℕ) (x n : ℕ) (m′ : 
           hunks = p .hunks;
           bytes = p .bytes;
           memory = p .memory;
-          table = l .recorded ∙ page-table file hs (h .fits) (h .even) (h .words) new t;
+          table = l .recorded ∙ page-table file hs (h .fits) (h .whole) (h .words) new t;
         }
 
     pub move-page : (hs : List page.Hunk) × Holds file hs × MovedPage hs old new m t x n m′ t′

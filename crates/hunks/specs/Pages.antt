@@ -6,7 +6,7 @@ use mathlib.Core.List.{List, [], _∷_, _++_}
 use lib.ListN.{length, drop}
 use Rattle.program.specs.Page as page
 use Rattle.loader.specs.Memory.{amountOf, moved}
-use Rattle.loader.specs.Pages.{kindOf, placedHunks, fileTargets, relocated}
+use Rattle.loader.specs.Pages.{kindOf, withHunks, fileTargets, relocated}
 use Rattle.hunks.specs.declared.Hunk.{Hunk}
 
 -- kind, place, size and base of each hunk; the first stands at byte p and has number i
@@ -23,7 +23,7 @@ pageRecords p i (h ∷ hs) bases =
 pub record LoadedPage (hs : List page.Hunk) (bases m : List ℕ) (t : List Hunk) (x n : ℕ) (m′ : List ℕ) (t′ : List Hunk) : Type 0 where
   pub hunks : x ≡ length hs
   pub bytes : n ≡ 4 * page.total hs
-  pub memory : m′ ≡ relocated (placedHunks hs m) (fileTargets hs) (amountOf bases)
+  pub memory : m′ ≡ relocated (withHunks hs m) (fileTargets hs) (amountOf bases)
   pub table : t′ ≡ pageRecords 0 0 hs bases ++ drop (length hs) t
 
 -- a move leaves m′ and t′: new minus old base is added at each target

@@ -6,7 +6,7 @@ use Rattle.program.specs.Types as type
 use Rattle.program.specs.declared.check.Answer.{Answer}
 use Rattle.program.specs.declared.check.Answer.the-variants.{Accepted, Refused}
 use Rattle.loader.specs.declared.calls.Outcome.{Outcome}
-use Rattle.loader.specs.Calls.{LoadsCore, MovesCore}
+use Rattle.loader.specs.Parts.{LoadsCore, MovesCore}
 use Rattle.hunks.specs.declared.Counted.{Counted}
 
 -- how many records an answer has

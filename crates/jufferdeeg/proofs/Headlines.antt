@@ -56,14 +56,14 @@ use Rattle.reading.proofs.OnTrees as reads
 use Rattle.program.specs.declared.check.Answer.{Answer}
 use Rattle.program.specs.declared.check.Answer.the-variants.{Accepted, Refused}
 use Rattle.program.specs.Page as paper
-use Rattle.program.specs.Check.{checkRefusals, checkOf, numbersOf, Checks}
+use Rattle.program.specs.Check.{checkRefusals, checkOf, numbersOf}
 use Rattle.program.specs.Verdicts as programs
 use Rattle.program.proofs.Unique as unique
 use Rattle.program.proofs.Pages as pages
 use Rattle.program.proofs.Refusing as faults
 use Rattle.loader.specs.Calls.{callRefusals, loadAnswer, moveAnswer}
 use Rattle.loader.specs.Memory.{amountOf, moved}
-use Rattle.loader.specs.Pages.{imageOf, fileTargets, Named, Adds, Outside, placedHunks}
+use Rattle.loader.specs.Pages.{imageOf, fileTargets, Named, Adds, Outside, withHunks}
 use Rattle.loader.specs.Verdicts.{Takes, CallWhy}
 use Rattle.loader.proofs.OneHunk as targets
 use Rattle.loader.proofs.PageVerdicts as verdicts
@@ -79,7 +79,7 @@ use Rattle.jufferdeeg.specs.declared.volumes.FindNumbers.{FindNumbers}
 use Rattle.jufferdeeg.specs.declared.volumes.ReadNumbers.{ReadNumbers}
 use Rattle.jufferdeeg.specs.declared.programs.ProgramNumbers.{ProgramNumbers}
 use Rattle.jufferdeeg.specs.Volumes.{findOnFloppy, AuditsFloppy, ReadsFloppy}
-use Rattle.jufferdeeg.specs.Programs.{LoadsNumbers, MovesNumbers}
+use Rattle.jufferdeeg.specs.Programs.{checkNumbers, LoadsNumbers, MovesNumbers}
 use Rattle.jufferdeeg.proofs.Seen as seen
 use Rattle.jufferdeeg.proofs.SeenMoving as seen-moving
 
@@ -171,7 +171,7 @@ module _ (d : Disk) (s : List ℕ) where
   compared-most t name p f = counting.first-few d s t name p f
 
   -- the tests of a file's blocks pass if and only if it is whole: as the law says, with all of its blocks
-  pub tested-exactly : (h : ℕ) → (blocksFault d s h ≡ Passed) ↔ outcomes.Whole d s h
+  pub tested-exactly : (h : ℕ) → (blocksFault d s h ≡ Passed) ↔ outcomes.FileWhole d s h
   tested-exactly h = passing.tested-exactly d s h
 
   -- in a tree every reached entry lies below the root by the names of directories; it is found by its path, and a file is read whole
@@ -245,7 +245,7 @@ module _ (file m : List ℕ) (t : List Hunk) (w : List ℕ) (x n : ℕ) (m1 : Li
   move-words = calls.move-words file m t w x n m1 t1 w1
 
   -- outside the targets a load leaves the hunks' bytes, and after them what stood there; a move leaves every byte as it was
-  pub load-others : (bases : List ℕ) → Loads file bases m t w (Accepted x n) m1 t1 w1 → (hs : List paper.Hunk) → paper.Holds file hs → (k : ℕ) → Outside k (fileTargets hs) → getD m1 k 0 ≡ getD (placedHunks hs m) k 0
+  pub load-others : (bases : List ℕ) → Loads file bases m t w (Accepted x n) m1 t1 w1 → (hs : List paper.Hunk) → paper.Holds file hs → (k : ℕ) → Outside k (fileTargets hs) → getD m1 k 0 ≡ getD (withHunks hs m) k 0
   load-others = calls.load-others file m t w x n m1 t1 w1
 
   pub move-others-stay : (old new : List ℕ) → Moves file old new m t w (Accepted x n) m1 t1 w1 → (hs : List paper.Hunk) → paper.Holds file hs → (length m1 ≡ length m) × ((k : ℕ) → Outside k (fileTargets hs) → getD m1 k 0 ≡ getD m k 0)
@@ -342,20 +342,33 @@ module _ (s path : List ℕ) (o : ℕ) (output : List ℕ) (r : ReadNumbers) (ou
   pub read-refused : r .number ≢ 0 → (output′ ≡ output) × (r .count ≡ 0)
   read-refused = seen.read-refused s path o output r output′ a
 
--- the check of a program file, which load and move begin with
-module _ (file : List ℕ) (r : Answer) (a : Checks file r) where
-  -- the number is 0 if and only if the file holds hunks
-  pub check-zero : (numbersOf r .number ≡ 0) ↔ ((hs : List paper.Hunk) × paper.Holds file hs)
+module _ (file : List ℕ) (r : ProgramNumbers) (a : r ≡ checkNumbers file) where
+  -- a check: the number is 0 if and only if the file holds hunks, so many that take so many bytes
+  pub check-zero : (r .number ≡ 0)
+      ↔ ((hs : List paper.Hunk) × paper.Holds file hs × (r .hunks ≡ length hs) × (r .bytes ≡ 4 * paper.total hs))
   check-zero = seen.check-zero file r a
 
-  -- else it is one of these
-  pub check-number : numbersOf r .number ∈ (0 ∷ checkRefusals)
+  -- another number v is given at place k if and only if `Says` holds of them
+  pub check-refused-at : (v k : ℕ) → v ≢ 0
+      → ((r .number ≡ v) × (r .place ≡ k)) ↔ programs.Says file (refusal v k)
+  check-refused-at = seen.check-refused-at file r a
+
+  -- a number other than 0 is one of these; it comes with no hunks and no bytes
+  pub check-number : r .number ∈ (0 ∷ checkRefusals)
   check-number = seen.check-number file r a
+
+  pub check-refused : r .number ≢ 0 → (r .hunks ≡ 0) × (r .bytes ≡ 0)
+  check-refused = seen.check-refused file r a
 
 module _ (file m : List ℕ) (t : List Hunk) (w : List ℕ) (r : ProgramNumbers) (m′ : List ℕ) (t′ : List Hunk) (w′ : List ℕ) where
   -- a load: the number is 0 if and only if the file holds hunks and `Takes` holds of them, with their number and bytes
   pub load-zero : (bases : List ℕ) → LoadsNumbers file bases m t w r m′ t′ w′ → (r .number ≡ 0) ↔ ((hs : List paper.Hunk) × paper.Holds file hs × Takes hs (bases ∷ []) (length m) (length t) (length w) (r .hunks) (r .bytes))
   load-zero = seen.load-zero file m t w r m′ t′ w′
+
+  -- its hunks and bytes are then those that the check gives
+  pub load-checked : (bases : List ℕ) → LoadsNumbers file bases m t w r m′ t′ w′ → r .number ≡ 0
+      → r ≡ checkNumbers file
+  load-checked = seen.load-checked file m t w r m′ t′ w′
 
   -- another number v is given at place k if and only if `CallWhy` holds of them
   pub load-refused-at : (bases : List ℕ) → LoadsNumbers file bases m t w r m′ t′ w′ → (v k : ℕ) → v ≢ 0 → ((r .number ≡ v) × (r .place ≡ k)) ↔ CallWhy file (bases ∷ []) (length m) (length t) (length w) (refusal v k)
@@ -371,6 +384,10 @@ module _ (file m : List ℕ) (t : List Hunk) (w : List ℕ) (r : ProgramNumbers)
   -- a move: likewise
   pub move-zero : (old new : List ℕ) → MovesNumbers file old new m t w r m′ t′ w′ → (r .number ≡ 0) ↔ ((hs : List paper.Hunk) × paper.Holds file hs × Takes hs (old ∷ new ∷ []) (length m) (length t) (length w) (r .hunks) (r .bytes))
   move-zero = seen.move-zero file m t w r m′ t′ w′
+
+  pub move-checked : (old new : List ℕ) → MovesNumbers file old new m t w r m′ t′ w′ → r .number ≡ 0
+      → r ≡ checkNumbers file
+  move-checked = seen.move-checked file m t w r m′ t′ w′
 
   pub move-refused-at : (old new : List ℕ) → MovesNumbers file old new m t w r m′ t′ w′ → (v k : ℕ) → v ≢ 0 → ((r .number ≡ v) × (r .place ≡ k)) ↔ CallWhy file (old ∷ new ∷ []) (length m) (length t) (length w) (refusal v k)
   move-refused-at = seen.move-refused-at file m t w r m′ t′ w′

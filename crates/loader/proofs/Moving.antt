@@ -1,14 +1,14 @@
 -- The laws of moving: a load at A moved to B is a load at B; A to B to C is A to C; A to A changes nothing; A to B to A restores. From accepted
 -- loads it follows that these moves are accepted. Assumes nothing.
-use Prim.Native.Nat.{ℕ, zero, suc, _+_, _*_, _-_, _/_, _%_, _^_, _<_, _≤_}
+use Prim.Native.Nat.{ℕ, _+_, _*_, _-_, _/_, _%_, _^_, _≤_}
 use mathlib.Core.Path.{_≡_, refl, sym, ap, ap₂, _∙_}
 use mathlib.Core.List.{List, [], _∷_, _++_}
 use mathlib.Core.Bool.{Bool, true, false}
 use mathlib.Core.Logic.{_⊎_, inl, inr, ⊎-elim}
 use native.Mathlib.Omega.{arith}
-use lib.Dec.{eqb}
 use lib.ListN.{length, drop, replicate, length-replicate, length-append, length-drop}
 use lib.Seq.{drop-at, length-take-le}
+use Rattle.answers.specs.Numbers as fault
 use Rattle.words.specs.Shift.{Target}
 use Rattle.words.specs.Word.{Bytes}
 use Rattle.words.proofs.Words.{Far}
@@ -16,22 +16,21 @@ use Rattle.words.proofs.Shifts.{FarAll, Apart, Within, length-shiftAll, shiftAl
 use Rattle.answers.specs.Tests.{pick}
 use Rattle.answers.proofs.Tests.{pick-passed}
 use Rattle.answers.specs.Refusals.{refusal}
-use Rattle.answers.specs.declared.Tested.the-variants.{Passed, Failed}
-use Rattle.answers.proofs.Clashes.{impossible}
+use Rattle.answers.specs.declared.Tested.the-variants.{Passed}
 use Rattle.program.specs.declared.check.Answer.{Answer}
 use Rattle.program.specs.declared.check.Answer.the-variants.{Accepted}
 use Rattle.program.specs.Header.{totalOf}
 use Rattle.program.specs.Check.{checkOf}
 use Rattle.program.specs.Acts.{actsOf}
-use Rattle.program.specs.Sane.{Sound}
+use Rattle.program.specs.Cursors.{HeaderFits}
 use Rattle.loader.specs.Memory.{loadedOf, targetsOf, amountOf, bodiesOf, loadOf, moved, moveOf}
 use Rattle.loader.specs.Table.{tableRoom, recordsOf, tableOf}
-use Rattle.loader.specs.Bases.{entryBad, basesFrom, basesFault}
+use Rattle.loader.specs.Bases.{basesFault}
 use Rattle.loader.specs.Near.{near, nearAny, clash, clashOf}
 use Rattle.loader.specs.Calls.{roomFault, loadAnswer, moveAnswer, Loads, Moves}
 use Rattle.loader.specs.Moving.{SameRoom, LoadsAt}
 use Rattle.loader.proofs.Marking.{near-false, no-bool}
-use Rattle.loader.proofs.Inside.{within-targets, within-more, length-listed, length-bodies}
+use Rattle.loader.proofs.Inside.{within-targets, within-more, length-withRecords, length-bodies}
 use Rattle.loader.proofs.BadBases.{low-bases, fault-passed}
 use Rattle.loader.proofs.Answering.{also-so, also-both, LoadFacts, load-facts}
 
@@ -55,15 +54,15 @@ far-all : (q : ℕ) (seen : List ℕ) (ts : List Target) → clash seen ts ≡ P
 unfolding clash
 far-all q seen [] h a = tt
 far-all q seen (t ∷ ts) h a =
-    let p = pick-passed (nearAny (t .place) seen) (refusal 42 (t .byte)) _ h in
-    (far-one (t .place) q seen (p .0) a, far-all q (t .place ∷ seen) ts (p .1) (inr a))
+    let p = pick-passed (nearAny (t .loadedAt) seen) (refusal fault.nearTargets (t .byte)) _ h in
+    (far-one (t .loadedAt) q seen (p .0) a, far-all q (t .loadedAt ∷ seen) ts (p .1) (inr a))
 
 pub apart : (seen : List ℕ) (ts : List Target) → clash seen ts ≡ Passed → Apart ts
 unfolding clash
 apart seen [] h = tt
 apart seen (t ∷ ts) h =
-    let p = pick-passed (nearAny (t .place) seen) (refusal 42 (t .byte)) _ h in
-    (far-all (t .place) (t .place ∷ seen) ts (p .1) (inl refl), apart (t .place ∷ seen) ts (p .1))
+    let p = pick-passed (nearAny (t .loadedAt) seen) (refusal fault.nearTargets (t .byte)) _ h in
+    (far-all (t .loadedAt) (t .loadedAt ∷ seen) ts (p .1) (inl refl), apart (t .loadedAt ∷ seen) ts (p .1))
 
 -- ---- a move between bases at which loads are accepted is accepted
 
@@ -80,8 +79,8 @@ module _ (file A B : List ℕ) (m r w t n u k : ℕ) (a : loadAnswer file A m r 
 -- the answers of two accepted loads of one file are one
 pub one-answer : (file A B : List ℕ) (m r w t n u k : ℕ) → loadAnswer file A m r w ≡ Accepted t n → loadAnswer file B m r w ≡ Accepted u k → Accepted t n ≡ Accepted u k
 one-answer file A B m r w t n u k a b =
-    let f = load-facts file A m r w t n _ refl a .file-good in
-    let g = load-facts file B m r w u k _ refl b .file-good in
+    let f = load-facts file A m r w t n _ refl a .file-accepted in
+    let g = load-facts file B m r w u k _ refl b .file-accepted in
     ap₂ Accepted (f .hunks ∙ sym (g .hunks)) (f .bytes ∙ sym (g .bytes))
 
 -- ---- memory
@@ -102,7 +101,7 @@ two-steps a b c h k =
 abbrev Low : List ℕ → Type 0
 Low l = (k : ℕ) → amountOf l k ≤ 2 ^ 32
 
-module _ (file : List ℕ) (s : Sound file) (c : clashOf file ≡ Passed) (m : List ℕ) (h : loadedOf file ≤ length m) where
+module _ (file : List ℕ) (s : HeaderFits file) (c : clashOf file ≡ Passed) (m : List ℕ) (h : loadedOf file ≤ length m) where
   fits : Within (length m) (targetsOf file)
   fits = within-more (loadedOf file) (length m) (targetsOf file) h (within-targets file s)
 
@@ -122,16 +121,16 @@ memory-stays file A m a b =
 
 -- ---- tables
 
-pub length-records : (file bases : List ℕ) → Sound file → length (recordsOf file bases) ≡ 4 * totalOf file
+pub length-records : (file bases : List ℕ) → HeaderFits file → length (recordsOf file bases) ≡ 4 * totalOf file
 unfolding recordsOf
 length-records file bases s =
-    length-take-le (4 * totalOf file) _ (omega (arith, s .few, length-listed file bases (replicate tableRoom 0) (actsOf file) ∙ length-replicate {A = ℕ} tableRoom 0))
+    length-take-le (4 * totalOf file) _ (omega (arith, s .few, length-withRecords file bases (replicate tableRoom 0) (actsOf file) ∙ length-replicate {A = ℕ} tableRoom 0))
 
 -- the last list of bases decides
-pub table-table : (file A B t : List ℕ) → Sound file → tableOf file B (tableOf file A t) ≡ tableOf file B t
+pub table-table : (file A B t : List ℕ) → HeaderFits file → tableOf file B (tableOf file A t) ≡ tableOf file B t
 table-table file A B t s = ap (λ l. recordsOf file B ++ l) (drop-at (recordsOf file A) (drop (4 * totalOf file) t) (4 * totalOf file) (length-records file A s))
 
-length-table : (file bases t : List ℕ) → Sound file → 4 * totalOf file ≤ length t → length (tableOf file bases t) ≡ length t
+length-table : (file bases t : List ℕ) → HeaderFits file → 4 * totalOf file ≤ length t → length (tableOf file bases t) ≡ length t
 length-table file bases t s h =
     length-append (recordsOf file bases) (drop (4 * totalOf file) t) ∙ omega (arith, length-records file bases s, length-drop (4 * totalOf file) t)
 
@@ -151,8 +150,8 @@ module _ (file m t w : List ℕ) (x n : ℕ) where
     facts : LoadFacts file A (length m) (length t / 4) (length w) x n
     facts = load-facts file A (length m) (length t / 4) (length w) x n _ refl a
 
-    sound : Sound file
-    sound = facts .file-good .sound
+    sound : HeaderFits file
+    sound = facts .file-accepted .header
 
     low : Low A
     low = low-of A x n a

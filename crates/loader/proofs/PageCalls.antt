@@ -20,7 +20,7 @@ numbers file hs x n h c =
 
 page-table : (file : List ℕ) (hs : List Hunk) → Holds file hs → (bases t : List ℕ) → tableOf file bases t ≡ recordNumbers 0 0 hs bases ++ drop (4 * length hs) t
 page-table file hs h bases t =
-    ap₂ (λ (l : List ℕ) (k : ℕ). l ++ drop (4 * k) t) (page-records file hs (h .fits) (h .even) (h .words) bases) (is-total file hs (h .fits) (h .even) (h .words))
+    ap₂ (λ (l : List ℕ) (k : ℕ). l ++ drop (4 * k) t) (page-records file hs (h .fits) (h .whole) (h .words) bases) (is-total file hs (h .fits) (h .whole) (h .words))
 
 module _ (file m t w : List ℕ) (x n : ℕ) (m′ t′ w′ : List ℕ) where
   load-checked : (bases : List ℕ) → Loads file bases m t w (Accepted x n) m′ t′ w′ → checkOf file ≡ Accepted x n
@@ -33,7 +33,7 @@ module _ (file m t w : List ℕ) (x n : ℕ) (m′ t′ w′ : List ℕ) where
       record {
         hunks = k .0;
         bytes = k .1;
-        memory = l .loaded ∙ page-loads file hs (h .fits) (h .even) (h .words) bases m;
+        memory = l .loaded ∙ page-loads file hs (h .fits) (h .whole) (h .words) bases m;
         table = l .recorded ∙ page-table file hs h bases t;
       }
 
@@ -53,7 +53,7 @@ module _ (file m t w : List ℕ) (x n : ℕ) (m′ t′ w′ : List ℕ) where
       record {
         hunks = k .0;
         bytes = k .1;
-        memory = l .shifted ∙ page-moves file hs (h .fits) (h .even) (h .words) old new m;
+        memory = l .shifted ∙ page-moves file hs (h .fits) (h .whole) (h .words) old new m;
         table = l .recorded ∙ page-table file hs h new t;
       }
 

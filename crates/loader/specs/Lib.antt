@@ -16,3 +16,5 @@ pub mod Pages
 pub mod Verdicts
 -- what the laws of moving speak of
 pub mod Moving
+-- what the parts of the code ask and tell each other
+pub mod Parts

@@ -2,11 +2,11 @@
 use Prim.Native.Nat.{ℕ, zero, suc, _+_, _-_, _*_, _/_, _%_, _^_, _<_, _≤_}
 use mathlib.Core.Path.{_≡_}
 use mathlib.Core.Logic.{_⊎_}
-use mathlib.Core.List.{List, [], _∷_, _++_}
+use mathlib.Core.List.{List, [], _∷_, _++_, map}
 use lib.ListN.{length, replicate, take, drop}
 use Rattle.program.specs.Types as type
-use Rattle.words.specs.Word.{wordAt, addAt}
-use Rattle.words.specs.Shift.{Target}
+use Rattle.words.specs.Word.{wordAt}
+use Rattle.words.specs.Shift.{Target, shiftAll}
 use Rattle.program.specs.Page.{Body, Group, Part, Hunk, code, stores, bss, relocation, symbols, debug, joined, nameWords, bodyWords, groupWords, partWords, hunkWords, Each, storedWords, total}
 use Rattle.loader.specs.Memory.{amountOf, moved}
 
@@ -41,14 +41,14 @@ imageOf hs = joined hunkBytes hs
 -- a target: the hunk that it stands in, its first byte in memory, the hunk whose base it gets, and the byte in the file of the offset that names it
 pub record PageTarget : Type 0 where
   pub hunk : ℕ
-  pub place : ℕ
+  pub loadedAt : ℕ
   pub named : ℕ
   pub byte : ℕ
 
 -- of hunk i, which stands at byte p of memory: the targets of offsets that get the base of hunk k; the first offset stands at byte `at` of the file
 abbrev pub offsetsAt : ℕ → ℕ → ℕ → ℕ → List ℕ → List PageTarget
 offsetsAt i p k at [] = []
-offsetsAt i p k at (o ∷ os) = record { hunk = i; place = p + o; named = k; byte = at } ∷ offsetsAt i p k (at + 4) os
+offsetsAt i p k at (o ∷ os) = record { hunk = i; loadedAt = p + o; named = k; byte = at } ∷ offsetsAt i p k (at + 4) os
 
 -- of groups from byte `at` on: in each, the offsets follow two words
 abbrev pub groupsAt : ℕ → ℕ → ℕ → List Group → List PageTarget
@@ -77,7 +77,7 @@ fileTargets hs = hunksAt 0 0 (20 + 4 * length hs) hs
 
 -- the same as three numbers, without the hunk that it stands in
 abbrev pub bare : PageTarget → Target
-bare t = record { place = t .place; key = t .named; byte = t .byte }
+bare t = record { loadedAt = t .loadedAt; key = t .named; byte = t .byte }
 
 -- hunk i's size in words
 abbrev pub sizeAt : List Hunk → ℕ → ℕ
@@ -91,33 +91,32 @@ hunkPlace hs i = 4 * total (take i hs)
 
 -- the file's word at the target's byte is its offset: it is counted from the hunk's first byte, and four bytes from there on lie in the hunk
 pub record Named (file : List ℕ) (hs : List Hunk) (x : PageTarget) : Type 0 where
-  pub place : x .place ≡ hunkPlace hs (x .hunk) + wordAt file (x .byte)
+  pub loadedAt : x .loadedAt ≡ hunkPlace hs (x .hunk) + wordAt file (x .byte)
   pub within : wordAt file (x .byte) + 4 ≤ 4 * sizeAt hs (x .hunk)
 
 -- each target gets its amount, one after the other
-unfoldable pub relocated : List ℕ → List PageTarget → (ℕ → ℕ) → List ℕ
-relocated m [] f = m
-relocated m (t ∷ ts) f = relocated (addAt m (t .place) (f (t .named))) ts f
+abbrev pub relocated : List ℕ → List PageTarget → (ℕ → ℕ) → List ℕ
+relocated m ts f = shiftAll m (map bare ts) f
 
 -- the word at each target in m′ is that in m and the target's amount, modulo 2^32
 abbrev pub Adds : List ℕ → List ℕ → List PageTarget → (ℕ → ℕ) → Type 0
-Adds m m′ ts f = Each (λ t. wordAt m′ (t .place) ≡ (wordAt m (t .place) + f (t .named)) % 2 ^ 32) ts
+Adds m m′ ts f = Each (λ t. wordAt m′ (t .loadedAt) ≡ (wordAt m (t .loadedAt) + f (t .named)) % 2 ^ 32) ts
 
 -- byte k is no byte of a target
 abbrev pub Outside : ℕ → List PageTarget → Type 0
-Outside k ts = Each (λ t. (k < t .place) ⊎ (t .place + 4 ≤ k)) ts
+Outside k ts = Each (λ t. (k < t .loadedAt) ⊎ (t .loadedAt + 4 ≤ k)) ts
 
 -- ---- an accepted call: x hunks, n bytes
 
 -- memory with no amount added yet: the hunks, then what stood there
-abbrev pub placedHunks : List Hunk → List ℕ → List ℕ
-placedHunks hs m = imageOf hs ++ drop (4 * total hs) m
+abbrev pub withHunks : List Hunk → List ℕ → List ℕ
+withHunks hs m = imageOf hs ++ drop (4 * total hs) m
 
 -- a load leaves m′ and t′
 pub record LoadedPage (hs : List Hunk) (bases m t : List ℕ) (x n : ℕ) (m′ t′ : List ℕ) : Type 0 where
   pub hunks : x ≡ length hs
   pub bytes : n ≡ 4 * total hs
-  pub memory : m′ ≡ relocated (placedHunks hs m) (fileTargets hs) (amountOf bases)
+  pub memory : m′ ≡ relocated (withHunks hs m) (fileTargets hs) (amountOf bases)
   pub table : t′ ≡ recordNumbers 0 0 hs bases ++ drop (4 * length hs) t
 
 -- a move leaves m′ and t′

@@ -73,7 +73,7 @@ Short t n memory records work = (memory < n) ⊎ (records < t) ⊎ (work < n)
 
 -- two targets of one hunk, less than 4 bytes apart
 abbrev pub Near : PageTarget → PageTarget → Type 0
-Near x y = (x .hunk ≡ y .hunk) × (x .place < y .place + 4) × (y .place < x .place + 4)
+Near x y = (x .hunk ≡ y .hunk) × (x .loadedAt < y .loadedAt + 4) × (y .loadedAt < x .loadedAt + 4)
 
 -- no target is near another of the list
 abbrev pub Spaced : List PageTarget → Type 0

@@ -30,7 +30,7 @@ use Rattle.reading.specs.FileTests.{blocksFault}
 use Rattle.reading.specs.Bytes.{fileBytes}
 use Rattle.reading.specs.Parts.{Followed, Copied, handed}
 use Rattle.lookup.proofs.find.Found.{the-type}
-use Rattle.reading.specs.Reads.{numbersOf, refuse, lastComponent, readOf, leaves, Reads}
+use Rattle.reading.specs.Reads.{numbersOf, refuse, lastComponent, readOf, outputAfter, Reads}
 use Rattle.reading.proofs.Tested.{tested-whole}
 
 -- ---- the last component
@@ -108,7 +108,7 @@ followed d s k t e q =
 
 module _ (d : Disk) (s path : List ℕ) (o : ℕ) (output : List ℕ) (f : Found) (e : f ≡ findOf d s path) where
   -- the answer's numbers are those of the answer
-  promised : (r : Reading) (output′ : List ℕ) → r ≡ readOf d s path o (length output) → output′ ≡ leaves d s path o output r → Reads d s path o output r output′
+  promised : (r : Reading) (output′ : List ℕ) → r ≡ readOf d s path o (length output) → output′ ≡ outputAfter d s path o output r → Reads d s path o output r output′
   promised r output′ a l = record { answer = a; numbers = ap numbersOf a; left = l }
 
   -- what is found is a file with a key in the volume
@@ -147,7 +147,7 @@ module _ (d : Disk) (s path : List ℕ) (o : ℕ) (output : List ℕ) (f : Found
 pub read-determined : (d : Disk) (s path : List ℕ) (o : ℕ) (output : List ℕ) (r r′ : Reading) (a a′ : List ℕ) → Reads d s path o output r a → Reads d s path o output r′ a′ → (numbersOf r ≡ numbersOf r′) × (r ≡ r′) × (a ≡ a′)
 read-determined d s path o output r r′ a a′ h h′ =
     let e = h .answer ∙ sym (h′ .answer) in
-    (ap numbersOf e, e, h .left ∙ ap (leaves d s path o output) e ∙ sym (h′ .left))
+    (ap numbersOf e, e, h .left ∙ ap (outputAfter d s path o output) e ∙ sym (h′ .left))
 
 -- a directory is no file
 pub handed-directory : (path : List ℕ) (f : Found) (n : ℕ) → OneOf (0 ∷ 1 ∷ []) (tagOf the-type f) → n ≡ lastComponent path → refuse 20 n ≡ handed path f

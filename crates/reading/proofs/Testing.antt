@@ -21,10 +21,10 @@ use Rattle.volume.specs.Files.{dataBlocks, sizeOf, blocksOf, keysHere, listBloc
 use Rattle.volume.specs.Rules.{fileFault, listFault, dataFault}
 use Rattle.volume.proofs.Sizes.{range-is}
 use Rattle.volume.proofs.Passes.{list-passed}
-use Rattle.walk.specs.declared.Lister.{Lister}
+use Rattle.walk.specs.declared.KeyBlock.{KeyBlock}
 use Rattle.walk.specs.Nodes.{Node, list, datum, keyNodes, keyOf, keyFault, faultOf}
-use Rattle.walk.specs.Listings.{Listing}
-use Rattle.walk.proofs.Links.{is-listed}
+use Rattle.walk.specs.KeyBlocks.{KeysReady}
+use Rattle.walk.proofs.Links.{is-known}
 use Rattle.walk.proofs.Loops.{nodes, next, Turn, turn-few, turn-next, turn-again, turn-all, headerOf, Link, link-start, link-none, link-more, link-last, link-again}
 use Rattle.reading.specs.FileTests.{nodeFault, firstFault, blocksFrom, fileNodes, blocksFault}
 use Rattle.reading.specs.Parts.{KeysTested, ListTested}
@@ -91,7 +91,7 @@ module _ (d : Disk) (s : List ℕ) where
 
 -- ---- the data blocks that one block lists
 
-module _ (d : Disk) (s : List ℕ) (b : Lister) where
+module _ (d : Disk) (s : List ℕ) (b : KeyBlock) where
   pub record KeysInv (count last i : ℕ) : Type 0 where
     pub turn : Turn d s b count last i
     pub tested : firstFault d s (nodes d s b 0 count) ≡ firstFault d s (nodes d s b i (count - i))
@@ -102,7 +102,7 @@ module _ (d : Disk) (s : List ℕ) (b : Lister) where
   module _ (count last i : ℕ) (v : KeysInv count last i) where
     pub keys-asks : Sized d → length s ≡ imageBytes d → i < count → (n : ℕ) → n ≡ b .done + i + 1
         → (Sized d) × (length s ≡ imageBytes d) × (b .header < d .blocks) × (last < d .blocks) × (sizeOf s (b .header) ≤ fileLimit d) × (1 ≤ n) × (n ≤ blocksOf d s (b .header))
-    keys-asks y l h n e = (y, l, v .turn .lister .header, v .turn .inside, v .turn .lister .size, omega arith, rw e (turn-few d s b count last i (v .turn) h y .1))
+    keys-asks y l h n e = (y, l, v .turn .ready .header, v .turn .inside, v .turn .ready .size, omega arith, rw e (turn-few d s b count last i (v .turn) h y .1))
 
     module _ (k f : ℕ) (h : i < count) (e : k ≡ keyWord s (b .key) i) (g : f ≡ nodeFault d s (datum k (b .header) (b .done + i + 1) last)) where
       abbrev fault : f ≡ nodeFault d s (next d s b i last)
@@ -133,7 +133,7 @@ module _ (d : Disk) (s : List ℕ) (b : Lister) where
 
 -- ---- a list block and its data blocks
 
-module _ (d : Disk) (s : List ℕ) (b : Lister) (f : ℕ) (g : f ≡ nodeFault d s (list (b .key) (b .header) (b .done) (b .last))) where
+module _ (d : Disk) (s : List ℕ) (b : KeyBlock) (f : ℕ) (g : f ≡ nodeFault d s (list (b .key) (b .header) (b .done) (b .last))) where
   pub list-stops : (r : Tested) → (f ≡ 0 → ⊥) → r ≡ Failed (refusal f (b .key)) → ListTested d s b r
   list-stops r t q = record { told = q ∙ fault-stops d s _ _ f g t; known = λ p. impossible cc }
 
@@ -141,7 +141,7 @@ module _ (d : Disk) (s : List ℕ) (b : Lister) (f : ℕ) (g : f ≡ nodeFault d
     key-inside : b .key < d .blocks
     key-inside = node-inside d s (list (b .key) (b .header) (b .done) (b .last)) (sym g ∙ z)
 
-    pub list-asks : b .header < d .blocks → b .last < d .blocks → sizeOf s (b .header) ≤ fileLimit d → b .done ≤ blocksOf d s (b .header) → Listing d s b
+    pub list-asks : b .header < d .blocks → b .last < d .blocks → sizeOf s (b .header) ≤ fileLimit d → b .done ≤ blocksOf d s (b .header) → KeysReady d s b
     list-asks h l u o = record { size = u; header = h; key = key-inside; last = l; done = o }
 
     pub list-goes : (r : Tested) → KeysTested d s b r → ListTested d s b r
@@ -149,7 +149,7 @@ module _ (d : Disk) (s : List ℕ) (b : Lister) (f : ℕ) (g : f ≡ nodeFault d
     list-goes r k =
         record {
           told = k .told ∙ sym (fault-goes d s (list (b .key) (b .header) (b .done) (b .last)) _ f g z);
-          known = λ p. is-listed d s (b .header) (b .key) (b .done) (b .last) (list-passed s (b .key) (b .header) _ (first-zero (keyFault d (b .key)) _ (sym g ∙ z) .1) .2) key-inside (k .keys p);
+          known = λ p. is-known d s (b .header) (b .key) (b .done) (b .last) (list-passed s (b .key) (b .header) _ (first-zero (keyFault d (b .key)) _ (sym g ∙ z) .1) .2) key-inside (k .keys p);
         }
 
 -- ---- a file
@@ -168,9 +168,9 @@ module _ (d : Disk) (s : List ℕ) (h : ℕ) where
   abbrev left : ℕ → ℕ → List Node
   left b m = behind b m (listBlocks (blocksOf d s h - m))
 
-  pub record BlocksInv (lister done next : ℕ) : Type 0 where
-    pub link : Link d s h lister done next
-    pub tested : firstFault d s (fileNodes d s h) ≡ firstFault d s (left lister done)
+  pub record BlocksInv (keyBlock done next : ℕ) : Type 0 where
+    pub link : Link d s h keyBlock done next
+    pub tested : firstFault d s (fileNodes d s h) ≡ firstFault d s (left keyBlock done)
 
   module _ (e : fileFault d s h ≡ 0) (t : Tested) (k : KeysTested d s (headerOf h) t) where
     first-part : firstFault d s (fileNodes d s h) ≡ and t (firstFault d s (left h 0))
@@ -185,27 +185,27 @@ module _ (d : Disk) (s : List ℕ) (h : ℕ) where
     pub blocks-start : (y : ℕ) → h < d .blocks → t ≡ Passed → y ≡ wordOf s h 126 → BlocksInv h 0 y
     blocks-start y l q f = record { link = link-start d s h y e l (k .keys q) f; tested = first-part ∙ rw q refl }
 
-  module _ (lister done next : ℕ) (v : BlocksInv lister done next) where
+  module _ (keyBlock done next : ℕ) (v : BlocksInv keyBlock done next) where
     pub blocks-end : next ≡ 0 → Passed ≡ firstFault d s (fileNodes d s h)
     unfolding firstFault
     blocks-end z =
-        let l = link-none d s h lister done next (v .link) z in
+        let l = link-none d s h keyBlock done next (v .link) z in
         let q : listBlocks (blocksOf d s h - done) ≡ 0 = omega arith in
         sym (rw q at (v .tested))
 
-    module _ (t : next ≡ 0 → ⊥) (l : ℕ) (g : l ≡ keyWord s lister 71) where
-      abbrev block : Lister
+    module _ (t : next ≡ 0 → ⊥) (l : ℕ) (g : l ≡ keyWord s keyBlock 71) where
+      abbrev block : KeyBlock
       block = record { header = h; key = next; done = done + slots; last = l }
 
       pub blocks-asks : Sized d → length s ≡ imageBytes d
           → (Sized d) × (length s ≡ imageBytes d) × (h < d .blocks) × (l < d .blocks) × (sizeOf s h ≤ fileLimit d) × (done + slots ≤ blocksOf d s h)
-      blocks-asks y i = (y, i, v .link .inside, link-last d s h lister done next (v .link) t l g, v .link .size, omega (arith, link-more d s h lister done next (v .link) t))
+      blocks-asks y i = (y, i, v .link .inside, link-last d s h keyBlock done next (v .link) t l g, v .link .size, omega (arith, link-more d s h keyBlock done next (v .link) t))
 
       next-part : (u : Tested) → ListTested d s block u → firstFault d s (fileNodes d s h) ≡ and u (firstFault d s (left next (done + slots)))
       next-part u w =
-          let m = link-more d s h lister done next (v .link) t in
+          let m = link-more d s h keyBlock done next (v .link) t in
           let q : listBlocks (blocksOf d s h - done) ≡ suc (listBlocks (blocksOf d s h - (done + slots))) = omega arith in
-          v .tested ∙ ap (λ (j : ℕ). firstFault d s (behind lister done j)) q
+          v .tested ∙ ap (λ (j : ℕ). firstFault d s (behind keyBlock done j)) q
           ∙ rw (← v .link .word, ← g) (ap (λ (x : List Node). firstFault d s (list next h (done + slots) l ∷ x)) (keys-then next (done + slots) l _) ∙ fault-append d s (list next h (done + slots) l ∷ keyNodes s h next (done + slots) l 0 (keysHere (blocksOf d s h - (done + slots)))) _)
           ∙ ap (λ (x : Tested). and x (firstFault d s (left next (done + slots)))) (sym (w .told))
 
@@ -213,7 +213,7 @@ module _ (d : Disk) (s : List ℕ) (h : ℕ) where
       blocks-out u x w q = q ∙ sym (next-part u w ∙ rw q refl)
 
       pub blocks-again : (u : Tested) (y : ℕ) → ListTested d s block u → u ≡ Passed → y ≡ wordOf s next 126 → BlocksInv next (done + slots) y
-      blocks-again u y w q f = record { link = link-again d s h lister done next (v .link) t y (w .known q) f; tested = next-part u w ∙ rw q refl }
+      blocks-again u y w q f = record { link = link-again d s h keyBlock done next (v .link) t y (w .known q) f; tested = next-part u w ∙ rw q refl }
 
 -- ---- the header's own tests first
 

@@ -10,7 +10,7 @@ use volume::file::file_fault;
 use volume::file::key_of;
 use volume::file::keys_here;
 use volume::file::list_fault;
-use walk::Lister;
+use walk::KeyBlock;
 ghost use mathlib.Core.Path.{_≡_};
 ghost use Prim.Native.Nat.{_+_, _≤_, _<_};
 ghost use lib.ListN.{length};
@@ -18,7 +18,7 @@ ghost use Rattle.answers.specs.Refusals.{refusal};
 ghost use Rattle.volume.specs.Disks.{Sized, imageBytes, fileLimit};
 ghost use Rattle.volume.specs.Files.{sizeOf, blocksOf};
 ghost use Rattle.walk.specs.Nodes.{list, datum};
-ghost use Rattle.walk.specs.Listings.{Listing};
+ghost use Rattle.walk.specs.KeyBlocks.{KeysReady};
 ghost use Rattle.volume.specs.Rules.{fileFault};
 ghost use Rattle.reading.specs.FileTests.{nodeFault, firstFault, fileNodes, blocksFault};
 ghost use Rattle.reading.specs.Parts.{KeysTested, ListTested};
@@ -46,8 +46,8 @@ fn test_data(disk: Disk, image: &[u8], key: u32, header: u32, n: u32, last: u32)
 }
 
 // The data blocks that one block lists.
-fn test_keys(disk: Disk, image: &[u8], b: Lister) -> Tested
-    requires { ⌜ (Sized disk) × (length (now image) ≡ imageBytes disk) × (Listing disk (now image) b) ⌝ }
+fn test_keys(disk: Disk, image: &[u8], b: KeyBlock) -> Tested
+    requires { ⌜ (Sized disk) × (length (now image) ≡ imageBytes disk) × (KeysReady disk (now image) b) ⌝ }
     ensures { λ r. ⌜ KeysTested disk (now (image .entry)) b r ⌝ }
 {
     let size = word_of(image, b.header, Block::SIZE);
@@ -67,7 +67,7 @@ fn test_keys(disk: Disk, image: &[u8], b: Lister) -> Tested
 }
 
 // A list block.
-fn test_list(disk: Disk, image: &[u8], b: Lister) -> u32
+fn test_list(disk: Disk, image: &[u8], b: KeyBlock) -> u32
     requires { ⌜ (Sized disk) × (length (now image) ≡ imageBytes disk) × (b .header < disk .blocks) × (sizeOf (now image) (b .header) ≤ fileLimit disk) × (b .done ≤ blocksOf disk (now image) (b .header)) ⌝ }
     ensures { λ r. ⌜ r ≡ nodeFault disk (now (image .entry)) (list (b .key) (b .header) (b .done) (b .last)) ⌝ }
 {
@@ -79,7 +79,7 @@ fn test_list(disk: Disk, image: &[u8], b: Lister) -> u32
 }
 
 // A list block and what it lists.
-fn test_listed(disk: Disk, image: &[u8], b: Lister) -> Tested
+fn test_listed(disk: Disk, image: &[u8], b: KeyBlock) -> Tested
     requires { ⌜ (Sized disk) × (length (now image) ≡ imageBytes disk) × (b .header < disk .blocks) × (b .last < disk .blocks) × (sizeOf (now image) (b .header) ≤ fileLimit disk) × (b .done ≤ blocksOf disk (now image) (b .header)) ⌝ }
     ensures { λ r. ⌜ ListTested disk (now (image .entry)) b r ⌝ }
 {
@@ -95,7 +95,7 @@ fn test_blocks(disk: Disk, image: &[u8], header: u32) -> Tested
     requires { ⌜ (Sized disk) × (length (now image) ≡ imageBytes disk) × (header < disk .blocks) × (fileFault disk (now image) header ≡ 0) ⌝ }
     ensures { λ r. ⌜ r ≡ firstFault disk (now (image .entry)) (fileNodes disk (now (image .entry)) header) ⌝ }
 {
-    let first = Lister {
+    let first = KeyBlock {
         header: header,
         key: header,
         done: 0,
@@ -105,23 +105,23 @@ fn test_blocks(disk: Disk, image: &[u8], header: u32) -> Tested
     let Tested::Passed = t else {
         return t;
     };
-    let mut lister = header;
+    let mut key_block = header;
     let mut done: u32 = 0;
     let mut next = word_of(image, header, Block::LIST);
     while next != 0 {
-        let b = Lister {
+        let b = KeyBlock {
             header: header,
             key: next,
             done: done + Block::SLOTS as u32,
-            last: key_of(image, lister, Block::SLOTS - 1),
+            last: key_of(image, key_block, Block::SLOTS - 1),
         };
         let u = test_listed(disk, image, b);
         let Tested::Passed = u else {
             return u;
         };
-        lister = next;
+        key_block = next;
         done += Block::SLOTS as u32;
-        next = word_of(image, lister, Block::LIST);
+        next = word_of(image, key_block, Block::LIST);
     }
     Tested::Passed
 }

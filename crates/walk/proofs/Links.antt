@@ -8,12 +8,12 @@ use native.Mathlib.Decide.{decLt}
 use Rattle.volume.specs.declared.disk.Disk.{Disk}
 use Rattle.volume.specs.Blocks.{slots, wordOf, keyWord}
 use Rattle.volume.specs.Files.{blocksOf, keysHere}
-use Rattle.volume.specs.Law.{Lists}
-use Rattle.walk.specs.Nodes.{before, listing}
-use Rattle.walk.specs.Listings.{nextList, Listed}
+use Rattle.volume.specs.Law.{KeyCount}
+use Rattle.walk.specs.Nodes.{before, listLink}
+use Rattle.walk.specs.KeyBlocks.{nextList, KeysKnown}
 
 -- it is there only where keys are left
-pub some-more : (s : List ℕ) (k n : ℕ) → Lists s k n → wordOf s k 126 ≢ 0 → slots < n
+pub some-more : (s : List ℕ) (k n : ℕ) → KeyCount s k n → wordOf s k 126 ≢ 0 → slots < n
 some-more s k n l h = go (decLt slots n)
   where
     go : Dec (slots < n) → slots < n
@@ -21,10 +21,10 @@ some-more s k n l h = go (decLt slots n)
     go (no p) = absurd (h (l .more .1 (omega arith)))
 
 module _ (d : Disk) (s : List ℕ) (h k m c : ℕ) where
-  pub linked-next : Lists s k (blocksOf d s h - m) → listing (wordOf s k 126) h (m + keysHere (blocksOf d s h - m)) (before s k c (keysHere (blocksOf d s h - m))) ≡ nextList s h k m
+  pub linked-next : KeyCount s k (blocksOf d s h - m) → listLink (wordOf s k 126) h (m + keysHere (blocksOf d s h - m)) (before s k c (keysHere (blocksOf d s h - m))) ≡ nextList s h k m
   linked-next l = go (wordOf s k 126) refl
     where
-      go : (w : ℕ) → wordOf s k 126 ≡ w → listing w h (m + keysHere (blocksOf d s h - m)) (before s k c (keysHere (blocksOf d s h - m))) ≡ listing w h (m + slots) (keyWord s k 71)
+      go : (w : ℕ) → wordOf s k 126 ≡ w → listLink w h (m + keysHere (blocksOf d s h - m)) (before s k c (keysHere (blocksOf d s h - m))) ≡ listLink w h (m + slots) (keyWord s k 71)
       go zero e = refl
       go (suc w) e =
           let g = some-more s k (blocksOf d s h - m) l (λ z. absurd (omega (arith, e, z))) in
@@ -32,8 +32,8 @@ module _ (d : Disk) (s : List ℕ) (h k m c : ℕ) where
           rw f refl
 
   -- what is known of a block that lists keys, once they are walked
-  pub is-listed : Lists s k (blocksOf d s h - m) → k < d .blocks → ((i : ℕ) → i < keysHere (blocksOf d s h - m) → keyWord s k i < d .blocks) → Listed d s h k m
-  is-listed l i f =
+  pub is-known : KeyCount s k (blocksOf d s h - m) → k < d .blocks → ((i : ℕ) → i < keysHere (blocksOf d s h - m) → keyWord s k i < d .blocks) → KeysKnown d s h k m
+  is-known l i f =
       record {
         key = i;
         more = λ z. omega (arith, some-more s k (blocksOf d s h - m) l z);

@@ -11,14 +11,14 @@ use Rattle.volume.specs.declared.disk.Disk.{Disk}
 use Rattle.volume.specs.Disks.{Sized, mostBlocks, imageBytes, fileLimit}
 use Rattle.volume.specs.Blocks.{slots, Holds, wordOf, keyWord}
 use Rattle.volume.specs.Files.{dataBlocks, sizeOf, blocksOf, keysHere}
-use Rattle.volume.specs.Law.{Lists}
+use Rattle.volume.specs.Law.{KeyCount}
 use Rattle.volume.specs.Rules.{fileFault}
 use Rattle.volume.proofs.Sizes.{blocks-most}
 use Rattle.volume.proofs.Passes.{file-passed}
-use Rattle.walk.specs.declared.Lister.{Lister}
-use Rattle.walk.specs.Nodes.{Node, datum, before, keyNodes, listing}
-use Rattle.walk.specs.Listings.{Listing, keysIn, nextList, Listed}
-use Rattle.walk.proofs.Links.{linked-next, is-listed}
+use Rattle.walk.specs.declared.KeyBlock.{KeyBlock}
+use Rattle.walk.specs.Nodes.{Node, datum, before, keyNodes, listLink}
+use Rattle.walk.specs.KeyBlocks.{KeysReady, keysIn, nextList, KeysKnown}
+use Rattle.walk.proofs.Links.{linked-next, is-known}
 
 -- ---- what callees ask
 
@@ -37,7 +37,7 @@ module _ (d : Disk) (s : List ℕ) (h z : ℕ) (e : z ≡ sizeOf s h) where
 
 -- ---- the keys of a block
 
-module _ (d : Disk) (s : List ℕ) (b : Lister) where
+module _ (d : Disk) (s : List ℕ) (b : KeyBlock) where
   -- its data blocks from key i on, and the next of them
   abbrev pub nodes : ℕ → ℕ → List Node
   nodes i n = keyNodes s (b .header) (b .key) (b .done) (b .last) i n
@@ -47,27 +47,27 @@ module _ (d : Disk) (s : List ℕ) (b : Lister) where
 
   -- of `count` keys, i are done, `last` the latest
   pub record Turn (count last i : ℕ) : Type 0 where
-    pub lister : Listing d s b
+    pub ready : KeysReady d s b
     pub counted : count ≡ keysIn d s b
     pub upto : i ≤ count
     pub behind : last ≡ before s (b .key) (b .last) i
     pub inside : last < d .blocks
     pub keys : (q : ℕ) → q < i → keyWord s (b .key) q < d .blocks
 
-  pub turn-start : (z n count : ℕ) → Listing d s b → z ≡ sizeOf s (b .header) → n ≡ dataBlocks d z → count ≡ keysHere (n - b .done) → Turn count (b .last) 0
+  pub turn-start : (z n count : ℕ) → KeysReady d s b → z ≡ sizeOf s (b .header) → n ≡ dataBlocks d z → count ≡ keysHere (n - b .done) → Turn count (b .last) 0
   turn-start z n count l e f g =
-      record { lister = l; counted = g ∙ rw (f, e) refl; upto = omega arith; behind = refl; inside = l .last; keys = λ q h. absurd (omega arith) }
+      record { ready = l; counted = g ∙ rw (f, e) refl; upto = omega arith; behind = refl; inside = l .last; keys = λ q h. absurd (omega arith) }
 
   module _ (count last i : ℕ) (v : Turn count last i) where
     module _ (h : i < count) where
       pub turn-few : Sized d → (i < slots) × (b .done + i + 1 ≤ blocksOf d s (b .header)) × (b .done + i + 1 ≤ mostBlocks)
       turn-few y =
-          let m = blocks-most d (sizeOf s (b .header)) (v .lister .size) in
+          let m = blocks-most d (sizeOf s (b .header)) (v .ready .size) in
           let e = v .counted in
-          (omega arith, omega (arith, v .lister .done), omega (arith, v .lister .done, y .most))
+          (omega arith, omega (arith, v .ready .done), omega (arith, v .ready .done, y .most))
 
       pub turn-key : Sized d → length s ≡ imageBytes d → (i < slots) × Holds s (b .key)
-      turn-key y l = (turn-few y .0, in-image d s (b .key) l (v .lister .key))
+      turn-key y l = (turn-few y .0, in-image d s (b .key) l (v .ready .key))
 
       pub turn-next : nodes i (count - i) ≡ next i last ∷ nodes (i + 1) (count - (i + 1))
       unfolding keyNodes
@@ -78,7 +78,7 @@ module _ (d : Disk) (s : List ℕ) (b : Lister) where
 
       pub turn-again : (k : ℕ) → k ≡ keyWord s (b .key) i → k < d .blocks → Turn count k (i + 1)
       turn-again k e l =
-          record { lister = v .lister; counted = v .counted; upto = omega arith; behind = rw (add-one i) e; inside = l; keys = λ x p. go x p (decLt x i) }
+          record { ready = v .ready; counted = v .counted; upto = omega arith; behind = rw (add-one i) e; inside = l; keys = λ x p. go x p (decLt x i) }
         where
           go : (x : ℕ) → x < i + 1 → Dec (x < i) → keyWord s (b .key) x < d .blocks
           go x p (yes y) = v .keys x y
@@ -89,31 +89,31 @@ module _ (d : Disk) (s : List ℕ) (b : Lister) where
 
 -- ---- the list blocks of a file
 
-abbrev pub headerOf : ℕ → Lister
+abbrev pub headerOf : ℕ → KeyBlock
 headerOf h = record { header = h; key = h; done = 0; last = h }
 
 module _ (d : Disk) (s : List ℕ) (h : ℕ) where
-  pub header-lists : h < d .blocks → fileFault d s h ≡ 0 → Listing d s (headerOf h)
+  pub header-lists : h < d .blocks → fileFault d s h ≡ 0 → KeysReady d s (headerOf h)
   header-lists l e = record { size = file-passed d s h e .0; header = l; key = l; last = l; done = omega arith }
 
-  header-counts : fileFault d s h ≡ 0 → Lists s h (blocksOf d s h - 0)
+  header-counts : fileFault d s h ≡ 0 → KeyCount s h (blocksOf d s h - 0)
   header-counts e = let y : blocksOf d s h - 0 ≡ blocksOf d s h = omega arith in rw y (file-passed d s h e .1)
 
   -- what the header leads to after its data blocks
-  pub header-next : fileFault d s h ≡ 0 → listing (wordOf s h 126) h (0 + keysHere (blocksOf d s h - 0)) (before s h h (keysHere (blocksOf d s h - 0))) ≡ nextList s h h 0
+  pub header-next : fileFault d s h ≡ 0 → listLink (wordOf s h 126) h (0 + keysHere (blocksOf d s h - 0)) (before s h h (keysHere (blocksOf d s h - 0))) ≡ nextList s h h 0
   header-next e = linked-next d s h h 0 h (header-counts e)
 
-  -- `lister` is done, with `done` data blocks before its own, and its link is `next`
-  pub record Link (lister done next : ℕ) : Type 0 where
+  -- `keyBlock` is done, with `done` data blocks before its own, and its link is `next`
+  pub record Link (keyBlock done next : ℕ) : Type 0 where
     pub size : sizeOf s h ≤ fileLimit d
     pub inside : h < d .blocks
-    pub word : next ≡ wordOf s lister 126
-    pub known : Listed d s h lister done
+    pub word : next ≡ wordOf s keyBlock 126
+    pub known : KeysKnown d s h keyBlock done
 
   pub link-start : (x : ℕ) → fileFault d s h ≡ 0 → h < d .blocks → ((i : ℕ) → i < keysIn d s (headerOf h) → keyWord s h i < d .blocks) → x ≡ wordOf s h 126 → Link h 0 x
-  link-start x e l k f = record { size = file-passed d s h e .0; inside = l; word = f; known = is-listed d s h h 0 h (header-counts e) l k }
+  link-start x e l k f = record { size = file-passed d s h e .0; inside = l; word = f; known = is-known d s h h 0 h (header-counts e) l k }
 
-  module _ (lister done next : ℕ) (v : Link lister done next) where
+  module _ (keyBlock done next : ℕ) (v : Link keyBlock done next) where
     pub link-none : next ≡ 0 → blocksOf d s h ≤ done + slots
     link-none z = v .known .ends (sym (v .word) ∙ z)
 
@@ -124,8 +124,8 @@ module _ (d : Disk) (s : List ℕ) (h : ℕ) where
       pub link-few : Sized d → done + slots ≤ mostBlocks
       link-few y = omega (arith, link-more, blocks-most d (sizeOf s h) (v .size), y .most)
 
-      pub link-last : (l : ℕ) → l ≡ keyWord s lister 71 → l < d .blocks
+      pub link-last : (l : ℕ) → l ≡ keyWord s keyBlock 71 → l < d .blocks
       link-last l g = rw g (v .known .last (λ z. t (v .word ∙ z)))
 
-      pub link-again : (x : ℕ) → Listed d s h next (done + slots) → x ≡ wordOf s next 126 → Link next (done + slots) x
+      pub link-again : (x : ℕ) → KeysKnown d s h next (done + slots) → x ≡ wordOf s next 126 → Link next (done + slots) x
       link-again x k f = record { size = v .size; inside = v .inside; word = f; known = k }

@@ -10,7 +10,7 @@ pub struct Counts {
 }
 
 // A block that lists data blocks of a file: the header, or a list block.
-pub struct Lister {
+pub struct KeyBlock {
     pub header: u32,
     pub key: u32,
     // How many data blocks come before its own, and the last of them, or the header.

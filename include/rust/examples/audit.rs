@@ -1,12 +1,13 @@
-//! Audits an image: cargo run --example audit IMAGE
-use jufferdeeg::{audit, CLAIM_BYTES};
+//! Audits an image: is it a sound volume?
+use std::process::ExitCode;
 
-fn main() -> std::io::Result<()> {
-    let path = std::env::args_os().nth(1).expect("an IMAGE is needed");
-    let a = audit(&std::fs::read(path)?, &mut [0; CLAIM_BYTES]);
-    match a.number {
-        0 => println!("a volume: {} directories, {} files, {} blocks free", a.directories, a.files, a.free),
-        number => println!("refused {number} at {}", a.place),
+fn main() -> std::io::Result<ExitCode> {
+    let image = std::fs::read(std::env::args_os().nth(1).unwrap_or_default())?;
+    let a = jufferdeeg::audit(&image, &mut [0; jufferdeeg::CLAIM_BYTES]);
+    if a.number == 0 {
+        println!("a volume: {} directories, {} files, {} blocks free", a.directories, a.files, a.free);
+        return Ok(ExitCode::SUCCESS);
     }
-    Ok(())
+    println!("refused: number {}, place {}", a.number, a.place);
+    Ok(ExitCode::FAILURE)
 }

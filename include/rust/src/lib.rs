@@ -1,5 +1,5 @@
-//! Audits images of 880 KB floppies of the old file system, finds and reads their files, loads program files into
-//! memory and moves loaded programs to other addresses.
+//! Audits images of 880 KB floppies of the old file system, finds and reads their files, checks program files,
+//! loads them into memory and moves loaded programs to other addresses.
 //!
 //! These are the calls of `include/jufferdeeg.h` as safe functions: a slice is just what they ask for. Whatever its
 //! bytes, every call ends and stays inside what it is lent. The header says what each call is lent, what it leaves and
@@ -21,6 +21,8 @@ pub const IMAGE_BYTES: usize = 901_120;
 pub const CLAIM_BYTES: usize = 1_760;
 /// The most hunks of a program: a table of so many records is never short.
 pub const MOST_HUNKS: usize = 64;
+/// The most bytes of a loaded program: memory and a work area of so many are never short.
+pub const MOST_BYTES: usize = 16_777_216;
 
 /// `kind` of [`FindNumbers`] for a directory.
 pub const DIRECTORY: u32 = 2;
@@ -142,7 +144,7 @@ pub struct Hunk {
     pub base: u32,
 }
 
-/// The answer of [`load`] and [`move_program`].
+/// The answer of [`check`], [`load`] and [`move_program`].
 #[repr(C)]
 #[derive(Clone, Copy, Debug, Default, PartialEq, Eq)]
 pub struct ProgramNumbers {
@@ -163,6 +165,7 @@ mod c {
             path: *const u8, path_bytes: usize) -> FindNumbers;
         pub fn jufferdeeg_read(image: *const u8, image_bytes: usize, path: *const u8, path_bytes: usize, offset: usize,
             output: *mut u8, output_bytes: usize) -> ReadNumbers;
+        pub fn jufferdeeg_check(file: *const u8, file_bytes: usize) -> ProgramNumbers;
         pub fn jufferdeeg_load(file: *const u8, file_bytes: usize, bases: *const u32, bases_count: usize,
             memory: *mut u8, memory_bytes: usize, table: *mut Hunk, table_records: usize,
             work: *mut u8, work_bytes: usize) -> ProgramNumbers;
@@ -175,7 +178,7 @@ mod c {
 // Each call is safe: a slice's pointer is not null and is aligned, its length is right, and what is lent to be written
 // overlaps nothing.
 
-/// Audits an image.
+/// Audits an image. Deep directories take stack: 0.9 MB for the deepest volume that there can be.
 pub fn audit(image: &[u8], claim: &mut [u8]) -> AuditNumbers {
     unsafe { c::jufferdeeg_audit(image.as_ptr(), image.len(), claim.as_mut_ptr(), claim.len()) }
 }
@@ -189,6 +192,11 @@ pub fn find(image: &[u8], path: &[u8]) -> FindNumbers {
 pub fn read(image: &[u8], path: &[u8], offset: usize, output: &mut [u8]) -> ReadNumbers {
     let (room, bytes) = (output.as_mut_ptr(), output.len());
     unsafe { c::jufferdeeg_read(image.as_ptr(), image.len(), path.as_ptr(), path.len(), offset, room, bytes) }
+}
+
+/// Checks a program file: its hunks, and the bytes that a load needs for them.
+pub fn check(file: &[u8]) -> ProgramNumbers {
+    unsafe { c::jufferdeeg_check(file.as_ptr(), file.len()) }
 }
 
 /// Loads a program file for the given bases.

@@ -7,10 +7,10 @@ use Rattle.audit.proofs.bitmap.check_bits.Statement.{statement}
 use Rattle.audit.proofs.bitmap.check_bits.Tie as tie
 
 abbrev Inv-loop : tie.InvT-loop
-Inv-loop disk image page claim free₀ key₀ free key = BitsInv disk image page claim free key
+Inv-loop disk image bitmap claim free₀ key₀ free key = BitsInv disk image bitmap claim free key
 
 abbrev μ-loop : tie.MeasureT-loop
-μ-loop disk image page claim free₀ key₀ free key = disk .blocks - key
+μ-loop disk image bitmap claim free₀ key₀ free key = disk .blocks - key
 
 loop-holds : tie.Need-loop-holds Inv-loop μ-loop
 loop-holds c = bits-start _ _ _ _ (c .before .before .pre .0)

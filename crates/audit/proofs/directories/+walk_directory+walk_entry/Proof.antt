@@ -10,7 +10,7 @@ use borrow.Fn.PlainCycle.{Measures, is, falls, and}
 use Rattle.reach.specs.Walk.{free}
 use Rattle.volume.specs.Blocks.{slots}
 use Rattle.audit.proofs.Walking.{ready-most}
-use Rattle.audit.proofs.Listings.{ready-holds}
+use Rattle.audit.proofs.KeyBlocks.{ready-holds}
 use Rattle.audit.proofs.Hanging.{ChainInv, SlotsInv, met-known, met-file, entry-stops, entry-claims, entry-ready, entry-goes, chain-start, chain-few, chain-out, chain-again, slots-start, slots-out, slots-again, slots-end}
 use Rattle.audit.proofs.directories.walk_directory.Reads as walk-directory
 use Rattle.audit.proofs.directories.walk_directory.Kinds as walk-directory-kinds
@@ -55,10 +55,10 @@ abbrev E : ℕ → walk-entry-lts.Claims
 E t = (meet-entry-reads.Asked, meet-entry-reads.Learnt, stopped-reads.Asked, stopped-reads.Learnt, is-directory-reads.Asked, is-directory-reads.Learnt, with-directory-reads.Asked, with-directory-reads.Learnt, walk-directory-below t, walk-directory.Post, with-file-reads.Asked, with-file-reads.Learnt, walk-file-reads.Asked, walk-file-reads.Learnt)
 
 abbrev Ic : walk-directory-lts.InvT-chain
-Ic disk image claim₀ key m₀ slot entry₀ place₀ claim m entry place = ChainInv disk image key slot m₀ claim₀ claim m entry place
+Ic disk image claim₀ key m₀ slot entry₀ position₀ claim m entry position = ChainInv disk image key slot m₀ claim₀ claim m entry position
 
 abbrev Mc : walk-directory-lts.MeasureT-chain
-Mc disk image claim₀ key m₀ slot entry₀ place₀ claim m entry place = free claim
+Mc disk image claim₀ key m₀ slot entry₀ position₀ claim m entry position = free claim
 
 abbrev Is : walk-directory-lts.InvT-slots
 Is disk image claim₀ key m₀ slot₀ claim m slot = SlotsInv disk image key m₀ claim₀ claim m slot
@@ -99,8 +99,8 @@ walk-directory-returns t c = slots-out _ _ _ _ _ _ _ _ (c .before .before .befor
 walk-directory-next-entry-requires : (t : ℕ) → walk-directory-lts.Need-next-entry-requires (D t) (walk-directory-at t) walk-directory.Post Ic Mc Is Ms
 walk-directory-next-entry-requires t c κs = ready-holds _ _ _ _ _ (c .before .before .before .before .before .before .before .before .chain .inv .ready) (c .before .before .before .before .before .walk-entry .ensures .known _ (c .before .w .given .1) .high)
 
-walk-directory-add-place : (t : ℕ) → walk-directory-lts.Need-add-place (D t) (walk-directory-at t) walk-directory.Post Ic Mc Is Ms
-walk-directory-add-place t c = omega (arith, chain-few _ _ _ _ _ _ _ _ _ _ (c .before .before .before .before .before .before .before .before .before .chain .inv))
+walk-directory-add-position : (t : ℕ) → walk-directory-lts.Need-add-position (D t) (walk-directory-at t) walk-directory.Post Ic Mc Is Ms
+walk-directory-add-position t c = omega (arith, chain-few _ _ _ _ _ _ _ _ _ _ (c .before .before .before .before .before .before .before .before .before .chain .inv))
 
 walk-directory-chain-less : (t : ℕ) → walk-directory-lts.Need-chain-less (D t) (walk-directory-at t) walk-directory.Post Ic Mc Is Ms
 walk-directory-chain-less t c = c .before .before .before .before .before .before .walk-entry .ensures .less _ (c .before .before .w .given .1)
@@ -165,5 +165,5 @@ walk-entry-returns-3 t c = entry-goes _ _ _ _ _ _ _ _ _ (c .before .before .befo
 pub +walk-directory+walk-entry-spec : {M : Type 1} → statement M
 +walk-directory+walk-entry-spec =
     close μ-walk-directory μ-walk-entry
-    (λ t. walk-directory-lts.spec (D t) (walk-directory-at t) walk-directory.Post Ic Mc Is Ms (walk-directory-slots-holds t) (walk-directory-cast-word-of t) (walk-directory-add-word-of t) (walk-directory-word-of-requires t) (walk-directory-chain-holds t) (walk-directory-walk-entry-requires t) (walk-directory-enum-known-w t) (walk-directory-enum-told t) (walk-directory-same-length t) (walk-directory-returns t) (walk-directory-next-entry-requires t) (walk-directory-add-place t) (walk-directory-chain-less t) (walk-directory-chain-again t) (walk-directory-add-slot t) (walk-directory-slots-less t) (walk-directory-slots-again t) (walk-directory-same-length-2 t) (walk-directory-returns-2 t))
+    (λ t. walk-directory-lts.spec (D t) (walk-directory-at t) walk-directory.Post Ic Mc Is Ms (walk-directory-slots-holds t) (walk-directory-cast-word-of t) (walk-directory-add-word-of t) (walk-directory-word-of-requires t) (walk-directory-chain-holds t) (walk-directory-walk-entry-requires t) (walk-directory-enum-known-w t) (walk-directory-enum-told t) (walk-directory-same-length t) (walk-directory-returns t) (walk-directory-next-entry-requires t) (walk-directory-add-position t) (walk-directory-chain-less t) (walk-directory-chain-again t) (walk-directory-add-slot t) (walk-directory-slots-less t) (walk-directory-slots-again t) (walk-directory-same-length-2 t) (walk-directory-returns-2 t))
     (λ t. walk-entry-lts.spec (E t) (walk-entry-at t) walk-entry.Post (walk-entry-meet-entry-requires t) (walk-entry-stopped-requires t) (walk-entry-same-length t) (walk-entry-returns t) (walk-entry-is-directory-requires t) (walk-entry-with-directory-requires t) (walk-entry-walk-directory-requires t) (walk-entry-same-length-2 t) (walk-entry-returns-2 t) (walk-entry-with-file-requires t) (walk-entry-walk-file-requires t) (walk-entry-same-length-3 t) (walk-entry-returns-3 t))

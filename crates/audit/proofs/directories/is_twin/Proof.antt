@@ -6,10 +6,10 @@ use Rattle.audit.proofs.directories.is_twin.Statement.{statement}
 use Rattle.audit.proofs.directories.is_twin.Tie as tie
 
 abbrev Inv-loop : tie.InvT-loop
-Inv-loop disk image key head place e₀ i₀ e i = TwinInv disk image key head place e i
+Inv-loop disk image key head position e₀ i₀ e i = TwinInv disk image key head position e i
 
 abbrev μ-loop : tie.MeasureT-loop
-μ-loop disk image key head place e₀ i₀ e i = place - i
+μ-loop disk image key head position e₀ i₀ e i = position - i
 
 loop-holds : tie.Need-loop-holds Inv-loop μ-loop
 loop-holds c = search twin-start

@@ -1,5 +1,5 @@
 -- `audit::files::walk_file` meets its contract. Assumes nothing.
-use Rattle.audit.proofs.Listings.{FileInv, ready-holds, file-stops, file-start, file-joins, lists-end, lists-out, lists-again, lists-next}
+use Rattle.audit.proofs.KeyBlocks.{FileInv, ready-holds, file-stops, file-start, file-joins, lists-end, lists-out, lists-again, lists-next}
 use Rattle.walk.proofs.Loops.{header-lists, link-few}
 -- `audit::files::walk_file` meets its contract. Assumes nothing.
 -- `audit::files::walk_file` meets its contract. Assumes nothing.
@@ -11,10 +11,10 @@ use Rattle.audit.proofs.files.walk_file.Statement.{statement}
 use Rattle.audit.proofs.files.walk_file.Tie as tie
 
 abbrev Inv-loop : tie.InvT-loop
-Inv-loop disk image claim₀ header m₀ lister₀ done₀ next₀ claim m lister done next = FileInv disk image header m₀ claim₀ claim m lister done next
+Inv-loop disk image claim₀ header m₀ keyBlock₀ done₀ next₀ claim m keyBlock done next = FileInv disk image header m₀ claim₀ claim m keyBlock done next
 
 abbrev μ-loop : tie.MeasureT-loop
-μ-loop disk image claim₀ header m₀ lister₀ done₀ next₀ claim m lister done next = free claim
+μ-loop disk image claim₀ header m₀ keyBlock₀ done₀ next₀ claim m keyBlock done next = free claim
 
 walk-keys-requires : tie.Need-walk-keys-requires Inv-loop μ-loop
 walk-keys-requires c κs = (c .before .before .before .pre .0, header-lists _ _ _ (c .before .before .before .pre .1) (c .before .before .before .pre .2))

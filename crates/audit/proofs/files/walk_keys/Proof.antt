@@ -1,5 +1,5 @@
 -- `audit::files::walk_keys` meets its contract. Assumes nothing.
-use Rattle.audit.proofs.Listings.{KeysInv, ready-holds, keys-start, keys-asks, keys-out, keys-step, keys-end}
+use Rattle.audit.proofs.KeyBlocks.{KeysInv, ready-holds, keys-start, keys-asks, keys-out, keys-step, keys-end}
 use Rattle.walk.proofs.Loops.{size-asks, within, turn-start, turn-key, turn-few}
 -- `audit::files::walk_keys` meets its contract. Assumes nothing.
 -- `audit::files::walk_keys` meets its contract. Assumes nothing.

@@ -1,5 +1,5 @@
 -- `audit::files::walk_list` meets its contract. Assumes nothing.
-use Rattle.audit.proofs.Listings.{list-stops, list-asks, list-goes}
+use Rattle.audit.proofs.KeyBlocks.{list-stops, list-asks, list-goes}
 -- `audit::files::walk_list` meets its contract. Assumes nothing.
 -- `audit::files::walk_list` meets its contract. Assumes nothing.
 use borrow.Author.Needs.{needs}

@@ -10,14 +10,14 @@ read-requires c κs = search needs
 enum-known-reading : tie.Need-enum-known-reading
 enum-known-reading c = search needs
 
-slice-reshare-prefix-write-all : tie.Need-slice-reshare-prefix-write-all
-slice-reshare-prefix-write-all c = search (needs, read-fits) depth 7
+slice-reshare-prefix-put-out : tie.Need-slice-reshare-prefix-put-out
+slice-reshare-prefix-put-out c = search (needs, read-fits) depth 7
 
-slice-aggregate-write-all : tie.Need-slice-aggregate-write-all
-slice-aggregate-write-all c = cut _ _ (search (needs, read-fits) depth 7)
+slice-aggregate-put-out : tie.Need-slice-aggregate-put-out
+slice-aggregate-put-out c = cut _ _ (search (needs, read-fits) depth 7)
 
-write-all-requires : tie.Need-write-all-requires
-write-all-requires c κs = search needs
+put-out-requires : tie.Need-put-out-requires
+put-out-requires c κs = search needs
 
 enum-known-reading-2 : tie.Need-enum-known-reading-2
 enum-known-reading-2 c = search needs
@@ -46,9 +46,9 @@ read-path-spec =
     (tie.spec
     read-requires
     enum-known-reading
-    slice-reshare-prefix-write-all
-    slice-aggregate-write-all
-    write-all-requires
+    slice-reshare-prefix-put-out
+    slice-aggregate-put-out
+    put-out-requires
     enum-known-reading-2
     begin-requires
     refused-requires

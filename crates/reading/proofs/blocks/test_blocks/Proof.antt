@@ -10,10 +10,10 @@ use Rattle.reading.proofs.blocks.test_blocks.Statement.{statement}
 use Rattle.reading.proofs.blocks.test_blocks.Tie as tie
 
 abbrev Inv-loop : tie.InvT-loop
-Inv-loop disk image header lister₀ done₀ next₀ lister done next = BlocksInv disk image header lister done next
+Inv-loop disk image header keyBlock₀ done₀ next₀ keyBlock done next = BlocksInv disk image header keyBlock done next
 
 abbrev μ-loop : tie.MeasureT-loop
-μ-loop disk image header lister₀ done₀ next₀ lister done next = blocksOf disk image header - done
+μ-loop disk image header keyBlock₀ done₀ next₀ keyBlock done next = blocksOf disk image header - done
 
 test-keys-requires : tie.Need-test-keys-requires Inv-loop μ-loop
 test-keys-requires c κs = (c .before .pre .0, c .before .pre .1, header-lists _ _ _ (c .before .pre .2) (c .before .pre .3))

@@ -1,4 +1,4 @@
--- No key stands twice on a chain of a volume whose blocks are owned once (`chain-apart`): each place but the first is referred to by the one
+-- No key stands twice on a chain of a volume whose blocks are owned once (`chain-apart`): each position but the first is referred to by the one
 -- before, and the first by a slot. Assumes nothing.
 use Prim.Native.Nat.{ℕ, zero, suc, _<_}
 use mathlib.Core.Path.{_≡_, refl, sym, ap, _∙_, subst}
@@ -13,7 +13,7 @@ use Rattle.reach.proofs.Lists.{in-at, in-map}
 use Rattle.volume.specs.declared.disk.Disk.{Disk}
 use Rattle.volume.specs.Disks.{rootOf}
 use Rattle.volume.specs.Blocks.{slots, wordOf, slotWord, directory}
-use Rattle.volume.specs.References.{Kind, Ref, to, link, slotRefs, listed, refersTo, references}
+use Rattle.volume.specs.References.{Kind, Ref, to, link, slotRefs, keyRefs, refersTo, references}
 use Rattle.volume.specs.Law.{chainKey}
 -- where a chain may hang
 pub use Rattle.walk.specs.Refusals.{Holder}
@@ -25,7 +25,7 @@ use Rattle.walk.proofs.Chains.{chain-next, chain-before}
 module _ (d : Disk) (s : List ℕ) where
   -- what block k refers to before its chain link
   abbrev within : ℕ → List Ref
-  within k = pick (directory s k) (slotRefs s k 0 slots) (listed s k)
+  within k = pick (directory s k) (slotRefs s k 0 slots) (keyRefs s k)
 
   within-open : (t : ℕ) → directory s t ≡ true → within t ≡ slotRefs s t 0 slots
   unfolding pick
@@ -82,9 +82,9 @@ module _ (d : Disk) (s : List ℕ) where
         record { from = to Kind.entry (K p); nth = length (within (K p)); reached = referred (K p) (from-chain p z); stands = subst (λ k. At (length (within (K p))) (to Kind.entry k) (refersTo s Kind.entry (K p))) (sym e) (next-at (K p) (λ q. h (e ∙ q))) }
 
     module _ (owned : Owned (references d s)) where
-      -- two places that refer to one key are one
-      same-place : {k l : ℕ} (f : From k) (g : From l) → k ≡ l → (f .from .key ≡ g .from .key) × (f .nth ≡ g .nth)
-      same-place {k} {l} f g e = owned .once (f .from) (g .from) (to Kind.entry k) (to Kind.entry l) (f .nth) (g .nth) (f .reached) (g .reached) (f .stands) (g .stands) e
+      -- two references to one key are one
+      same-referral : {k l : ℕ} (f : From k) (g : From l) → k ≡ l → (f .from .key ≡ g .from .key) × (f .nth ≡ g .nth)
+      same-referral {k} {l} f g e = owned .once (f .from) (g .from) (to Kind.entry k) (to Kind.entry l) (f .nth) (g .nth) (f .reached) (g .reached) (f .stands) (g .stands) e
 
       pub chain-apart : (q p : ℕ) → q < p → K p ≢ 0 → K q ≡ K p → ⊥
       unfolding chainKey from-chain
@@ -93,7 +93,7 @@ module _ (d : Disk) (s : List ℕ) where
           let z = chain-before s (slotWord s t i) p h in
           let a = first holder (λ y. h (sym e ∙ y)) in
           let b = from-chain p z in
-          let w = same-place (a .0) (from-chain (suc p) h) e in
+          let w = same-referral (a .0) (from-chain (suc p) h) e in
           a .1 (K p) (owned .none (b .from) (to Kind.entry (K p)) (b .nth) (b .reached) (b .stands)) (w .0) (w .1)
       chain-apart (suc q) (suc p) o h e =
-          chain-apart q p (omega arith) (chain-before s (slotWord s t i) p h) (same-place (from-chain (suc q) (λ y. h (sym e ∙ y))) (from-chain (suc p) h) e .0)
+          chain-apart q p (omega arith) (chain-before s (slotWord s t i) p h) (same-referral (from-chain (suc q) (λ y. h (sym e ∙ y))) (from-chain (suc p) h) e .0)

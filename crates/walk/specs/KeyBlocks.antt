@@ -7,11 +7,11 @@ use Rattle.volume.specs.declared.disk.Disk.{Disk}
 use Rattle.volume.specs.Disks.{fileLimit}
 use Rattle.volume.specs.Blocks.{slots, wordOf, keyWord}
 use Rattle.volume.specs.Files.{sizeOf, blocksOf, keysHere}
-use Rattle.walk.specs.declared.Lister.{Lister}
-use Rattle.walk.specs.Nodes.{Node, listing}
+use Rattle.walk.specs.declared.KeyBlock.{KeyBlock}
+use Rattle.walk.specs.Nodes.{Node, listLink}
 
 -- a block whose keys come next: its file passes, and what it needs lies in the volume
-pub record Listing (d : Disk) (s : List ℕ) (b : Lister) : Type 0 where
+pub record KeysReady (d : Disk) (s : List ℕ) (b : KeyBlock) : Type 0 where
   pub size : sizeOf s (b .header) ≤ fileLimit d
   pub header : b .header < d .blocks
   pub key : b .key < d .blocks
@@ -19,15 +19,15 @@ pub record Listing (d : Disk) (s : List ℕ) (b : Lister) : Type 0 where
   pub done : b .done ≤ blocksOf d s (b .header)
 
 -- how many keys it has
-abbrev pub keysIn : Disk → List ℕ → Lister → ℕ
+abbrev pub keysIn : Disk → List ℕ → KeyBlock → ℕ
 keysIn d s b = keysHere (blocksOf d s (b .header) - b .done)
 
 -- where block k of file h, with m data blocks before its own, leads to a list block, that comes after 72 more
 abbrev pub nextList : List ℕ → ℕ → ℕ → ℕ → List Node
-nextList s h k m = listing (wordOf s k 126) h (m + slots) (keyWord s k 71)
+nextList s h k m = listLink (wordOf s k 126) h (m + slots) (keyWord s k 71)
 
 -- what is known of a block of file h whose keys are walked
-pub record Listed (d : Disk) (s : List ℕ) (h k m : ℕ) : Type 0 where
+pub record KeysKnown (d : Disk) (s : List ℕ) (h k m : ℕ) : Type 0 where
   pub key : k < d .blocks
   pub more : wordOf s k 126 ≢ 0 → m + slots < blocksOf d s h
   pub ends : wordOf s k 126 ≡ 0 → blocksOf d s h ≤ m + slots

@@ -1,8 +1,8 @@
--- `lookup::chain::place_fault` meets its contract. Assumes nothing.
+-- `lookup::chain::position_fault` meets its contract. Assumes nothing.
 use Rattle.lookup.proofs.Chains.{range-holds, key-out, key-far, key-own}
 use borrow.Author.Needs.{needs}
-use Rattle.lookup.proofs.chain.place_fault.Statement.{statement}
-use Rattle.lookup.proofs.chain.place_fault.Tie as tie
+use Rattle.lookup.proofs.chain.position_fault.Statement.{statement}
+use Rattle.lookup.proofs.chain.position_fault.Tie as tie
 
 in-range-requires : tie.Need-in-range-requires
 in-range-requires c κs = search needs
@@ -22,8 +22,8 @@ returns-2 c = search key-far depth 7
 returns-3 : tie.Need-returns-3
 returns-3 c = search key-out depth 7
 
-pub place-fault-spec : {M : Type 1} → statement M
-place-fault-spec =
+pub position-fault-spec : {M : Type 1} → statement M
+position-fault-spec =
     tie.close
     (tie.spec
     in-range-requires

@@ -1,4 +1,4 @@
--- What holds of the reader while it reads a file whose header is sound.
+-- What holds of the reader's cursor while it reads a file whose header passed the tests.
 use Prim.Native.Nat.{ℕ, zero, suc, _+_, _*_, _<_, _≤_}
 use mathlib.Core.Path.{_≡_}
 use mathlib.Core.List.{List}
@@ -6,10 +6,13 @@ use lib.ListN.{length}
 use Rattle.program.specs.Types as type
 use Rattle.program.specs.declared.reader.Cursor.{Cursor}
 use Rattle.program.specs.declared.reader.Mode.{Mode}
-use Rattle.program.specs.declared.reader.Mode.the-variants.{Begin, NameLength, Body, Length, Stored, Part, Count, Number, Offset, Symbol, DebugLength, Skip, End}
+use Rattle.program.specs.declared.reader.Mode.the-variants.{Begin, NameLength, Body, Length, Stored, Part}
+use Rattle.program.specs.declared.reader.Mode.the-variants.{Count, Number, Offset, Symbol, DebugLength, Skip}
+use Rattle.program.specs.declared.reader.Mode.the-variants.{End}
 use Rattle.program.specs.Header.{totalOf, sizeOf, startAt}
 
-pub record Sound (file : List ℕ) : Type 0 where
+-- the header's numbers are within the limits, and all of it is there
+pub record HeaderFits (file : List ℕ) : Type 0 where
   pub few : totalOf file ≤ type.mostHunks
   pub some : 1 ≤ totalOf file
   pub long : startAt file ≤ length file
@@ -36,10 +39,12 @@ ModeFits t h n DebugLength = h < t
 ModeFits t h n (Skip l a) = h < t
 ModeFits t h n End = h ≡ t
 
-pub record Sane (file : List ℕ) (c : Cursor) : Type 0 where
-  pub sound : Sound file
+-- the cursor stands in a hunk of the file, at that hunk's place, and expects what may come there; or after the last
+-- hunk
+pub record CursorFits (file : List ℕ) (c : Cursor) : Type 0 where
+  pub header : HeaderFits file
   pub hunks : c .hunk ≤ totalOf file
-  pub placed : c .place ≡ placeOf (sizeOf file) (c .hunk)
+  pub place : c .place ≡ placeOf (sizeOf file) (c .hunk)
   pub low : c .place ≤ c .hunk * 262144
   pub fits : c .stored ≤ sizeOf file (c .hunk)
   pub mode : ModeFits (totalOf file) (c .hunk) (c .stored) (c .mode)
