@@ -1,6 +1,6 @@
 -- What an audit answers, and what it leaves in the claim area (docs/FORMAT.md, "Order of the walk" and "Numbers"): the image's length, the
 -- claim area, the boot tag, then the walk from the root, and the bitmap last.
-use Prim.Native.Nat.{ℕ, _+_, _-_}
+use Prim.Native.Nat.{ℕ, _+_, _-_, _≤_}
 use mathlib.Core.Path.{_≡_}
 use mathlib.Core.List.{List, [], _∷_, _++_}
 use lib.Dec.{eqb, ltb}
@@ -83,6 +83,11 @@ claimAfter d s (Refused r) n = replicate n 0
 pub record Within (d : Disk) (s : List ℕ) (r : Audited) (claim′ : List ℕ) : Type 0 where
   pub answer : r ≡ walked d s (walkOf d s)
   pub claims : (p : Report) → r ≡ Accepted p → claim′ ≡ claimsOf (walkOf d s)
+
+-- a claim area that is all 0, and has room for a byte for each block
+pub record Fresh (d : Disk) (claim : List ℕ) : Type 0 where
+  pub zero : claim ≡ replicate (length claim) 0
+  pub room : claimBytes d ≤ length claim
 
 -- of these in a claim area of n bytes
 pub record Tagged (d : Disk) (s : List ℕ) (n : ℕ) (r : Audited) (claim′ : List ℕ) : Type 0 where

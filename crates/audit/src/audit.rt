@@ -16,7 +16,7 @@ ghost use Prim.Native.Nat.{_+_, _≤_};
 ghost use lib.ListN.{length, replicate};
 ghost use Rattle.volume.specs.Disks.{Sized, mostBlocks, floppy, imageBytes, claimBytes};
 ghost use Rattle.audit.specs.Walks.{total};
-ghost use Rattle.audit.specs.Audits.{refuse, reportOf, Within, Tagged, Audits};
+ghost use Rattle.audit.specs.Audits.{refuse, reportOf, Fresh, Within, Tagged, Audits};
 
 // How much there is of what: directories without the root, files, list blocks, data blocks; then all blocks in use, and those that are free.
 pub struct Report {
@@ -77,7 +77,7 @@ fn audit_within(disk: Disk, image: &[u8], claim: &mut [u8]) -> Audited
 
 // The same in a longer area, which is all 0 and comes back so where it refuses.
 fn audit_tagged(disk: Disk, image: &[u8], area: &mut [u8]) -> Audited
-    requires { ⌜ (Sized disk) × (length (now image) ≡ imageBytes disk) × (now area ≡ replicate (length (now area)) 0) × (claimBytes disk ≤ length (now area)) ⌝ }
+    requires { ⌜ (Sized disk) × (length (now image) ≡ imageBytes disk) × (Fresh disk (now area)) ⌝ }
     ensures { λ r. ⌜ Tagged disk (now (image .entry)) (length (now (area .entry))) r (now (area .exit)) ⌝ }
 {
     let n = disk.claim_bytes();

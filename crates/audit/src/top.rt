@@ -61,11 +61,12 @@ pub(crate) fn walk_volume(disk: Disk, image: &[u8], claim: &mut [u8]) -> Walked
     requires { ⌜ (Sized disk) × (length (now image) ≡ imageBytes disk) × (now claim ≡ replicate (claimBytes disk) 0) ⌝ }
     ensures { λ r. ⌜ Walks disk (now (image .entry)) (root ∷ []) [] nothing (now (claim .entry)) r (now (claim .exit)) ⌝ }
 {
+    let root = disk.root();
     let f = meet_root(disk, image, claim);
     if f != 0 {
-        return stopped(f, disk.root());
+        return stopped(f, root);
     }
-    let bitmap = word_of(image, disk.root(), Block::MAP_KEY);
+    let bitmap = word_of(image, root, Block::MAP_KEY);
     let g = meet_bitmap(disk, image, claim, bitmap);
     if g != 0 {
         return stopped(g, bitmap);
@@ -76,5 +77,5 @@ pub(crate) fn walk_volume(disk: Disk, image: &[u8], claim: &mut [u8]) -> Walked
         lists: 0,
         blocks: 0,
     };
-    walk_directory(disk, image, claim, disk.root(), none)
+    walk_directory(disk, image, claim, root, none)
 }
