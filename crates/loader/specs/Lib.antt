@@ -1,5 +1,7 @@
 -- What the contracts of `loader` cite. To read what a load and a move do: Pages and Verdicts, in the terms of the
--- page; Memory, Table, Bases, Near and Calls, as the contracts say it. loaded memory
+-- page; Memory, Table, Bases, Near and Calls, as the contracts say it.
+
+-- loaded memory
 pub mod Memory
 -- the records of the hunks
 pub mod Table

@@ -1,6 +1,6 @@
 -- Two targets in one hunk less than 4 bytes apart are refused, at the offset that comes later in the file
--- (docs/FORMAT.md, "Bases and room"; refusal 42). Places in all of memory are compared: those of two hunks are never
--- that near (`near-one-hunk`, proofs/OneHunk.antt).
+-- (docs/FORMAT.md, "Bases and room"; refusal 42). Bytes in all of memory are compared: targets of two hunks are
+-- never that near (`near-one-hunk`, proofs/OneHunk.antt).
 use Prim.Native.Nat.{ℕ, _+_}
 use mathlib.Core.List.{List, [], _∷_}
 use mathlib.Core.Bool.{Bool, true, false}

@@ -121,7 +121,9 @@ withHunks hs m = imageOf hs ++ drop (4 * total hs) m
 
 -- What a call leaves, m′ and t′. A table holds its records as numbers, four a record (`recordNumbers 0 0`), or as
 -- structs (`pageRecords 0 0` of `hunks`): `held` says which those of the hunks are. They come first, then what stood
--- there. A load: memory is the hunks, then what stood there, with its base added at each target.
+-- there.
+
+-- A load: memory is the hunks, then what stood there, with its base added at each target.
 pub record LoadedPage {R : Type 0} (held : List Hunk → List ℕ → List R)
     (hs : List Hunk) (bases m : List ℕ) (t : List R) (x n : ℕ) (m′ : List ℕ) (t′ : List R) : Type 0 where
   pub hunks : x ≡ length hs
