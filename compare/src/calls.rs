@@ -4,7 +4,7 @@ use crate::audit::{audit, Report};
 use crate::disk::Disk;
 use crate::loader::{load, relocate, Lent, Loaded};
 use crate::lookup::{find, Found};
-use crate::program::Refusal;
+use crate::program::{read as read_program, Refusal};
 use crate::reading::read;
 
 const DISK: Disk = Disk::FLOPPY;
@@ -22,6 +22,9 @@ pub trait Calls {
 
     /// Reads a file from an offset on.
     fn read(&mut self, image: &[u8], path: &[u8], offset: usize, output: &mut [u8]) -> Result<usize, Refusal>;
+
+    /// Checks a program file.
+    fn check(&mut self, file: &[u8]) -> Result<Loaded, Refusal>;
 
     /// Loads a program file.
     fn load(&mut self, file: &[u8], bases: &[u32], lent: Lent) -> Result<Loaded, Refusal>;
@@ -52,6 +55,11 @@ impl Calls for Opinion {
 
     fn read(&mut self, image: &[u8], path: &[u8], offset: usize, output: &mut [u8]) -> Result<usize, Refusal> {
         read(&DISK, image, path, offset, output)
+    }
+
+    fn check(&mut self, file: &[u8]) -> Result<Loaded, Refusal> {
+        let hunks = read_program(file)?;
+        Ok(Loaded { hunks: hunks.len(), bytes: hunks.iter().map(|hunk| 4 * hunk.size).sum() })
     }
 
     fn load(&mut self, file: &[u8], bases: &[u32], lent: Lent) -> Result<Loaded, Refusal> {

@@ -36,8 +36,9 @@ pub const FILE: u32 = 6;
 pub const LOAD: u32 = 7;
 pub const MOVE: u32 = 8;
 
-/// A request that `probe` does not have: a read with an offset of eight bytes.
+/// Requests that `probe` does not have: a read with an offset of eight bytes, and a check of the held file.
 pub const FAR_READ: u32 = 101;
+pub const CHECK: u32 = 102;
 
 /// The answer to what is no request.
 pub const BAD: &str = "bad request";
@@ -146,6 +147,7 @@ impl<C: Calls> Model<C> {
                 self.read_into(u64::from_be_bytes(offset) as usize, rest)
             }
             FILE if body.len() <= FILE_ROOM => Some(self.take_file(body)),
+            CHECK => Some(self.check()),
             LOAD => {
                 let numbers = numbers(body)?;
                 let (room, bases) = room(&numbers, MOST)?;
@@ -236,6 +238,13 @@ impl<C: Calls> Model<C> {
     pub fn take_file(&mut self, file: &[u8]) -> String {
         self.file = Shown::new(file, self.shift());
         format!("file {}", file.len())
+    }
+
+    /// A check of the held file.
+    pub fn check(&mut self) -> String {
+        let answer = self.calls.check(&self.file);
+        let line = answer.map_or_else(refused, |Loaded { hunks, bytes }| format!("checked {hunks} {bytes}"));
+        self.told(line, &[("file", &self.file)])
     }
 
     /// A load into new memory and a new table, of any lengths.

@@ -17,6 +17,7 @@ pub(crate) struct Functions {
     pub(crate) audit: fn(&[u8], &mut [u8]) -> AuditNumbers,
     pub(crate) find: fn(&[u8], &[u8]) -> FindNumbers,
     pub(crate) read: fn(&[u8], &[u8], usize, &mut [u8]) -> ReadNumbers,
+    pub(crate) check: fn(&[u8]) -> ProgramNumbers,
     pub(crate) load: fn(&[u8], &[u32], &mut [u8], &mut [Hunk], &mut [u8]) -> ProgramNumbers,
     pub(crate) relocate: fn(&[u8], &[u32], &[u32], &mut [u8], &mut [Hunk], &mut [u8]) -> ProgramNumbers,
 }
@@ -26,6 +27,7 @@ pub(crate) const ARCHIVE: Functions = Functions {
     audit: jufferdeeg::audit,
     find: jufferdeeg::find,
     read: jufferdeeg::read,
+    check: jufferdeeg::check,
     load: jufferdeeg::load,
     relocate: jufferdeeg::move_program,
 };
@@ -98,6 +100,11 @@ impl Calls for Exports {
         self.answer(number, place, count, &[count])
     }
 
+    fn check(&mut self, file: &[u8]) -> Result<Loaded, Refusal> {
+        let answer = (self.functions.check)(file);
+        self.program(answer)
+    }
+
     fn load(&mut self, file: &[u8], bases: &[u32], lent: Lent) -> Result<Loaded, Refusal> {
         let answer = (self.functions.load)(file, bases, lent.memory, records(lent.table), lent.work);
         self.program(answer)
@@ -146,10 +153,13 @@ mod tests {
             model.find(b"b"),
             model.read(b"a", 10, 2_000),
             model.read(b"b", 10, 2_000),
+            model.check(),
             model.load(room, &BASES),
             model.relocate(less, &BASES, &[0, 0x1000]),
             model.relocate(less, &BASES, &[0, 8]),
             model.load(room, &[0, 8]),
+            model.take_file(&worked_file()[..100]),
+            model.check(),
         ]
     }
 
@@ -209,6 +219,9 @@ mod tests {
             ("path", with!(read(image, path, offset, output), path, end(path), 0)),
             ("output", with!(read(image, path, offset, output), output, -1, 0)),
             ("output", with!(read(image, path, offset, output), output, end(output), 0)),
+            ("file", with!(check(file), file, 99, !file[99])),
+            ("file", with!(check(file), file, -1, 0)),
+            ("file", with!(check(file), file, end(file), 0)),
             ("file", with!(load(file, bases, memory, table, work), file, 0, !file[0])),
             ("bases", with!(load(file, bases, memory, table, work), bases, 1, !bases[1])),
             ("bases", with!(load(file, bases, memory, table, work), bases, -1, 0)),
@@ -266,6 +279,9 @@ mod tests {
             changed!(read(image, path, offset, output), answer, answer.count += 1),
             changed!(read(image, path, offset, output), answer, output[990] ^= 1),
             changed!(read(image, path, offset, output), answer, output[0] ^= 1),
+            changed!(check(file), answer, answer.hunks += 1),
+            changed!(check(file), answer, answer.bytes += 1),
+            changed!(check(file), answer, answer.place += usize::from(answer.number > 0)),
             changed!(load(file, bases, memory, table, work), answer, answer.bytes += 4),
             changed!(load(file, bases, memory, table, work), answer, memory[50] ^= 1),
             changed!(load(file, bases, memory, table, work), answer, table[3].base ^= 1),

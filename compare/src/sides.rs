@@ -4,7 +4,7 @@ use std::sync::atomic::{AtomicU64, Ordering};
 use std::thread;
 
 use crate::driver::Batch;
-use crate::model::{Model, FAR_READ};
+use crate::model::{Model, CHECK, FAR_READ};
 use crate::native::Exports;
 
 /// Who is asked.
@@ -41,8 +41,8 @@ impl Sides {
                 "exported functions, number {number}, {about}: expected {answer:?}, got {got:?}"
             );
         }
-        // that is none of its requests
-        if let Some(probe) = self.probe.as_mut().filter(|_| number != FAR_READ) {
+        // these two are none of its requests
+        if let Some(probe) = self.probe.as_mut().filter(|_| ![FAR_READ, CHECK].contains(&number)) {
             probe.ask_about(about, number, body, answer);
         }
     }

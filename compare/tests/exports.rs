@@ -140,6 +140,7 @@ fn the_largest_program_of_all() {
     let room = Room { memory: 1 << 24, records: 64, work: 1 << 24 };
     let mut both = Both::default();
     same!(both.take_file(&file));
+    assert_eq!(same!(both.check()), "checked 64 16777216");
     let more = Room { memory: room.memory + 1, records: 65, work: room.work + 3 };
     expect!(both.load(more, &bases(0)), "loaded 64 16777216 ");
     expect!(both.relocate(room, &bases(0), &bases(0xFF00_0000)), "moved 64 16777216 ");
@@ -161,10 +162,12 @@ fn files_lists_and_tables_of_any_length() {
     let mut both = Both::default();
     let file = long_file(1 << 20);
     same!(both.take_file(&file));
+    assert_eq!(same!(both.check()), "checked 1 4");
     expect!(both.load(room, &[0x1000]), "loaded 1 4 ");
     expect!(both.relocate(room, &[0x1000], &[0x2000]), "moved 1 4 ");
     for (cut, due) in [(4, "refused 31 4194300 "), (1, "refused 30 0 ")] {
         same!(both.take_file(&file[..file.len() - cut]));
+        assert_eq!(same!(both.check()), due.trim_end());
         expect!(both.load(room, &[0x1000]), due);
         expect!(both.relocate(room, &[0x1000], &[0x2000]), due);
     }

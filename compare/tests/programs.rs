@@ -1,5 +1,5 @@
 //! Holds the program `probe` and the exported functions to the loader of this package: 6 takes a program file over, 7
-//! loads it, 8 moves it.
+//! loads it, 8 moves it. Each file is checked as well, by the exported function alone.
 //!
 //! Every answer but those of the worked case comes from a [`Model`] of `probe`.
 
@@ -9,8 +9,8 @@ use compare::bad_programs::{bad_bases, scratch, short_room, BASE_CAUSES, CAUSES}
 use compare::driver::checksum;
 use compare::loader::RECORD;
 use compare::model::{
-    load_body, move_body, Model, AREA_ROOM, BAD, BASES, FILE, FILE_ROOM, LOAD, MEMORY_BEFORE as MEMORY, MOST,
-    MOVE, RECORDS, TABLE_BEFORE as TABLE,
+    load_body, move_body, Model, AREA_ROOM, BAD, BASES, CHECK, FILE, FILE_ROOM, LOAD, MEMORY_BEFORE as MEMORY,
+    MOST, MOVE, RECORDS, TABLE_BEFORE as TABLE,
 };
 use compare::program::{BSS, CODE, DATA, END, HEADER, RELOCATIONS};
 use compare::programs::{bytes, file, good_bases, good_program, long_file, worked_file, Room};
@@ -31,20 +31,28 @@ struct Tally {
     moved: usize,
     refused: BTreeMap<u32, usize>,
     bad: usize,
+    /// Checks of files, which are no calls of `probe`.
+    checks: usize,
+    checked: usize,
+    refused_checks: BTreeMap<u32, usize>,
 }
 
 impl Tally {
-    fn count(&mut self, answer: &str) {
+    fn count(&mut self, request: u32, answer: &str) {
         let mut words = answer.split(' ');
         let verb = words.next().expect("an answer");
-        self.calls += usize::from(verb != "file" && verb != "bad");
+        let is_check = request == CHECK;
+        self.checks += usize::from(is_check);
+        self.calls += usize::from(!is_check && verb != "file" && verb != "bad");
         match verb {
             "loaded" => self.loaded += 1,
             "moved" => self.moved += 1,
+            "checked" => self.checked += 1,
             "bad" => self.bad += 1,
             "refused" => {
                 let number = words.next().and_then(|word| word.parse().ok()).expect("a number");
-                *self.refused.entry(number).or_default() += 1;
+                let refused = if is_check { &mut self.refused_checks } else { &mut self.refused };
+                *refused.entry(number).or_default() += 1;
             }
             _ => {}
         }
@@ -72,7 +80,7 @@ impl Talk {
 
     fn ask(&mut self, number: u32, body: &[u8]) -> String {
         let answer = self.model.answer(number, body);
-        self.tally.count(&answer);
+        self.tally.count(number, &answer);
         self.sides.ask(&self.about, number, body, &answer);
         answer
     }
@@ -83,8 +91,10 @@ impl Talk {
         assert!(answer.starts_with(beginning), "{}: {answer:?}, not {beginning:?}", self.about);
     }
 
-    fn file(&mut self, bytes: &[u8]) {
+    /// A file, which is checked.
+    fn file(&mut self, bytes: &[u8]) -> String {
         self.ask(FILE, bytes);
+        self.ask(CHECK, b"")
     }
 
     fn load(&mut self, room: Room, bases: &[u32]) -> String {
@@ -422,7 +432,9 @@ fn bad_files(talk: &mut Talk, rng: &mut Rng) {
             let room = needed.widened(rng);
             let due = format!("refused {} {} ", bad.due.number, bad.due.place);
             talk.about(format!("{} by {}, {} bytes", cause.number, cause.what, bad.bytes.len()));
-            talk.file(&bad.bytes);
+            let checked = talk.file(&bad.bytes);
+            let loadable = format!("checked {} {}", bad.sizes.len(), needed.memory);
+            assert_eq!(checked, if cause.number == 42 { &loadable } else { due.trim_end() }, "{}", talk.about);
             talk.expect(LOAD, &load_body(room, &old), &due);
             talk.expect(MOVE, &move_body(room, &old, &new), &due);
             if cause.number != 42 {
@@ -443,7 +455,7 @@ fn good_files(talk: &mut Talk, rng: &mut Rng) {
         let lists = [(); 3].map(|()| good_bases(rng, &sizes));
         let room = Room::needed(&sizes).widened(rng);
         talk.about(format!("a good program of {} hunks", sizes.len()));
-        talk.file(&bytes);
+        assert_eq!(talk.file(&bytes), format!("checked {} {}", sizes.len(), Room::needed(&sizes).memory));
         moved_around(talk, &sizes, room, &lists);
         refused_after(talk, rng, &sizes, room, &lists);
     }
@@ -561,12 +573,18 @@ fn are_enough(talks: &[Talk]) {
     let numbers = (30..43).map(|number| (number, sum(&|tally| tally.refused.get(&number).copied().unwrap_or(0))));
     let numbers: BTreeMap<u32, usize> = numbers.collect();
     println!("{calls} calls, {loaded} loaded, {moved} moved, {bad} bad requests, refused by number: {numbers:?}");
+    let [checks, checked] = [sum(&|tally| tally.checks), sum(&|tally| tally.checked)];
+    let of_check = |number| sum(&|tally| tally.refused_checks.get(&number).copied().unwrap_or(0));
+    let of_check: BTreeMap<u32, usize> = (30..40).map(|number| (number, of_check(number))).collect();
+    println!("{checks} checks, {checked} accepted, refused by number: {of_check:?}");
     let least = talks.len();
     assert!(calls >= 5_000 * least, "{calls} calls");
     assert!(loaded >= 500 * least && moved >= 500 * least, "{loaded} loaded, {moved} moved");
     assert!(bad >= 5 * least, "{bad} bad requests");
     assert_eq!(loaded + moved + numbers.values().sum::<usize>(), calls, "an answer of another number");
-    let rare: Vec<_> = numbers.iter().filter(|(_, &times)| times < 5 * least).collect();
+    assert!(checks >= 1_000 * least && checked >= 500 * least, "{checks} checks, {checked} accepted");
+    assert_eq!(checked + of_check.values().sum::<usize>(), checks, "a check of another number");
+    let rare: Vec<_> = numbers.iter().chain(&of_check).filter(|(_, &times)| times < 5 * least).collect();
     assert!(rare.is_empty(), "too few of {rare:?}");
 }
 
