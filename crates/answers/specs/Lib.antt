@@ -7,3 +7,5 @@ pub mod Refusals
 pub mod Numbers
 -- what a list holds
 pub mod Members
+-- lines of a text
+pub mod Lines
