@@ -9,3 +9,5 @@ pub mod Answers
 pub mod Numbers
 -- what a list holds
 pub mod Members
+-- lines of a text
+pub mod Lines

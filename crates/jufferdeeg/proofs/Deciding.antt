@@ -9,6 +9,7 @@ use Rattle.jufferdeeg.specs.declared.volumes.ReadNumbers.{ReadNumbers}
 use Rattle.jufferdeeg.specs.declared.programs.ProgramNumbers.{ProgramNumbers}
 use Rattle.jufferdeeg.specs.Volumes.{findOnFloppy, AuditsFloppy, ReadsFloppy}
 use Rattle.jufferdeeg.specs.Programs.{checkNumbers, LoadsNumbers, MovesNumbers}
+use Rattle.jufferdeeg.specs.Reasons.{Reasons}
 
 pub audit-crosses : (s : List ℕ) (n : ℕ) (r r′ : AuditNumbers) (c c′ : List ℕ) → AuditsFloppy s n r c → AuditsFloppy s n r′ c′ → (r ≡ r′) × (c ≡ c′)
 audit-crosses s n r r′ c c′ h h′ = (h .answer ∙ sym (h′ .answer), h .call .claim ∙ sym (h′ .call .claim))
@@ -31,3 +32,7 @@ module _ (file m : List ℕ) (t : List Hunk) (w : List ℕ) (r r′ : ProgramNum
   pub move-crosses : (old new : List ℕ) → MovesNumbers file old new m t w r m1 t1 w1 → MovesNumbers file old new m t w r′ m2 t2 w2 → (r ≡ r′) × (m1 ≡ m2) × (t1 ≡ t2) × (w1 ≡ w2)
   move-crosses old new h h′ =
       (h .answer ∙ sym (h′ .answer), h .call .shifted ∙ sym (h′ .call .shifted), h .call .recorded ∙ sym (h′ .call .recorded), h .call .clean ∙ sym (h′ .call .clean))
+
+pub reason-crosses : (n : ℕ) (output : List ℕ) (r r′ : ℕ) (a a′ : List ℕ) → Reasons n output r a → Reasons n output r′ a′
+    → (r ≡ r′) × (a ≡ a′)
+reason-crosses n output r r′ a a′ h h′ = (h .answer ∙ sym (h′ .answer), h .left ∙ sym (h′ .left))

@@ -5,7 +5,7 @@ use mathlib.Core.Path.{_≡_, sym, _∙_}
 use mathlib.Core.Logic.{_≢_, _⊎_, _↔_}
 use mathlib.Core.Bool.{false}
 use mathlib.Core.List.{List, [], _∷_, _++_}
-use lib.ListN.{length, getD, drop, replicate}
+use lib.ListN.{length, getD, take, drop, replicate}
 use Rattle.answers.specs.Members.{_∈_}
 use Rattle.answers.specs.Refusals.{refusal}
 use Rattle.answers.specs.declared.Refusal.{Refusal}
@@ -80,8 +80,10 @@ use Rattle.jufferdeeg.specs.declared.volumes.ReadNumbers.{ReadNumbers}
 use Rattle.jufferdeeg.specs.declared.programs.ProgramNumbers.{ProgramNumbers}
 use Rattle.jufferdeeg.specs.Volumes.{findOnFloppy, AuditsFloppy, ReadsFloppy}
 use Rattle.jufferdeeg.specs.Programs.{checkNumbers, LoadsNumbers, MovesNumbers}
+use Rattle.jufferdeeg.specs.Reasons.{sentenceOf, Reasons}
 use Rattle.jufferdeeg.proofs.Seen as seen
 use Rattle.jufferdeeg.proofs.SeenMoving as seen-moving
+use Rattle.jufferdeeg.proofs.Spoken as spoken
 
 -- ---- the audit of an image s with a claim area of n bytes
 
@@ -425,3 +427,29 @@ module _ (file m : List ℕ) (t : List Hunk) (w : List ℕ) where
   pub seen-move-loads : (A B : List ℕ) (rA rB r : ProgramNumbers) (mA : List ℕ) (tA : List Hunk) (wA mB : List ℕ) (tB : List Hunk) (wB m′ : List ℕ) (t′ : List Hunk) (w′ m1 : List ℕ) (t1 : List Hunk) (w1 : List ℕ) → SameRoom m t w m′ t′ w′
       → LoadsNumbers file A m t w rA mA tA wA → LoadsNumbers file B m t w rB mB tB wB → MovesNumbers file A B m′ t′ w′ r m1 t1 w1 → (r .number ≡ 0) ↔ ((rA .number ≡ 0) × (rB .number ≡ 0))
   seen-move-loads = seen-moving.move-loads file m t w
+
+-- the sentence of a number: none is longer than 128 bytes
+pub sentence-most : (n : ℕ) → length (sentenceOf n) ≤ 128
+sentence-most = spoken.sentence-most
+
+-- where it fits, it stands in the output whole, and what follows it stays
+module _ (n : ℕ) (output : List ℕ) (r : ℕ) (output′ : List ℕ) (a : Reasons n output r output′) where
+  pub reason-whole : r ≤ length output → (take r output′ ≡ sentenceOf n) × (drop r output′ ≡ drop r output)
+  reason-whole = spoken.reason-whole n output r output′ a
+
+-- each refusal of each call has one
+module _ (v : ℕ) where
+  pub audit-spoken : v ∈ audit.auditRefusals → 0 < length (sentenceOf v)
+  audit-spoken = spoken.audit-spoken v
+
+  pub find-spoken : v ∈ lookup.findRefusals → 0 < length (sentenceOf v)
+  find-spoken = spoken.find-spoken v
+
+  pub read-spoken : v ∈ read.readRefusals → 0 < length (sentenceOf v)
+  read-spoken = spoken.read-spoken v
+
+  pub check-spoken : v ∈ checkRefusals → 0 < length (sentenceOf v)
+  check-spoken = spoken.check-spoken v
+
+  pub call-spoken : v ∈ callRefusals → 0 < length (sentenceOf v)
+  call-spoken = spoken.call-spoken v
