@@ -1,5 +1,5 @@
 // What each refusal's number means, in words.
-use crate::arguments::same;
+use console::same;
 ghost use Prim.Native.Nat.{_≤_};
 ghost use lib.ListN.{length};
 
