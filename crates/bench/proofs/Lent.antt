@@ -1,10 +1,9 @@
--- How long a room and a part of it are, over any n, so that no list is computed; and that what a call accepts fits what it was lent.
+-- What a call accepts fits what it was lent.
 use Prim.Native.Nat.{ℕ, _≤_, _*_, _/_}
 use mathlib.Core.Path.{_≡_, sym, _∙_}
 use mathlib.Core.List.{List}
 use native.Mathlib.Omega.{arith}
-use lib.ListN.{length, take, replicate, length-replicate}
-use lib.Seq.{length-take-le}
+use lib.ListN.{length}
 use Rattle.volume.specs.declared.disk.Disk.{Disk}
 use Rattle.reading.specs.declared.read.Reading.{Reading}
 use Rattle.reading.specs.declared.read.Reading.the-variants.{Bytes}
@@ -15,20 +14,18 @@ use Rattle.program.specs.declared.check.Answer.the-variants.{Accepted}
 use Rattle.loader.specs.Calls.{Loads, Moves}
 use Rattle.loader.proofs.Answering.{LoadFacts, load-facts, move-facts}
 
-pub counted : (n v : ℕ) → n ≡ length (replicate n v)
-counted n v = sym (length-replicate n v)
-
-pub cut : (n : ℕ) (l : List ℕ) → n ≤ length l → n ≡ length (take n l)
-cut n l h = sym (length-take-le n l h)
-
 -- what is read fits the output
-pub read-fits : (d : Disk) (s path : List ℕ) (o : ℕ) (out : List ℕ) (r : Reading) (out1 : List ℕ) (n : ℕ) → Reads d s path o out r out1 → length out1 ≡ length out → r ≡ Bytes n → n ≤ length out1
+pub read-fits :
+    (d : Disk) (s path : List ℕ) (o : ℕ) (out : List ℕ) (r : Reading) (out1 : List ℕ) (n : ℕ) →
+    Reads d s path o out r out1 → length out1 ≡ length out → r ≡ Bytes n → n ≤ length out1
 read-fits d s path o out r out1 n l k e =
     let g = read-exactly d s path o (length out) n .0 (sym (l .answer) ∙ e) in
     omega (arith, g .count)
 
 -- a loaded program fits memory, and its records the table
-module _ (file bases m table w : List ℕ) (r : Answer) (m1 t1 w1 : List ℕ) (t n : ℕ) (l : Loads file bases m table w r m1 t1 w1) where
+module _
+    (file bases m table w : List ℕ) (r : Answer) (m1 t1 w1 : List ℕ) (t n : ℕ)
+    (l : Loads file bases m table w r m1 t1 w1) where
   facts : r ≡ Accepted t n → LoadFacts file bases (length m) (length table / 4) (length w) t n
   facts e = load-facts file bases (length m) (length table / 4) (length w) t n r (l .answer) e
 
@@ -39,7 +36,9 @@ module _ (file bases m table w : List ℕ) (r : Answer) (m1 t1 w1 : List ℕ) (t
   load-records k e = omega (arith, facts e .records, facts e .file-good .hunks)
 
 -- and a moved one
-module _ (file old new m table w : List ℕ) (r : Answer) (m1 t1 w1 : List ℕ) (t n : ℕ) (l : Moves file old new m table w r m1 t1 w1) where
+module _
+    (file old new m table w : List ℕ) (r : Answer) (m1 t1 w1 : List ℕ) (t n : ℕ)
+    (l : Moves file old new m table w r m1 t1 w1) where
   moved-facts : r ≡ Accepted t n → LoadFacts file old (length m) (length table / 4) (length w) t n
   moved-facts e = move-facts file old new (length m) (length table / 4) (length w) t n r (l .answer) e .load
 

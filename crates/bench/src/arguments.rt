@@ -1,21 +1,7 @@
 // The program's arguments: 1 is the verb.
 use crate::saying;
+use console::say::numbered;
 use libc::STDERR_FILENO;
-
-// Whether two texts are the same.
-pub fn same(a: &[u8], b: &[u8]) -> bool {
-    if a.len() != b.len() {
-        return false;
-    }
-    let mut i: usize = 0;
-    while i < a.len() {
-        if a[i] != b[i] {
-            return false;
-        }
-        i += 1;
-    }
-    true
-}
 
 // Whether argument i fits the room for an argument; one that does not is named.
 fn fits(i: usize) -> bool {
@@ -25,8 +11,8 @@ fn fits(i: usize) -> bool {
         return true;
     }
     saying::begin();
-    io::write_all(STDERR_FILENO, b"argument ");
-    saying::counted(STDERR_FILENO, i as u64, b": longer than 4096 bytes\n");
+    numbered(STDERR_FILENO, b"argument ", i as u64);
+    io::write_all(STDERR_FILENO, b": longer than 4096 bytes\n");
     false
 }
 

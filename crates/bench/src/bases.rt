@@ -78,8 +78,8 @@ fn argument(i: usize) -> Base {
     found
 }
 
-// Puts the arguments from `from` on, before `to`, into the list, and answers how many there are: 0 where one is no base or they are too many,
-// which is said.
+// Puts the arguments from `from` on, before `to`, into the list, and answers how many there are: 0 where one is no
+// base or they are too many, which is said.
 pub fn list(from: usize, to: usize, list: &mut [u32]) -> usize
     requires { ⌜ from ≤ to ⌝ }
     ensures { λ r. ⌜ Counts r (now (list .exit)) ⌝ }

@@ -1,6 +1,7 @@
 // Files by name, read whole into the room that is lent.
 use crate::saying;
 use crate::saying::wrong;
+use console::say::numbered;
 use libc::STDERR_FILENO;
 ghost use Rattle.io.specs.Counts.{Counts};
 
@@ -26,14 +27,13 @@ fn more(fd: i32) -> isize {
 fn too_long(name: &[u8], kind: Kind, room: usize) {
     saying::begin();
     io::write_all(STDERR_FILENO, name);
-    io::write_all(STDERR_FILENO, b": longer than ");
-    saying::counted(STDERR_FILENO, room as u64, b" bytes, the room for ");
+    numbered(STDERR_FILENO, b": longer than ", room as u64);
     match kind {
         Kind::Image => {
-            io::write_all(STDERR_FILENO, b"an image\n");
+            io::write_all(STDERR_FILENO, b" bytes, the room for an image\n");
         }
         Kind::Program => {
-            io::write_all(STDERR_FILENO, b"a program file\n");
+            io::write_all(STDERR_FILENO, b" bytes, the room for a program file\n");
         }
     }
 }

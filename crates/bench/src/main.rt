@@ -1,4 +1,5 @@
-// The counter's tool: audits, finds, reads, loads and moves, or does what the reset pin does, on files that the arguments name.
+// The counter's tool: audits, finds, reads, loads and moves, or does what the reset pin does, on files that the
+// arguments name.
 mod arguments;
 mod bases;
 mod files;
@@ -12,7 +13,7 @@ mod status;
 mod usage;
 mod volumes;
 
-use arguments::same;
+use console::same;
 use status::Outcome;
 
 enum Verb {
@@ -58,11 +59,11 @@ fn verb_of(text: &[u8]) -> Verb {
     Verb::Unknown
 }
 
-// Does what the verb says with so many arguments. The rooms are made once and lent to each: for an image, a program file, memory and the
-// work area.
+// Does what the verb says with so many arguments. The rooms are made once and lent to each: for an image, a program
+// file, memory and the work area.
 fn act(verb: Verb, count: usize) -> Outcome {
-    let mut image = rooms::image();
-    let mut file = rooms::file();
+    let mut image = console::rooms::image();
+    let mut file = console::rooms::file();
     let mut memory = rooms::memory();
     let mut work = rooms::memory();
     match verb {

@@ -1,5 +1,4 @@
 // Program files: load and move.
-use crate::arguments::same;
 use crate::bases;
 use crate::files;
 use crate::files::Kind;
@@ -9,6 +8,7 @@ use crate::saying;
 use crate::saying::wrong;
 use crate::status::Outcome;
 use answers::Refusal;
+use console::same;
 use libc::STDOUT_FILENO;
 use program::check::Answer;
 ghost use Prim.Native.Nat.{_+_, _≤_, _<_};

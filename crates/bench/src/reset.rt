@@ -4,24 +4,24 @@ use crate::files;
 use crate::files::Kind;
 use crate::programs;
 use crate::rooms;
-use crate::saying::counted;
 use crate::saying::refused;
 use crate::saying::wrong;
 use crate::status::Outcome;
 use crate::volumes;
+use console::say::numbered;
 use libc::STDOUT_FILENO;
 use program::check::Answer;
 use reading::read::Reading;
 
 fn was_read(bytes: usize) {
-    io::write_all(STDOUT_FILENO, b"read: ");
-    counted(STDOUT_FILENO, bytes as u64, b" bytes\n");
+    numbered(STDOUT_FILENO, b"read: ", bytes as u64);
+    io::write_all(STDOUT_FILENO, b" bytes\n");
 }
 
 fn loaded(count: u32, bytes: usize) -> Outcome {
-    io::write_all(STDOUT_FILENO, b"load: ");
-    counted(STDOUT_FILENO, count as u64, b" hunks, ");
-    counted(STDOUT_FILENO, bytes as u64, b" bytes\n");
+    numbered(STDOUT_FILENO, b"load: ", count as u64);
+    numbered(STDOUT_FILENO, b" hunks, ", bytes as u64);
+    io::write_all(STDOUT_FILENO, b" bytes\n");
     Outcome::Accepted
 }
 

@@ -1,12 +1,7 @@
-// The rooms that are lent. An `ensures` gives only the length, so that no proof computes the list.
+// The rooms that are lent beside those of `console`. An `ensures` gives only the length, so that no proof computes the
+// list.
 ghost use mathlib.Core.Path.{_≡_};
 ghost use lib.ListN.{length};
-
-// A high-density image has as many bytes: the call is to refuse it, not the tool.
-const IMAGE: usize = 1802240;
-
-// More than the longest file of a volume.
-const FILE: usize = 1048576;
 
 // Memory for a program, and as much for the work area.
 pub const MEMORY: usize = 1048576;
@@ -16,18 +11,6 @@ const BASES: usize = 256;
 
 // The numbers of a table: four for each of 64 records.
 const TABLE: usize = 256;
-
-pub fn image() -> [u8; IMAGE]
-    ensures { λ r. ⌜ 1802240 ≡ length r ⌝ }
-{
-    [0; IMAGE]
-}
-
-pub fn file() -> [u8; FILE]
-    ensures { λ r. ⌜ 1048576 ≡ length r ⌝ }
-{
-    [0; FILE]
-}
 
 pub fn memory() -> [u8; MEMORY]
     ensures { λ r. ⌜ 1048576 ≡ length r ⌝ }

@@ -1,19 +1,15 @@
-// Parts of lines, and the lines that several verbs say.
+// The lines that several verbs say.
 use crate::rooms;
 use crate::sentences;
 use crate::status::Outcome;
 use answers::Fault;
 use answers::Refusal;
+use console::say;
+use console::say::numbered;
 use libc::STDERR_FILENO;
 
 // The refusal of a room that is too small.
 const ROOM: u32 = Fault::SHORT_ROOM;
-
-// A number, and the text after it.
-pub fn counted(fd: i32, n: u64, after: &[u8]) {
-    io::print_decimal(fd, n);
-    io::write_all(fd, after);
-}
 
 // The begin of every line on standard error.
 pub fn begin() {
@@ -31,17 +27,17 @@ pub fn wrong(about: &[u8], text: &[u8]) -> Outcome {
 
 // How much room was needed, and how much there is.
 fn shortfall(fd: i32, needed: usize) {
-    io::write_all(fd, b": ");
-    counted(fd, needed as u64, b" bytes needed, ");
-    counted(fd, rooms::MEMORY as u64, b" lent");
+    numbered(fd, b": ", needed as u64);
+    numbered(fd, b" bytes needed, ", rooms::MEMORY as u64);
+    io::write_all(fd, b" lent");
 }
 
 // A refusal. `needed` is the bytes of memory that the program takes; only a 41 asks for it.
 pub fn refused(fd: i32, who: &[u8], fault: Refusal, needed: usize) -> Outcome {
     io::write_all(fd, who);
-    io::write_all(fd, b": refused ");
-    counted(fd, fault.number as u64, b" at ");
-    counted(fd, fault.place as u64, b" (");
+    io::write_all(fd, b": ");
+    say::refusal(fd, fault);
+    io::write_all(fd, b" (");
     sentences::say(fd, fault.number);
     if fault.number == ROOM {
         shortfall(fd, needed);

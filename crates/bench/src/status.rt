@@ -1,6 +1,7 @@
 // What came of a run, for the script that makes the exit status of it.
 
-// What came of an image, of a path, or of all of a run. Unasked: a wrong use, or something that could not be read or written.
+// What came of an image, of a path, or of all of a run. Unasked: a wrong use, or something that could not be read or
+// written.
 pub enum Outcome {
     Accepted,
     Refused,

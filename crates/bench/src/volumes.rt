@@ -2,13 +2,13 @@
 use crate::files;
 use crate::files::Kind;
 use crate::saying;
-use crate::saying::counted;
 use crate::saying::refused;
 use crate::saying::wrong;
 use crate::status;
 use crate::status::Outcome;
 use audit::audit::Audited;
 use audit::audit::Report;
+use console::say::numbered;
 use libc::STDERR_FILENO;
 use libc::STDOUT_FILENO;
 use lookup::find::Found;
@@ -20,13 +20,13 @@ ghost use Rattle.bench.specs.Tallies.{Below, OneMore};
 // An accepted volume.
 fn accepted(who: &[u8], report: Report) -> Outcome {
     io::write_all(STDOUT_FILENO, who);
-    io::write_all(STDOUT_FILENO, b": accepted, ");
-    counted(STDOUT_FILENO, report.directories as u64, b" directories, ");
-    counted(STDOUT_FILENO, report.files as u64, b" files, ");
-    counted(STDOUT_FILENO, report.lists as u64, b" list blocks, ");
-    counted(STDOUT_FILENO, report.blocks as u64, b" data blocks, ");
-    counted(STDOUT_FILENO, report.used as u64, b" used, ");
-    counted(STDOUT_FILENO, report.free as u64, b" free\n");
+    numbered(STDOUT_FILENO, b": accepted, ", report.directories as u64);
+    numbered(STDOUT_FILENO, b" directories, ", report.files as u64);
+    numbered(STDOUT_FILENO, b" files, ", report.lists as u64);
+    numbered(STDOUT_FILENO, b" list blocks, ", report.blocks as u64);
+    numbered(STDOUT_FILENO, b" data blocks, ", report.used as u64);
+    numbered(STDOUT_FILENO, b" used, ", report.free as u64);
+    io::write_all(STDOUT_FILENO, b" free\n");
     Outcome::Accepted
 }
 
@@ -42,18 +42,18 @@ pub fn audit_image(who: &[u8], image: &[u8]) -> Outcome {
 
 fn directory(who: &[u8], key: u32, compared: u32) -> Outcome {
     io::write_all(STDOUT_FILENO, who);
-    io::write_all(STDOUT_FILENO, b": directory, key ");
-    counted(STDOUT_FILENO, key as u64, b", compared ");
-    counted(STDOUT_FILENO, compared as u64, b"\n");
+    numbered(STDOUT_FILENO, b": directory, key ", key as u64);
+    numbered(STDOUT_FILENO, b", compared ", compared as u64);
+    io::write_all(STDOUT_FILENO, b"\n");
     Outcome::Accepted
 }
 
 fn file(who: &[u8], key: u32, size: u32, compared: u32) -> Outcome {
     io::write_all(STDOUT_FILENO, who);
-    io::write_all(STDOUT_FILENO, b": file, key ");
-    counted(STDOUT_FILENO, key as u64, b", size ");
-    counted(STDOUT_FILENO, size as u64, b", compared ");
-    counted(STDOUT_FILENO, compared as u64, b"\n");
+    numbered(STDOUT_FILENO, b": file, key ", key as u64);
+    numbered(STDOUT_FILENO, b", size ", size as u64);
+    numbered(STDOUT_FILENO, b", compared ", compared as u64);
+    io::write_all(STDOUT_FILENO, b"\n");
     Outcome::Accepted
 }
 
@@ -141,10 +141,11 @@ fn audit_each(count: usize, room: &mut [u8]) -> Tally {
 }
 
 fn summary(images: usize, tally: Tally) {
-    counted(STDOUT_FILENO, images as u64, b" images: ");
-    counted(STDOUT_FILENO, tally.accepted as u64, b" accepted, ");
-    counted(STDOUT_FILENO, tally.refused as u64, b" refused, ");
-    counted(STDOUT_FILENO, tally.unread as u64, b" not read\n");
+    numbered(STDOUT_FILENO, b"", images as u64);
+    numbered(STDOUT_FILENO, b" images: ", tally.accepted as u64);
+    numbered(STDOUT_FILENO, b" accepted, ", tally.refused as u64);
+    numbered(STDOUT_FILENO, b" refused, ", tally.unread as u64);
+    io::write_all(STDOUT_FILENO, b" not read\n");
 }
 
 pub fn audit_images(count: usize, room: &mut [u8]) -> Outcome {

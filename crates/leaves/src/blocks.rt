@@ -11,7 +11,7 @@ use crate::kinds::good;
 use crate::kinds::one;
 use crate::kinds::two;
 use crate::kinds::unmended;
-use crate::say;
+use console::say;
 use volume::file;
 ghost use Prim.Native.Nat.{_<_};
 

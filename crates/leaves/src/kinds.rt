@@ -4,7 +4,7 @@ use crate::build::block;
 use crate::build::fill;
 use crate::build::mend;
 use crate::build::put;
-use crate::say;
+use console::say;
 use libc::STDOUT_FILENO;
 use volume::disk::Disk;
 use volume::entry::entry_fault;
@@ -30,9 +30,9 @@ pub const LIST: u32 = 6;
 
 pub const DATA: u32 = 7;
 
-// What a block is tested as. A header is tested as an entry, and by a file's own tests: of 489 bytes, of 35,137 and of none. A list
-// block has a number of keys still to come. Data blocks are the first and the last of a file of 489 bytes, the one of a file of 488,
-// and one that the block before it does not name.
+// What a block is tested as. A header is tested as an entry, and by a file's own tests: of 489 bytes, of 35,137 and
+// of none. A list block has a number of keys still to come. Data blocks are the first and the last of a file of 489
+// bytes, the one of a file of 488, and one that the block before it does not name.
 pub enum Kind {
     Root,
     Map,
@@ -191,8 +191,7 @@ pub fn good(kind: Kind) {
 
 // A changed word, in its line.
 fn say_word(w: usize, value: u32) {
-    say::text(b" w");
-    io::print_decimal(STDOUT_FILENO, w as u64);
+    say::numbered(STDOUT_FILENO, b" w", w as u64);
     say::word(value);
 }
 

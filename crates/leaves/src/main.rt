@@ -1,11 +1,10 @@
-// Runs the leaves of a volume, and of the words below it, on fixed vectors, and writes a line for each. What the lines must be was
-// written by hand from the rules, in the file `stdout`.
+// Runs the leaves of a volume, and of the words below it, on fixed vectors, and writes a line for each. What the
+// lines must be was written by hand from the rules, in the file `stdout`.
 mod blocks;
 mod build;
 mod kinds;
 mod names;
 mod numbers;
-mod say;
 
 fn main() {
     numbers::words();

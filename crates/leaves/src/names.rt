@@ -2,7 +2,7 @@
 use crate::build::IMAGE;
 use crate::build::block;
 use crate::build::fill;
-use crate::say;
+use console::say;
 use volume::disk::Disk;
 use volume::name;
 

@@ -3,7 +3,7 @@ use crate::build::IMAGE;
 use crate::build::block;
 use crate::build::fill;
 use crate::build::mend;
-use crate::say;
+use console::say;
 use volume::bitmap::Bit;
 use volume::bitmap::is_free;
 use volume::block::Block;

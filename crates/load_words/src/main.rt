@@ -1,9 +1,11 @@
-// Loads a program file from standard input, hunk i at hex 3000+4000i, and writes the loaded words, one a line, or why there are none.
-mod say;
-
+// Loads a program file from standard input, hunk i at hex 3000+4000i, and writes the loaded words, one a line, or why
+// there are none.
 use answers::Fault;
 use answers::Refusal;
+use console::hex;
+use console::say;
 use libc::STDIN_FILENO;
+use libc::STDOUT_FILENO;
 use program::check::Answer;
 ghost use mathlib.Core.Path.{_≡_};
 ghost use lib.ListN.{length};
@@ -75,13 +77,19 @@ fn hunks(file: &[u8]) -> usize
     total
 }
 
+// Writes why there are no words.
+fn refused(fault: Refusal) {
+    say::refusal(STDOUT_FILENO, fault);
+    say::end();
+}
+
 // Loads the file at these bases, and writes what comes of it.
 fn load(file: &[u8], bases: &[u32], memory: &mut [u8], work: &mut [u8]) {
     let mut table = [0u32; TABLE];
     let answer = loader::calls::load(file, bases, memory, &mut table, work);
     match answer {
-        Answer::Accepted(_, n) => say::all(&memory[..n]),
-        Answer::Refused(fault) => say::refused(fault),
+        Answer::Accepted(_, n) => hex::words(STDOUT_FILENO, &memory[..n]),
+        Answer::Refused(fault) => refused(fault),
     }
 }
 
@@ -98,7 +106,7 @@ fn main() {
     let mut room = file_room();
     let got = io::read_full(STDIN_FILENO, &mut room);
     if got > LONGEST {
-        say::refused(Refusal {
+        refused(Refusal {
             number: Fault::SHORT_ROOM,
             place: 0,
         });

@@ -1,12 +1,12 @@
 // The frame of a request, bodies, and the answers that every request may get.
+use console::say;
 use libc::STDIN_FILENO;
-use libc::STDOUT_FILENO;
 
 // How many bytes `io::buffer` has.
 const PIECE: u32 = 4096;
 
-// What is kept from one request to the next: the lengths of the held image and of the held file, the bytes of memory and the records
-// that the last load was lent, and whether there may be another request.
+// What is kept from one request to the next: the lengths of the held image and of the held file, the bytes of memory
+// and the records that the last load was lent, and whether there may be another request.
 pub struct State {
     pub image: u32,
     pub file: u32,
@@ -95,13 +95,24 @@ pub fn next() -> Frame {
 
 // The answer to a request that is none.
 fn bad_request() {
-    io::write_all(STDOUT_FILENO, b"bad request\n");
+    say::text(b"bad request\n");
 }
 
 // Fills `part` from the input, and answers whether the input had as much.
 pub fn fill(part: &mut [u8]) -> bool {
     let got = io::read_full(STDIN_FILENO, part);
     got == part.len()
+}
+
+// The same for all of a body, which is held from now on under this name: that is the answer.
+pub fn hold(name: &[u8], length: u32, part: &mut [u8]) -> bool {
+    if !fill(part) {
+        return false;
+    }
+    say::text(name);
+    say::number(length);
+    say::end();
+    true
 }
 
 // Reads `length` bytes to forget them, in pieces, and answers whether the input had as many.

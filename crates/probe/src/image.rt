@@ -1,18 +1,8 @@
 // Requests 1 and 2: the held image.
 use crate::frame::State;
 use crate::frame::fill;
-use libc::STDOUT_FILENO;
-
-// Fills `part`, which is to be the held image.
-fn take(state: State, length: u32, part: &mut [u8]) -> State {
-    if fill(part) {
-        io::write_all(STDOUT_FILENO, b"image ");
-        io::print_decimal(STDOUT_FILENO, length as u64);
-        io::write_all(STDOUT_FILENO, b"\n");
-        return state.with_image(length);
-    }
-    state.broken()
-}
+use crate::frame::hold;
+use console::say;
 
 // Request 1: the body becomes the held image. It is read straight into the image's room.
 pub fn image(length: u32, state: State, room: &mut [u8]) -> State {
@@ -20,13 +10,16 @@ pub fn image(length: u32, state: State, room: &mut [u8]) -> State {
     if n as u64 != length as u64 {
         return state.refused(length);
     }
-    take(state, length, &mut room[..n])
+    if hold(b"image", length, &mut room[..n]) {
+        return state.with_image(length);
+    }
+    state.broken()
 }
 
 // Fills `part` of the held image.
 fn change(state: State, part: &mut [u8]) -> State {
     if fill(part) {
-        io::write_all(STDOUT_FILENO, b"patched\n");
+        say::text(b"patched\n");
         return state;
     }
     state.broken()

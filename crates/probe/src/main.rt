@@ -1,5 +1,5 @@
-// Answers requests from standard input until it ends, a line for each. A request is eight bytes, its number and its body's length,
-// both big-endian, and then the body.
+// Answers requests from standard input until it ends, a line for each. A request is eight bytes, its number and its
+// body's length, both big-endian, and then the body.
 mod checksum;
 mod frame;
 mod image;
@@ -7,16 +7,11 @@ mod line;
 mod programs;
 mod volumes;
 
+use console::rooms;
 use frame::Frame;
 use frame::State;
 ghost use mathlib.Core.Path.{_≡_};
 ghost use lib.ListN.{length};
-
-// The longest image that is taken.
-const IMAGE_ROOM: usize = 1802240;
-
-// The longest file that is taken, and the longest output of a read.
-const FILE_ROOM: usize = 1048576;
 
 // The most memory, and the largest work area, that a program is lent.
 const AREA_ROOM: usize = 524288;
@@ -127,19 +122,7 @@ fn all(
     }
 }
 
-// Rooms for an image, for a file, and for memory or a work area. The `ensures` gives only the length, so that no proof computes the list.
-fn image_room() -> [u8; IMAGE_ROOM]
-    ensures { λ r. ⌜ 1802240 ≡ length r ⌝ }
-{
-    [0; IMAGE_ROOM]
-}
-
-fn file_room() -> [u8; FILE_ROOM]
-    ensures { λ r. ⌜ 1048576 ≡ length r ⌝ }
-{
-    [0; FILE_ROOM]
-}
-
+// Room for memory or a work area. The `ensures` gives only the length, so that no proof computes the list.
 fn area_room() -> [u8; AREA_ROOM]
     ensures { λ r. ⌜ 524288 ≡ length r ⌝ }
 {
@@ -147,9 +130,9 @@ fn area_room() -> [u8; AREA_ROOM]
 }
 
 fn main() {
-    let mut image = image_room();
-    let mut output = file_room();
-    let mut file = file_room();
+    let mut image = rooms::image();
+    let mut output = rooms::file();
+    let mut file = rooms::file();
     let mut memory = area_room();
     let mut work = area_room();
     let mut table = [0u32; TABLE_ROOM];

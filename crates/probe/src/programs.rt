@@ -5,9 +5,10 @@ use crate::checksum::of_bytes;
 use crate::checksum::of_numbers;
 use crate::frame::State;
 use crate::frame::fill;
+use crate::frame::hold;
 use crate::line::say_area;
 use crate::line::say_pair;
-use libc::STDOUT_FILENO;
+use console::say;
 use program::check::Answer;
 
 // The longest list of bases.
@@ -26,36 +27,28 @@ const TABLE: u32 = 0x55555555;
 
 const WORK: u8 = 0xAA;
 
-// Fills `part`, which is to be the held file.
-fn take(state: State, length: u32, part: &mut [u8]) -> State {
-    if fill(part) {
-        io::write_all(STDOUT_FILENO, b"file ");
-        io::print_decimal(STDOUT_FILENO, length as u64);
-        io::write_all(STDOUT_FILENO, b"\n");
-        return state.with_file(length);
-    }
-    state.broken()
-}
-
 // Request 6: the body becomes the held file. It is read straight into the file's room.
 pub fn file(length: u32, state: State, room: &mut [u8]) -> State {
     let n = io::count(length as isize, room);
     if n as u64 != length as u64 {
         return state.refused(length);
     }
-    take(state, length, &mut room[..n])
+    if hold(b"file", length, &mut room[..n]) {
+        return state.with_file(length);
+    }
+    state.broken()
 }
 
 // The line for a call that was made with these areas.
-fn say(verb: &[u8], answer: Answer, memory: &[u8], table: &[u32], work: &[u8]) {
+fn say_call(verb: &[u8], answer: Answer, memory: &[u8], table: &[u32], work: &[u8]) {
     match answer {
         Answer::Accepted(hunks, bytes) => say_pair(verb, hunks, bytes),
-        Answer::Refused(fault) => say_pair(b"refused ", fault.number, fault.place),
+        Answer::Refused(fault) => say_pair(b"refused", fault.number, fault.place),
     }
-    say_area(b" memory ", of_bytes(memory));
-    say_area(b" table ", of_numbers(table));
-    say_area(b" work ", of_bytes(work));
-    io::write_all(STDOUT_FILENO, b"\n");
+    say_area(b" memory", of_bytes(memory));
+    say_area(b" table", of_numbers(table));
+    say_area(b" work", of_bytes(work));
+    say::end();
 }
 
 // Fills the areas, loads the file and answers.
@@ -64,7 +57,7 @@ fn load_into(file: &[u8], bases: &[u32], memory: &mut [u8], table: &mut [u32], w
     fill_numbers(table, TABLE);
     fill_bytes(work, WORK);
     let answer = loader::calls::load(file, bases, memory, table, work);
-    say(b"loaded ", answer, memory, table, work);
+    say_call(b"loaded", answer, memory, table, work);
 }
 
 // Fills the work area, moves the program and answers.
@@ -78,7 +71,7 @@ fn move_in(
 ) {
     fill_bytes(work, WORK);
     let answer = loader::calls::move_program(file, old, new, memory, table, work);
-    say(b"moved ", answer, memory, table, work);
+    say_call(b"moved", answer, memory, table, work);
 }
 
 // A number as a length.
@@ -112,8 +105,8 @@ fn load_by(
     state.with_load(numbers[0], numbers[1])
 }
 
-// A move by so many numbers: memory length, records, work length, count of old bases, old bases, new bases. Memory and table are parts
-// of those that the last load was lent.
+// A move by so many numbers: memory length, records, work length, count of old bases, old bases, new bases. Memory
+// and table are parts of those that the last load was lent.
 fn move_by(
     numbers: &[u32; NUMBERS],
     count: usize,

@@ -4,11 +4,10 @@ use crate::checksum::of_bytes;
 use crate::frame::State;
 use crate::frame::fill;
 use crate::line::say_area;
-use crate::line::say_number;
 use crate::line::say_pair;
 use audit::audit::Audited;
 use audit::audit::Report;
-use libc::STDOUT_FILENO;
+use console::say;
 use lookup::find::Found;
 use reading::read::Reading;
 
@@ -19,30 +18,30 @@ const OUTPUT: u8 = 0xAA;
 
 // The six numbers of an accepted volume.
 fn say_report(report: Report) {
-    io::write_all(STDOUT_FILENO, b"accepted");
-    say_number(report.directories);
-    say_number(report.files);
-    say_number(report.lists);
-    say_number(report.blocks);
-    say_number(report.used);
-    say_number(report.free);
+    say::text(b"accepted");
+    say::number(report.directories);
+    say::number(report.files);
+    say::number(report.lists);
+    say::number(report.blocks);
+    say::number(report.used);
+    say::number(report.free);
 }
 
 // The line for an audit that was made with this claim area.
-fn say(answer: Audited, claim: &[u8]) {
+fn say_audit(answer: Audited, claim: &[u8]) {
     match answer {
         Audited::Accepted(report) => say_report(report),
-        Audited::Refused(fault) => say_pair(b"refused ", fault.number, fault.place),
+        Audited::Refused(fault) => say_pair(b"refused", fault.number, fault.place),
     }
-    say_area(b" claim ", of_bytes(claim));
-    io::write_all(STDOUT_FILENO, b"\n");
+    say_area(b" claim", of_bytes(claim));
+    say::end();
 }
 
 // Fills the claim area, audits the image and answers.
 fn audit_with(image: &[u8], claim: &mut [u8]) {
     fill_bytes(claim, CLAIM);
     let answer = audit::audit::audit(image, claim);
-    say(answer, claim);
+    say_audit(answer, claim);
 }
 
 // Request 3: the length of the claim area.
@@ -67,10 +66,10 @@ pub fn audit_held(length: u32, state: State, room: &[u8]) -> State {
 
 // A found entry: key, size and entries compared.
 fn say_entry(kind: &[u8], key: u32, size: u32, compared: u32) {
-    io::write_all(STDOUT_FILENO, kind);
-    say_number(key);
-    say_number(size);
-    say_number(compared);
+    say::text(kind);
+    say::number(key);
+    say::number(size);
+    say::number(compared);
 }
 
 // The line for a lookup.
@@ -78,9 +77,9 @@ fn say_found(found: Found) {
     match found {
         Found::Directory(key, compared) => say_entry(b"directory", key, 0, compared),
         Found::File(key, size, compared) => say_entry(b"file", key, size, compared),
-        Found::Refused(fault) => say_pair(b"refused ", fault.number, fault.place),
+        Found::Refused(fault) => say_pair(b"refused", fault.number, fault.place),
     }
-    io::write_all(STDOUT_FILENO, b"\n");
+    say::end();
 }
 
 // Fills `path`, looks for it and answers.
@@ -107,13 +106,13 @@ pub fn find_held(length: u32, state: State, room: &[u8]) -> State {
 fn say_reading(reading: Reading, output: &[u8]) {
     match reading {
         Reading::Bytes(count) => {
-            io::write_all(STDOUT_FILENO, b"bytes ");
-            io::print_decimal(STDOUT_FILENO, count as u64);
+            say::text(b"bytes");
+            say::count(count);
         }
-        Reading::Refused(fault) => say_pair(b"refused ", fault.number, fault.place),
+        Reading::Refused(fault) => say_pair(b"refused", fault.number, fault.place),
     }
-    say_area(b" out ", of_bytes(output));
-    io::write_all(STDOUT_FILENO, b"\n");
+    say_area(b" out", of_bytes(output));
+    say::end();
 }
 
 // Fills the output, reads and answers.

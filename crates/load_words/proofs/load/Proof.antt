@@ -1,7 +1,7 @@
 -- `load_words::load` meets its contract. What is accepted fits the memory.
-use mathlib.Core.Path.{refl}
 use borrow.Author.Needs.{needs}
-use Rattle.load_words.proofs.Parts.{cut, fits}
+use Rattle.console.proofs.Lengths.{cut}
+use Rattle.load_words.proofs.Parts.{fits}
 use Rattle.load_words.proofs.load.Statement.{statement}
 use Rattle.load_words.proofs.load.Tie as tie
 
@@ -14,14 +14,14 @@ load-requires c κs = search needs
 enum-known-answer : tie.Need-enum-known-answer
 enum-known-answer c = search needs
 
-slice-reshare-prefix-all : tie.Need-slice-reshare-prefix-all
-slice-reshare-prefix-all c = search (needs, fits) depth 7
+slice-reshare-prefix-words : tie.Need-slice-reshare-prefix-words
+slice-reshare-prefix-words c = search (needs, fits) depth 7
 
-slice-aggregate-all : tie.Need-slice-aggregate-all
-slice-aggregate-all c = cut _ _ _ (search (needs, fits) depth 7) refl
+slice-aggregate-words : tie.Need-slice-aggregate-words
+slice-aggregate-words c = cut _ _ (search (needs, fits) depth 7)
 
-all-requires : tie.Need-all-requires
-all-requires c κs = search needs
+words-requires : tie.Need-words-requires
+words-requires c κs = search needs
 
 enum-known-answer-2 : tie.Need-enum-known-answer-2
 enum-known-answer-2 c = search needs
@@ -54,9 +54,9 @@ load-spec =
     slice-aggregate-load
     load-requires
     enum-known-answer
-    slice-reshare-prefix-all
-    slice-aggregate-all
-    all-requires
+    slice-reshare-prefix-words
+    slice-aggregate-words
+    words-requires
     enum-known-answer-2
     refused-requires
     same-length

@@ -1,6 +1,6 @@
 -- `load_words::run` meets its contract. There are as many bases as hunks at most.
 use borrow.Author.Needs.{needs}
-use Rattle.load_words.proofs.Parts.{cut}
+use Rattle.console.proofs.Lengths.{cut}
 use Rattle.load_words.proofs.run.Statement.{statement}
 use Rattle.load_words.proofs.run.Tie as tie
 
@@ -20,7 +20,7 @@ array-share-prefix-list : tie.Need-array-share-prefix-list
 array-share-prefix-list c = search needs
 
 slice-aggregate-load : tie.Need-slice-aggregate-load
-slice-aggregate-load c = search (needs, cut)
+slice-aggregate-load c = cut _ _ (search needs)
 
 slice-aggregate-load-2 : tie.Need-slice-aggregate-load-2
 slice-aggregate-load-2 c = search needs

@@ -7,7 +7,8 @@ use Rattle.probe.proofs.all.Tie as tie
 
 abbrev Inv-loop : tie.InvT-loop
 Inv-loop image₀ output₀ file₀ memory₀ table₀ work₀ state₀ turns₀ image output file memory table work state turns =
-    (length image ≡ length image₀) × (length output ≡ length output₀) × (length file ≡ length file₀) × (length memory ≡ length memory₀) × (length table ≡ length table₀) × (length work ≡ length work₀)
+    (length image ≡ length image₀) × (length output ≡ length output₀) × (length file ≡ length file₀)
+    × (length memory ≡ length memory₀) × (length table ≡ length table₀) × (length work ≡ length work₀)
 
 abbrev μ-loop : tie.MeasureT-loop
 μ-loop image₀ output₀ file₀ memory₀ table₀ work₀ state₀ turns₀ image output file memory table work state turns = turns

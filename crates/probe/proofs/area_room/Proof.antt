@@ -1,5 +1,5 @@
 -- `probe::area_room` meets its contract.
-use Rattle.probe.proofs.Rooms.{counted}
+use Rattle.console.proofs.Lengths.{counted}
 use Rattle.probe.proofs.area_room.Statement.{statement}
 use Rattle.probe.proofs.area_room.Tie as tie
 

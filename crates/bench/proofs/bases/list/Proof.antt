@@ -1,9 +1,10 @@
--- `bench::bases::list` meets its contract. The list keeps its length, and has room for all; it goes over the arguments once.
+-- `bench::bases::list` meets its contract. The list keeps its length, and has room for all; it goes over the
+-- arguments once.
 use Prim.Native.Nat.{_≤_, _-_}
 use mathlib.Core.Path.{_≡_}
 use borrow.Author.Needs.{needs}
 use lib.ListN.{length}
-use Rattle.bench.proofs.Lent.{cut}
+use Rattle.console.proofs.Lengths.{cut}
 use Rattle.bench.proofs.bases.list.Statement.{statement}
 use Rattle.bench.proofs.bases.list.Tie as tie
 

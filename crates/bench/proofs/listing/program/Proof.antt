@@ -1,6 +1,6 @@
 -- `bench::listing::program` meets its contract. Both are parts of what was lent.
 use borrow.Author.Needs.{needs}
-use Rattle.bench.proofs.Lent.{cut}
+use Rattle.console.proofs.Lengths.{cut}
 use Rattle.bench.proofs.listing.program.Statement.{statement}
 use Rattle.bench.proofs.listing.program.Tie as tie
 

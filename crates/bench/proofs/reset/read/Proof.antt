@@ -1,6 +1,7 @@
 -- `bench::reset::read` meets its contract. What is read fits the output.
 use borrow.Author.Needs.{needs}
-use Rattle.bench.proofs.Lent.{cut, read-fits}
+use Rattle.console.proofs.Lengths.{cut}
+use Rattle.bench.proofs.Lent.{read-fits}
 use Rattle.bench.proofs.reset.read.Statement.{statement}
 use Rattle.bench.proofs.reset.read.Tie as tie
 

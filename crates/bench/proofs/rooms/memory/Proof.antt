@@ -1,5 +1,5 @@
 -- `bench::rooms::memory` meets its contract.
-use Rattle.bench.proofs.Lent.{counted}
+use Rattle.console.proofs.Lengths.{counted}
 use Rattle.bench.proofs.rooms.memory.Statement.{statement}
 use Rattle.bench.proofs.rooms.memory.Tie as tie
 

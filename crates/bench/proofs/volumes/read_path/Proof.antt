@@ -1,6 +1,7 @@
 -- `bench::volumes::read_path` meets its contract. What is read fits the output.
 use borrow.Author.Needs.{needs}
-use Rattle.bench.proofs.Lent.{cut, read-fits}
+use Rattle.console.proofs.Lengths.{cut}
+use Rattle.bench.proofs.Lent.{read-fits}
 use Rattle.bench.proofs.volumes.read_path.Statement.{statement}
 use Rattle.bench.proofs.volumes.read_path.Tie as tie
 

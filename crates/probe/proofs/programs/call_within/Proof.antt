@@ -1,6 +1,6 @@
 -- `probe::programs::call_within` meets its contract. The tests before show that each area has the part that is lent.
 use borrow.Author.Needs.{needs}
-use Rattle.probe.proofs.Rooms.{cut}
+use Rattle.console.proofs.Lengths.{cut}
 use Rattle.probe.proofs.programs.call_within.Statement.{statement}
 use Rattle.probe.proofs.programs.call_within.Tie as tie
 

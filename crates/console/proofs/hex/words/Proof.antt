@@ -1,17 +1,18 @@
--- `bench::listing::words` meets its contract. The page keeps its length, and a line is put where one fits; it goes over the words once.
+-- `console::hex::words` meets its contract. The buffer keeps its length, and a line is put where one fits; it goes
+-- over the words once.
 use Prim.Native.Nat.{_≤_, _-_, _/_}
 use mathlib.Core.Path.{_≡_}
 use borrow.Author.Needs.{needs}
 use lib.ListN.{length}
-use Rattle.bench.proofs.Lent.{cut}
-use Rattle.bench.proofs.listing.words.Statement.{statement}
-use Rattle.bench.proofs.listing.words.Tie as tie
+use Rattle.console.proofs.Lengths.{cut}
+use Rattle.console.proofs.hex.words.Statement.{statement}
+use Rattle.console.proofs.hex.words.Tie as tie
 
 abbrev Inv-loop : tie.InvT-loop
-Inv-loop bytes page₀ at₀ i₀ page at i = (i ≤ length bytes / 4) × (at ≤ 4096) × (4096 ≡ length page)
+Inv-loop fd bytes buffer₀ at₀ i₀ buffer at i = (i ≤ length bytes / 4) × (at ≤ 4096) × (4096 ≡ length buffer)
 
 abbrev μ-loop : tie.MeasureT-loop
-μ-loop bytes page₀ at₀ i₀ page at i = length bytes / 4 - i
+μ-loop fd bytes buffer₀ at₀ i₀ buffer at i = length bytes / 4 - i
 
 buffer-requires : tie.Need-buffer-requires Inv-loop μ-loop
 buffer-requires c κs = search needs
@@ -49,8 +50,8 @@ loop-less c = search needs
 loop-again : tie.Need-loop-again Inv-loop μ-loop
 loop-again c = search needs
 
-array-share-prefix-page : tie.Need-array-share-prefix-page Inv-loop μ-loop
-array-share-prefix-page c = search needs
+array-share-prefix-buffer : tie.Need-array-share-prefix-buffer Inv-loop μ-loop
+array-share-prefix-buffer c = search needs
 
 slice-aggregate-write-all : tie.Need-slice-aggregate-write-all Inv-loop μ-loop
 slice-aggregate-write-all c = cut _ _ (search needs)
@@ -79,7 +80,7 @@ words-spec =
     add-i
     loop-less
     loop-again
-    array-share-prefix-page
+    array-share-prefix-buffer
     slice-aggregate-write-all
     write-all-requires
     returns)

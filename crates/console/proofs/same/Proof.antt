@@ -1,9 +1,9 @@
--- `bench::arguments::same` meets its contract. It goes over the bytes once.
+-- `console::same` meets its contract. It goes over the bytes once.
 use Prim.Native.Nat.{_≤_, _-_}
 use borrow.Author.Needs.{needs}
 use lib.ListN.{length}
-use Rattle.bench.proofs.arguments.same.Statement.{statement}
-use Rattle.bench.proofs.arguments.same.Tie as tie
+use Rattle.console.proofs.same.Statement.{statement}
+use Rattle.console.proofs.same.Tie as tie
 
 abbrev Inv-loop : tie.InvT-loop
 Inv-loop a b i₀ i = i ≤ length a

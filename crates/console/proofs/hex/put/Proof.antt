@@ -1,16 +1,16 @@
--- `bench::listing::put` meets its contract. The page keeps its length; it goes over the line once.
+-- `console::hex::put` meets its contract. The buffer keeps its length; it goes over the line once.
 use Prim.Native.Nat.{_≤_, _-_}
 use mathlib.Core.Path.{_≡_}
 use borrow.Author.Needs.{needs}
 use lib.ListN.{length}
-use Rattle.bench.proofs.listing.put.Statement.{statement}
-use Rattle.bench.proofs.listing.put.Tie as tie
+use Rattle.console.proofs.hex.put.Statement.{statement}
+use Rattle.console.proofs.hex.put.Tie as tie
 
 abbrev Inv-loop : tie.InvT-loop
-Inv-loop w page₀ at text i₀ page i = (i ≤ 9) × (length page ≡ length page₀)
+Inv-loop w buffer₀ at text i₀ buffer i = (i ≤ 9) × (length buffer ≡ length buffer₀)
 
 abbrev μ-loop : tie.MeasureT-loop
-μ-loop w page₀ at text i₀ page i = 9 - i
+μ-loop w buffer₀ at text i₀ buffer i = 9 - i
 
 line-requires : tie.Need-line-requires Inv-loop μ-loop
 line-requires c κs = search needs
@@ -18,14 +18,14 @@ line-requires c κs = search needs
 loop-holds : tie.Need-loop-holds Inv-loop μ-loop
 loop-holds c = search needs
 
-array-read-page : tie.Need-array-read-page Inv-loop μ-loop
-array-read-page c = search needs
+array-read-buffer : tie.Need-array-read-buffer Inv-loop μ-loop
+array-read-buffer c = search needs
 
-add-page : tie.Need-add-page Inv-loop μ-loop
-add-page c = search needs
+add-buffer : tie.Need-add-buffer Inv-loop μ-loop
+add-buffer c = search needs
 
-slice-write-page : tie.Need-slice-write-page Inv-loop μ-loop
-slice-write-page c = search needs
+slice-write-buffer : tie.Need-slice-write-buffer Inv-loop μ-loop
+slice-write-buffer c = search needs
 
 add-i : tie.Need-add-i Inv-loop μ-loop
 add-i c = search needs
@@ -50,9 +50,9 @@ put-spec =
     μ-loop
     line-requires
     loop-holds
-    array-read-page
-    add-page
-    slice-write-page
+    array-read-buffer
+    add-buffer
+    slice-write-buffer
     add-i
     loop-less
     loop-again

@@ -1,8 +1,8 @@
--- `bench::listing::next` meets its contract. What is written is a part of the page.
+-- `console::hex::next` meets its contract. What is written is a part of the buffer.
 use borrow.Author.Needs.{needs}
-use Rattle.bench.proofs.Lent.{cut}
-use Rattle.bench.proofs.listing.next.Statement.{statement}
-use Rattle.bench.proofs.listing.next.Tie as tie
+use Rattle.console.proofs.Lengths.{cut}
+use Rattle.console.proofs.hex.next.Statement.{statement}
+use Rattle.console.proofs.hex.next.Tie as tie
 
 slice-aggregate-write-all : tie.Need-slice-aggregate-write-all
 slice-aggregate-write-all c = search (needs, cut)

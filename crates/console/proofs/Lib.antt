@@ -1,0 +1,3 @@
+-- Laws for this crate and the programs above it.
+pub mod Glyphs
+pub mod Lengths
