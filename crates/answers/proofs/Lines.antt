@@ -47,15 +47,6 @@ module _ (text : List ℕ) (at i : ℕ) (e : Ending text at i) where
 
 -- ---- the first line
 
-pub line-short : (text : List ℕ) → length (line text) ≤ length text
-unfolding line pick
-line-short [] = omega arith
-line-short (b ∷ text) = go (eqb b newline) (line-short text)
-  where
-    go : (t : Bool) → length (line text) ≤ length text → length (pick t [] (b ∷ line text)) ≤ suc (length text)
-    go true h = omega arith
-    go false h = omega arith
-
 pub take-line : (text : List ℕ) → take (length (line text)) text ≡ line text
 unfolding line pick
 take-line [] = refl

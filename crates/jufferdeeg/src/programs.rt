@@ -13,7 +13,7 @@ pub struct ProgramNumbers {
     pub bytes: usize,
 }
 
-pub fn program_numbers(a: Answer) -> ProgramNumbers
+pub(crate) fn program_numbers(a: Answer) -> ProgramNumbers
     ensures { λ r. ⌜ r ≡ programNumbers a ⌝ }
 {
     match a {

@@ -39,7 +39,7 @@ pub struct ReadNumbers {
     pub count: usize,
 }
 
-pub fn audit_numbers(a: Audited) -> AuditNumbers
+fn audit_numbers(a: Audited) -> AuditNumbers
     ensures { λ r. ⌜ r ≡ auditNumbers a ⌝ }
 {
     match a {
@@ -66,7 +66,7 @@ pub fn audit_numbers(a: Audited) -> AuditNumbers
     }
 }
 
-pub fn find_numbers(a: Found) -> FindNumbers
+fn find_numbers(a: Found) -> FindNumbers
     ensures { λ r. ⌜ r ≡ findNumbers a ⌝ }
 {
     match a {
@@ -97,7 +97,7 @@ pub fn find_numbers(a: Found) -> FindNumbers
     }
 }
 
-pub fn read_numbers(a: Reading) -> ReadNumbers
+fn read_numbers(a: Reading) -> ReadNumbers
     ensures { λ r. ⌜ r ≡ readNumbers a ⌝ }
 {
     match a {
