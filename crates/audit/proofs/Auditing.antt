@@ -19,7 +19,7 @@ use Rattle.reach.proofs.Claims.{free-all}
 use Rattle.reach.proofs.Runs.{run-end}
 use Rattle.volume.specs.declared.disk.Disk.{Disk}
 use Rattle.volume.specs.Disks.{Sized, mostBlocks, floppy, imageBytes, claimBytes, tagOf, rootOf}
-use Rattle.volume.specs.Blocks.{slots, Holds, wordOf}
+use Rattle.volume.specs.Blocks.{slots, wordOf}
 use Rattle.volume.proofs.Sizes.{range-is}
 use Rattle.walk.specs.declared.Counts.{Counts}
 use Rattle.walk.specs.Nodes.{Node, root, bitmap, leadsTo, noted, slotNodes, nothing, graph, walkOf}
@@ -33,7 +33,8 @@ use Rattle.audit.specs.declared.audit.Audited.{Audited}
 use Rattle.audit.specs.declared.audit.Audited.the-variants.{Accepted, Refused}
 use Rattle.audit.specs.Walks.{Met, Walks, Ready, total, goesOn}
 use Rattle.audit.specs.Bits.{bitsOf}
-use Rattle.audit.specs.Audits.{numbersOf, refuse, reportOf, claimAfter, auditOf, Fresh, Within, Tagged, Audits}
+use Rattle.audit.specs.Audits.{numbersOf, refuse, reportOf, claimAfter, auditOf, Audits}
+use Rattle.audit.specs.Parts.{Fresh, Within, Tagged}
 use Rattle.audit.proofs.Walking.{walks-none, walks-stopped, walks-then, walks-part, met-inside, met-stops, met-goes, ready-met}
 
 -- ---- a claim area of zeros, with a byte for each block
@@ -53,9 +54,6 @@ module _ (d : Disk) (s cl cl₁ : List ℕ) (f : ℕ) (m : Met d s root cl f cl�
 
   pub root-range : f ≡ 0 → (k : ℕ) → k ≡ rootOf d → k < d .blocks
   root-range z k e = rw e (met-inside d s root cl cl₁ f m z)
-
-  pub root-inside : f ≡ 0 → (k : ℕ) → k ≡ rootOf d → length s ≡ imageBytes d → Holds s k
-  root-inside z k e l = omega (arith, root-range z k e)
 
   pub root-ready : f ≡ 0 → Sized d → length s ≡ imageBytes d → cl ≡ replicate (claimBytes d) 0 → length cl₁ ≡ length cl → Ready d s cl₁ nothing
   unfolding noted

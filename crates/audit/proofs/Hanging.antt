@@ -211,6 +211,7 @@ module _ (d : Disk) (s : List ℕ) (t i : ℕ) where
     pub long : length cl ≡ length cl₀
     pub chain : Chain d s t i p
     pub here : k ≡ chainKey s (slotWord s t i) p
+    -- the position on a chain stays small: each entry before it has claimed a block
     pub few : p + free cl ≤ free cl₀
     pub most : free cl₀ ≤ mostBlocks
     pub walked : Walks d s (chainFrom (slotWord s t i) 0) (chainFrom k p) n₀ cl₀ (Done n) cl
@@ -229,10 +230,6 @@ module _ (d : Disk) (s : List ℕ) (t i : ℕ) where
       }
 
   module _ (n₀ : Counts) (cl₀ cl : List ℕ) (n : Counts) (k p : ℕ) (v : ChainInv n₀ cl₀ cl n k p) where
-    -- the position on a chain stays small: each entry before it has claimed a block
-    pub chain-few : p ≤ mostBlocks
-    chain-few = omega (arith, v .few, v .most)
-
     module _ (w : Walked) (cl′ : List ℕ) (h : k ≡ 0 → ⊥) (u : EntryWalked d s k t i p n cl w cl′) where
       chain-on : Walks d s (chainFrom (slotWord s t i) 0) (chainFrom (wordOf s k 124) (p + 1)) n₀ cl₀ w cl′
       chain-on = rw (append-nil _) at (walks-then d s _ _ (entry k t i p ∷ []) _ [] n₀ n cl₀ cl cl′ (Done n) w (v .walked) refl (is-link k h) (u .walks))

@@ -7,3 +7,5 @@ pub mod Bits
 pub mod Audits
 -- what the answer means
 pub mod Verdicts
+-- what the parts of the code ask and promise
+pub mod Parts

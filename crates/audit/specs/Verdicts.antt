@@ -3,7 +3,6 @@
 use Prim.Native.Nat.{ℕ, zero, suc, _+_, _≤_, _<_}
 use mathlib.Core.Path.{_≡_}
 use mathlib.Core.Logic.{_≢_, _⊎_}
-use mathlib.Core.Bool.{true, false}
 use mathlib.Core.List.{List, map}
 use lib.Dec.{eqb}
 use lib.ListN.{length, getD}
@@ -51,15 +50,11 @@ pub record Claimed (d : Disk) (s : List ℕ) (n : ℕ) (claim : List ℕ) : Type
 
 -- ---- refused
 
--- k is called free though it is reached, or in use though it is not
-abbrev pub BitWrong : Disk → List ℕ → ℕ → Type 0
-BitWrong d s k = ((isFree s (bitmapKeyOf d s) k ≡ true) × Used d s k) ⊎ ((isFree s (bitmapKeyOf d s) k ≡ false) × (¬ Used d s k))
-
--- k is the lowest block whose bit is wrong
+-- k is the lowest block whose bit is wrong: free though it is reached, or in use though it is not
 pub record FirstWrong (d : Disk) (s : List ℕ) (k : ℕ) : Type 0 where
   pub low : firstKey ≤ k
   pub high : k < d .blocks
-  pub wrong : BitWrong d s k
+  pub wrong : BitRight d s k → ⊥
   pub before : (j : ℕ) → firstKey ≤ j → j < k → BitRight d s j
 
 -- what is tested before the walk

@@ -16,7 +16,8 @@ ghost use Prim.Native.Nat.{_+_, _≤_};
 ghost use lib.ListN.{length, replicate};
 ghost use Rattle.volume.specs.Disks.{Sized, mostBlocks, floppy, imageBytes, claimBytes};
 ghost use Rattle.audit.specs.Walks.{total};
-ghost use Rattle.audit.specs.Audits.{refuse, reportOf, Fresh, Within, Tagged, Audits};
+ghost use Rattle.audit.specs.Audits.{refuse, reportOf, Audits};
+ghost use Rattle.audit.specs.Parts.{Fresh, Within, Tagged};
 
 // How much there is of what: directories without the root, files, list blocks, data blocks; then all blocks in use, and those that are free.
 pub struct Report {

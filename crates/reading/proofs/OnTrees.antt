@@ -112,7 +112,7 @@ filled-whole bytes output h = rw (take-all (length output) bytes h) refl
 
 module _ (d : Disk) (s : List ℕ) (v : Tree d s) where
   intact : (a : Kind) (k : ℕ) → Reached (references d s) (to a k) → Intact d s k
-  intact a k r = record { low = v .keys (to a k) r .0; inside = v .keys (to a k) r .1; sum = v .sums (to a k) r }
+  intact a k r = let p = v .keys (to a k) r in record { inside = record { low = p .0; high = p .1 }; sum = v .sums (to a k) r }
 
   -- Every reached file is whole, and passes its tests.
   pub tree-file-whole : (k : ℕ) → Reached (references d s) (to Kind.entry k) → directory s k ≡ false → FileWhole d s k

@@ -104,7 +104,7 @@ pub followed : (d : Disk) (s : List ℕ) (k : ℕ) (t : Tested) → t ≡ blocks
 followed d s k t e q =
     let p : blocksFault d s k ≡ Passed = sym e ∙ q in
     let w = tested-whole d s k p in
-    record { size = w .file .size; keys = λ b a. w .keys b a .inside; following = w .file .following }
+    record { size = w .file .size; keys = λ b a. w .keys b a .inside .high; following = w .file .following }
 
 -- what is found is a file with a key in the volume
 module _ (d : Disk) (s path : List ℕ) (f : Found) (e : f ≡ findOf d s path) (k z c : ℕ) (g : f ≡ found.File k z c) where

@@ -2,13 +2,12 @@
 -- refused, with which number at which block (docs/FORMAT.md, "Paths and reads" and "Numbers").
 use Prim.Native.Nat.{ℕ, suc, _+_, _-_, _*_, _/_, _≤_, _<_, min}
 use mathlib.Core.Path.{_≡_}
-use mathlib.Core.List.{List, _∷_}
+use mathlib.Core.List.{List}
 use lib.ListN.{length, getD}
 use Rattle.reach.specs.References.{At, _∈_}
 use Rattle.answers.specs.Numbers as fault
 use Rattle.answers.specs.Refusals.{refusal}
 use Rattle.volume.specs.declared.disk.Disk.{Disk}
-use Rattle.volume.specs.Disks.{firstKey}
 use Rattle.volume.specs.Blocks.{slots, wordOf, sumOf}
 use Rattle.volume.specs.Files.{blocksOf, listsOf, keysOf}
 use Rattle.volume.specs.Law.{File}
@@ -21,8 +20,7 @@ use Rattle.reading.specs.Reads.{lastComponent}
 
 -- a block that lies after the boot blocks, in the volume, and whose sum is 0
 pub record Intact (d : Disk) (s : List ℕ) (k : ℕ) : Type 0 where
-  pub low : firstKey ≤ k
-  pub inside : k < d .blocks
+  pub inside : Inside d k
   pub sum : sumOf s k ≡ 0
 
 -- it is as the law says, with all of its blocks

@@ -14,7 +14,7 @@ use Rattle.volume.specs.Disks.{rootOf}
 use Rattle.volume.specs.Blocks.{slots, wordOf, sumOf, slotWord, directory, dataType, fileKind}
 use Rattle.volume.specs.Names.{nameOf, nameGood, folded, slotOf}
 use Rattle.volume.specs.Files.{blocksOf, listsOf}
-use Rattle.volume.specs.References.{Kind, Ref, to, references}
+use Rattle.volume.specs.References.{Kind, to, references}
 use Rattle.volume.specs.Law.{OneBitmap, Valid, chainKey, Hangs, KeyCount, ListBlock, RootKind, RootFixed, EntryKind, ListKind}
 use Rattle.volume.specs.Breaks.{Inside, RootSound, RootBreaks, MapBreaks, BitmapBreaks, Link, EntryTies, EntrySound, EntryBreaks, HeaderSound, HeaderBreaks, ListBreaks, IsData, DataTies, DataBreaks}
 use Rattle.walk.specs.Nodes.{Node, root, bitmap, entry, list, datum, keyOf, leadsTo}
