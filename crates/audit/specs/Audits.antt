@@ -1,5 +1,5 @@
--- What an audit answers, and what it leaves in the claim area (docs/FORMAT.md, "Order of the walk" and "Numbers"): the image's length, the
--- claim area, the boot tag, then the walk from the root, and the bitmap last.
+-- What an audit answers, and what it leaves in the claim area (docs/FORMAT.md, "Order of the walk" and "Numbers"):
+-- the image's length, the claim area, the boot tag, then the walk from the root, and the bitmap last.
 use Prim.Native.Nat.{ℕ, _+_, _-_}
 use mathlib.Core.Path.{_≡_}
 use mathlib.Core.List.{List, [], _∷_, _++_}
@@ -37,7 +37,9 @@ numbersOf (Refused r) = record { number = r .number; place = r .place; report = 
 
 -- the numbers of the walk's refusals
 abbrev pub walkRefusals : List ℕ
-walkRefusals = fault.rootWords ∷ fault.badKey ∷ fault.claimedTwice ∷ fault.blockSum ∷ fault.blockType ∷ fault.link ∷ fault.wrongTies ∷ fault.badName ∷ fault.wrongSlot ∷ fault.doubleName ∷ fault.fileLayout ∷ fault.dataLayout ∷ fault.bitmapWords ∷ []
+walkRefusals =
+    fault.rootWords ∷ fault.badKey ∷ fault.claimedTwice ∷ fault.blockSum ∷ fault.blockType ∷ fault.link
+    ∷ fault.wrongTies ∷ fault.badName ∷ fault.wrongSlot ∷ fault.doubleName ∷ fault.fileLayout ∷ fault.dataLayout ∷ fault.bitmapWords ∷ []
 
 -- and of all that an audit gives
 abbrev pub auditRefusals : List ℕ
@@ -49,7 +51,14 @@ refuse v k = Refused (refusal v k)
 -- used: what is counted, the root and the bitmap block
 abbrev pub reportOf : Counts → ℕ → Report
 reportOf c free =
-    record { directories = c .directories; files = c .files; lists = c .lists; blocks = c .blocks; used = c .directories + c .files + c .lists + c .blocks + 2; free = free }
+    record {
+      directories = c .directories;
+      files = c .files;
+      lists = c .lists;
+      blocks = c .blocks;
+      used = c .directories + c .files + c .lists + c .blocks + 2;
+      free = free;
+    }
 
 -- ---- the answer
 

@@ -1,5 +1,5 @@
--- What an audit's answer means, said of blocks, kinds and bits (docs/FORMAT.md, "Order of the walk" and "Numbers"): the six numbers of a
--- report, the claim area after it, and the cause of each refusal.
+-- What an audit's answer means, said of blocks, kinds and bits (docs/FORMAT.md, "Order of the walk" and "Numbers"):
+-- the six numbers of a report, the claim area after it, and the cause of each refusal.
 use Prim.Native.Nat.{ℕ, zero, suc, _+_, _≤_, _<_}
 use mathlib.Core.Path.{_≡_}
 use mathlib.Core.Logic.{_≢_, _⊎_}
@@ -22,7 +22,8 @@ use Rattle.audit.specs.declared.audit.Report.{Report}
 -- how many of the n blocks from block k on the bitmap block `bitmapKey` calls free
 unfoldable pub freeFrom : List ℕ → ℕ → ℕ → ℕ → ℕ
 freeFrom s bitmapKey k zero = 0
-freeFrom s bitmapKey k (suc n) = pick (isFree s bitmapKey k) (suc (freeFrom s bitmapKey (suc k) n)) (freeFrom s bitmapKey (suc k) n)
+freeFrom s bitmapKey k (suc n) =
+    pick (isFree s bitmapKey k) (suc (freeFrom s bitmapKey (suc k) n)) (freeFrom s bitmapKey (suc k) n)
 
 -- ---- accepted
 
@@ -68,7 +69,9 @@ pub data Test : Type 0 where
   size area tag walk bits : Test
 
 abbrev pub testOf : ℕ → Test
-testOf v = pick (eqb v fault.imageLength) size (pick (eqb v fault.claimArea) area (pick (eqb v fault.bootTag) tag (pick (eqb v fault.wrongBit) bits walk)))
+testOf v =
+    pick (eqb v fault.imageLength) size
+    (pick (eqb v fault.claimArea) area (pick (eqb v fault.bootTag) tag (pick (eqb v fault.wrongBit) bits walk)))
 
 -- of an image s and a claim area of n bytes: when a test refuses with v at place k
 abbrev pub Says : Disk → List ℕ → ℕ → ℕ → ℕ → Test → Type 0
