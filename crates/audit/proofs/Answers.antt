@@ -7,6 +7,7 @@ use mathlib.Core.List.{List}
 use lib.Dec.{eqb, ltb}
 use lib.ListN.{length}
 use borrow.Author.Tests.{ltb-true, ltb-false, eqb-true, eqb-false, lt-ltb, le-ltb, eq-eqb, ne-eqb}
+use Rattle.answers.specs.Numbers as fault
 use Rattle.answers.specs.Tests.{pick}
 use Rattle.words.specs.Word.{wordAt}
 use Rattle.reach.specs.Walk.{Outcome, done, refused, Accepted as Through}
@@ -74,7 +75,7 @@ module _ (d : Disk) (s : List ℕ) (n : ℕ) where
   answers = go (eqb (length s) (imageBytes d)) refl (ltb n (claimBytes d)) refl (eqb (wordAt s 0) (tagOf d)) refl
     where
       go : (a : Bool) → eqb (length s) (imageBytes d) ≡ a → (b : Bool) → ltb n (claimBytes d) ≡ b → (c : Bool) → eqb (wordAt s 0) (tagOf d) ≡ c
-          → Answers (pick a (pick b (refuse 2 0) (pick c (walked d s (walkOf d s)) (refuse 3 0))) (refuse 1 0))
+          → Answers (pick a (pick b (refuse fault.claimArea 0) (pick c (walked d s (walkOf d s)) (refuse fault.bootTag 0))) (refuse fault.imageLength 0))
       go false p b q c r = (refl, eqb-false _ _ p)
       go true p true q c r = (refl, eqb-true _ _ p, ltb-true _ _ q)
       go true p false q false r = (refl, eqb-true _ _ p, ltb-false _ _ q, eqb-false _ _ r)

@@ -8,10 +8,10 @@ use lib.Dec.{eqb}
 use lib.ListN.{length, take, drop, replicate, length-append, length-replicate, replicate-append-replicate}
 use lib.Seq.{drop-at}
 use borrow.Author.Tests.{lt-ltb, le-ltb, eq-eqb, ne-eqb}
+use Rattle.answers.specs.Numbers as fault
 use Rattle.answers.specs.declared.Refusal.{Refusal}
 use Rattle.answers.specs.Refusals.{refusal}
 use Rattle.answers.specs.Tests.{pick}
-use Rattle.answers.proofs.Tests.{must-passed}
 use Rattle.words.specs.Word.{wordAt}
 use Rattle.reach.specs.References.{top, ref}
 use Rattle.reach.specs.Walk.{done, refused, audit, free, Accepted as Through}
@@ -19,10 +19,10 @@ use Rattle.reach.proofs.Claims.{free-all}
 use Rattle.reach.proofs.Runs.{run-end}
 use Rattle.volume.specs.declared.disk.Disk.{Disk}
 use Rattle.volume.specs.Disks.{Sized, mostBlocks, floppy, imageBytes, claimBytes, tagOf, rootOf}
-use Rattle.volume.specs.Blocks.{slots, Holds, wordOf}
-use Rattle.volume.proofs.Sizes.{range-is}
+use Rattle.volume.specs.Blocks.{slots, wordOf}
 use Rattle.walk.specs.declared.Counts.{Counts}
 use Rattle.walk.specs.Nodes.{Node, root, bitmap, leadsTo, noted, slotNodes, nothing, graph, walkOf}
+use Rattle.walk.proofs.Passes.{key-passed}
 use Rattle.walk.proofs.Accepts.{accepted-lawful}
 use Rattle.audit.specs.declared.walked.Walked.{Walked}
 use Rattle.audit.specs.declared.walked.Walked.the-variants.{Done, Stopped}
@@ -33,7 +33,8 @@ use Rattle.audit.specs.declared.audit.Audited.{Audited}
 use Rattle.audit.specs.declared.audit.Audited.the-variants.{Accepted, Refused}
 use Rattle.audit.specs.Walks.{Met, Walks, Ready, total, goesOn}
 use Rattle.audit.specs.Bits.{bitsOf}
-use Rattle.audit.specs.Audits.{numbersOf, refuse, reportOf, claimAfter, auditOf, Fresh, Within, Tagged, Audits}
+use Rattle.audit.specs.Audits.{numbersOf, refuse, reportOf, claimAfter, auditOf, Audits}
+use Rattle.audit.specs.Parts.{Fresh, Within, Tagged}
 use Rattle.audit.proofs.Walking.{walks-none, walks-stopped, walks-then, walks-part, met-inside, met-stops, met-goes, ready-met}
 
 -- ---- a claim area of zeros, with a byte for each block
@@ -53,9 +54,6 @@ module _ (d : Disk) (s cl cl₁ : List ℕ) (f : ℕ) (m : Met d s root cl f cl�
 
   pub root-range : f ≡ 0 → (k : ℕ) → k ≡ rootOf d → k < d .blocks
   root-range z k e = rw e (met-inside d s root cl cl₁ f m z)
-
-  pub root-inside : f ≡ 0 → (k : ℕ) → k ≡ rootOf d → length s ≡ imageBytes d → Holds s k
-  root-inside z k e l = omega (arith, root-range z k e)
 
   pub root-ready : f ≡ 0 → Sized d → length s ≡ imageBytes d → cl ≡ replicate (claimBytes d) 0 → length cl₁ ≡ length cl → Ready d s cl₁ nothing
   unfolding noted
@@ -112,7 +110,7 @@ module _ (d : Disk) (s cl cl′ : List ℕ) (w : Walked) (z : cl ≡ replicate (
     unfolding leadsTo
     bitmap-inside k bitmapKey g p =
         let f = accepted-lawful d s .0 (subst Through (sym (walk-done c e)) tt) .0 in
-        rw (p, g) (range-is d _ (must-passed _ 4 (f (bitmap (wordOf s (rootOf d) 79)) (ref 0 (top refl) refl) .0)) .1)
+        rw (p, g) (key-passed d _ (f (bitmap (wordOf s (rootOf d) 79)) (ref 0 (top refl) refl) .0) .1)
 
     module _ (k bitmapKey : ℕ) (g : k ≡ rootOf d) (p : bitmapKey ≡ wordOf s k 79) (b : Mapped) (q : b ≡ bitsOf d s bitmapKey cl′) where
       bits-so : bitsOf d s (wordOf s (rootOf d) 79) cl′ ≡ b
@@ -121,7 +119,7 @@ module _ (d : Disk) (s cl cl′ : List ℕ) (w : Walked) (z : cl ≡ replicate (
       pub within-right : (n : ℕ) (x : Report) → b ≡ Right n → x ≡ reportOf c n → Within d s (Accepted x) cl′
       within-right n x y u = record { answer = rw (walk-done c e, bits-so, y, u) refl; claims = λ _ _. rw (walk-done c e) refl }
 
-      pub within-wrong : (j : ℕ) (r : Audited) (cl″ : List ℕ) → b ≡ Wrong j → r ≡ refuse 17 j → Within d s r cl″
+      pub within-wrong : (j : ℕ) (r : Audited) (cl″ : List ℕ) → b ≡ Wrong j → r ≡ refuse fault.wrongBit j → Within d s r cl″
       within-wrong j r cl″ y q = record { answer = q ∙ rw (walk-done c e, bits-so, y) refl; claims = λ x u. absurd (let v : _≡_ {A = ℕ} 0 1 = cc in omega arith) }
 
 -- ---- a claim area that is longer than the blocks
@@ -172,17 +170,17 @@ audited : (d : Disk) (s : List ℕ) (n : ℕ) (r : Audited) (claim′ : List ℕ
 audited d s n r claim′ e c = record { answer = e; numbers = ap numbersOf e; claim = c }
 
 module _ (d : Disk) (s X : List ℕ) (n b : ℕ) (r : Audited) (z : X ≡ replicate n 0) (e : b ≡ imageBytes d) where
-  pub audit-length : (length s ≡ b → ⊥) → r ≡ refuse 1 0 → Audits d s n r X
+  pub audit-length : (length s ≡ b → ⊥) → r ≡ refuse fault.imageLength 0 → Audits d s n r X
   unfolding auditOf pick
   audit-length h q = audited d s n r X (q ∙ rw (ne-eqb (length s) (imageBytes d) (λ f. h (f ∙ sym e))) refl) (rw q z)
 
   module _ (l : length s ≡ b) (a m : ℕ) (f : a ≡ claimBytes d) (g : m ≡ n) where
-    pub audit-short : m < a → r ≡ refuse 2 0 → Audits d s n r X
+    pub audit-short : m < a → r ≡ refuse fault.claimArea 0 → Audits d s n r X
     unfolding auditOf pick
     audit-short h q = audited d s n r X (q ∙ rw (eq-eqb (length s) (imageBytes d) (l ∙ e), lt-ltb n (claimBytes d) (omega arith)) refl) (rw q z)
 
     module _ (h : a ≤ m) (t : Bool) (u : t ≡ eqb (wordAt s 0) (tagOf d)) where
-      pub audit-untagged : t ≡ false → r ≡ refuse 3 0 → Audits d s n r X
+      pub audit-untagged : t ≡ false → r ≡ refuse fault.bootTag 0 → Audits d s n r X
       unfolding auditOf pick
       audit-untagged v q = audited d s n r X (q ∙ rw (eq-eqb (length s) (imageBytes d) (l ∙ e), le-ltb n (claimBytes d) (omega arith), sym u ∙ v) refl) (rw q z)
 

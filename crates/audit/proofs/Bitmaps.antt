@@ -23,7 +23,7 @@ use Rattle.walk.specs.Reports.{Walked}
 use Rattle.audit.specs.declared.bitmap.Mapped.{Mapped}
 use Rattle.audit.specs.declared.bitmap.Mapped.the-variants.{Right, Wrong}
 use Rattle.audit.specs.Bits.{bitWrong, bitsFrom, bitsOf}
-use Rattle.audit.specs.Verdicts.{freeFrom, BitWrong, FirstWrong}
+use Rattle.audit.specs.Verdicts.{freeFrom, FirstWrong}
 
 -- ---- of any claims
 
@@ -106,19 +106,12 @@ module _ (u : Bool) (U : Type 0) where
   abbrev Fits : Type 0
   Fits = (u ≡ false) ↔ U
 
-  abbrev Fails : Type 0
-  Fails = ((u ≡ true) × U) ⊎ ((u ≡ false) × (¬ U))
-
-  fits-or-fails : Fits → Fails → ⊥
-  fits-or-fails h (inl f) = let e = h .1 (f .1) in let g = f .0 in impossible cc
-  fits-or-fails h (inr f) = f .1 (h .0 (f .0))
-
-judged : (u : Bool) (b : ℕ) (U : Type 0) → ((b ≡ 1) × U) ⊎ ((b ≡ 0) × (¬ U)) → ((bitWrong u b ≡ false) × Fits u U) ⊎ ((bitWrong u b ≡ true) × Fails u U)
+judged : (u : Bool) (b : ℕ) (U : Type 0) → ((b ≡ 1) × U) ⊎ ((b ≡ 0) × (¬ U)) → ((bitWrong u b ≡ false) × Fits u U) ⊎ ((bitWrong u b ≡ true) × (Fits u U → ⊥))
 unfolding bitWrong pick
-judged true b U (inl h) = inr (rw (h .0), inl (refl, h .1))
+judged true b U (inl h) = inr (rw (h .0), λ f. let e = f .1 (h .1) in impossible cc)
 judged true b U (inr h) = inl (rw (h .0), ((λ e. impossible cc), λ x. absurd (h .1 x)))
 judged false b U (inl h) = inl (rw (h .0), ((λ e. h .1), λ x. refl))
-judged false b U (inr h) = inr (rw (h .0), inr (refl, h .1))
+judged false b U (inr h) = inr (rw (h .0), λ f. h .1 (f .0 refl))
 
 module _ (d : Disk) (s c : List ℕ) (n : Counts) (w : Walked d s c n) where
   -- the claim byte of a block, as the bitmap's test reads it
@@ -128,10 +121,9 @@ module _ (d : Disk) (s c : List ℕ) (n : Counts) (w : Walked d s c n) where
   abbrev bad : ℕ → Bool
   bad k = wrongAt s (bitmapKeyOf d s) c k
 
-  bit : (k : ℕ) → k < d .blocks → ((bad k ≡ false) ↔ BitRight d s k) × ((bad k ≡ true) ↔ BitWrong d s k)
+  bit : (k : ℕ) → k < d .blocks → ((bad k ≡ false) ↔ BitRight d s k) × ((bad k ≡ true) ↔ (BitRight d s k → ⊥))
   bit k l =
-      either-way (judged (isFree s (bitmapKeyOf d s) k) (getD c k 0) (Used d s k) (claim-byte k l)) (λ a b. clash s (bitmapKeyOf d s) c k b a)
-      (fits-or-fails (isFree s (bitmapKeyOf d s) k) (Used d s k))
+      either-way (judged (isFree s (bitmapKeyOf d s) k) (getD c k 0) (Used d s k) (claim-byte k l)) (λ a b. clash s (bitmapKeyOf d s) c k b a) (λ p q. q p)
 
   pub bits-right : (f : ℕ) → (bitsOf d s (bitmapKeyOf d s) c ≡ Right f) ↔ (((k : ℕ) → firstKey ≤ k → k < d .blocks → BitRight d s k) × (f ≡ freeFrom s (bitmapKeyOf d s) firstKey (bitSpan d)))
   bits-right f = (

@@ -8,10 +8,11 @@ use native.Mathlib.Nat.{le-refl}
 use native.Mathlib.Numerals.{add-one}
 use native.Mathlib.Decide.{decLt}
 use lib.ListN.{length}
+use Rattle.answers.specs.Numbers as fault
 use Rattle.answers.specs.declared.Refusal.{Refusal}
 use Rattle.answers.specs.Refusals.{refusal}
 use Rattle.answers.specs.Tests.{pick, never, first}
-use Rattle.answers.proofs.Tests.{first-zero, must-passed}
+use Rattle.answers.proofs.Tests.{first-zero}
 use Rattle.reach.specs.Walk.{free}
 use Rattle.volume.specs.declared.disk.Disk.{Disk}
 use Rattle.volume.specs.Disks.{firstKey, mostBlocks, imageBytes}
@@ -19,11 +20,10 @@ use Rattle.volume.specs.Blocks.{slots, Holds, wordOf, slotWord, directory}
 use Rattle.volume.specs.Names.{nameOf, nameLength, longest, same}
 use Rattle.volume.specs.Law.{after, chainKey}
 use Rattle.volume.specs.Rules.{entryFault, fileFault}
-use Rattle.volume.proofs.Sizes.{range-is}
 use Rattle.volume.proofs.Names.{name-short}
 use Rattle.volume.proofs.Passes.{entry-passed}
 use Rattle.walk.specs.declared.Counts.{Counts}
-use Rattle.walk.specs.Nodes.{Node, entry, chained, slotNodes, contents, leadsTo, noted, withEntry, twin, keyFault, hangsFault, faultOf}
+use Rattle.walk.specs.Nodes.{Node, entry, chained, slotNodes, contents, leadsTo, noted, withEntry, twin, hangsFault, faultOf}
 use Rattle.audit.specs.declared.walked.Walked.{Walked}
 use Rattle.audit.specs.declared.walked.Walked.the-variants.{Done, Stopped}
 use Rattle.audit.specs.Walks.{Claims, Met, Walks, Ready, Known, Chain, EntryWalked}
@@ -101,7 +101,7 @@ module _ (d : Disk) (s : List ℕ) (k t i p : ℕ) (f : ℕ) (e : f ≡ entryFau
   unfolding hangsFault first
   hangs-own h = go (entryFault d s k t i) e
     where
-      go : (a : ℕ) → f ≡ a → f ≡ first a (first (never (twin d s k (slotWord s t i) p) 13) (pick (directory s k) 0 (fileFault d s k)))
+      go : (a : ℕ) → f ≡ a → f ≡ first a (first (never (twin d s k (slotWord s t i) p) fault.doubleName) (pick (directory s k) 0 (fileFault d s k)))
       go zero e = absurd (h e)
       go (suc a) e = e
 
@@ -110,7 +110,7 @@ module _ (d : Disk) (s : List ℕ) (k t i p : ℕ) (f : ℕ) (e : f ≡ entryFau
     entry-known l h = record { low = l; high = h; short = name-short s k true (sym (entry-passed d s k t i (sym e ∙ z) .entry .name)) refl }
 
     module _ (head : ℕ) (w : head ≡ slotWord s t i) (b : Bool) (q : b ≡ twin d s k head p) where
-      pub hangs-twin : b ≡ true → 13 ≡ hangsFault d s k t i p
+      pub hangs-twin : b ≡ true → fault.doubleName ≡ hangsFault d s k t i p
       unfolding hangsFault first never
       hangs-twin h = rw (sym e ∙ z, ← w, sym q ∙ h)
 
@@ -126,16 +126,6 @@ module _ (d : Disk) (s : List ℕ) (k t i p : ℕ) (f : ℕ) (e : f ≡ entryFau
 pub met-entry : (d : Disk) (s cl cl′ : List ℕ) (r f k t i p : ℕ) → Claims d cl k r cl′ → r ≡ 0 → f ≡ hangsFault d s k t i p → Met d s (entry k t i p) cl f cl′
 unfolding faultOf
 met-entry d s cl cl′ r f k t i p h z e = met-tests d s (entry k t i p) cl cl′ r f h z e
-
-module _ (d : Disk) (cl cl′ : List ℕ) (k r : ℕ) (h : Claims d cl k r cl′) (z : r ≡ 0) where
-  claims-range : (firstKey ≤ k) × (k < d .blocks)
-  claims-range = range-is d k (must-passed _ 4 (first-zero (keyFault d k) _ (sym (h .told) ∙ z) .0))
-
-  pub claims-low : firstKey ≤ k
-  claims-low = claims-range .0
-
-  pub claims-high : k < d .blocks
-  claims-high = claims-range .1
 
 -- ---- an entry
 
@@ -162,7 +152,7 @@ module _ (d : Disk) (s : List ℕ) (k t i p : ℕ) (cl cl₁ : List ℕ) (f : �
     pub met-file : (b : Bool) → b ≡ directory s k → b ≡ false → fileFault d s k ≡ 0
     unfolding hangsFault pick
     met-file b g h =
-        let r = first-zero (never (twin d s k (slotWord s t i) p) 13) _ (first-zero (entryFault d s k t i) _ tested .1) .1 in
+        let r = first-zero (never (twin d s k (slotWord s t i) p) fault.doubleName) _ (first-zero (entryFault d s k t i) _ tested .1) .1 in
         rw (sym g ∙ h) at r
 
     entry-claims : free cl ≡ suc (free cl₁)
@@ -211,6 +201,7 @@ module _ (d : Disk) (s : List ℕ) (t i : ℕ) where
     pub long : length cl ≡ length cl₀
     pub chain : Chain d s t i p
     pub here : k ≡ chainKey s (slotWord s t i) p
+    -- the position on a chain stays small: each entry before it has claimed a block
     pub few : p + free cl ≤ free cl₀
     pub most : free cl₀ ≤ mostBlocks
     pub walked : Walks d s (chainFrom (slotWord s t i) 0) (chainFrom k p) n₀ cl₀ (Done n) cl
@@ -229,10 +220,6 @@ module _ (d : Disk) (s : List ℕ) (t i : ℕ) where
       }
 
   module _ (n₀ : Counts) (cl₀ cl : List ℕ) (n : Counts) (k p : ℕ) (v : ChainInv n₀ cl₀ cl n k p) where
-    -- the position on a chain stays small: each entry before it has claimed a block
-    pub chain-few : p ≤ mostBlocks
-    chain-few = omega (arith, v .few, v .most)
-
     module _ (w : Walked) (cl′ : List ℕ) (h : k ≡ 0 → ⊥) (u : EntryWalked d s k t i p n cl w cl′) where
       chain-on : Walks d s (chainFrom (slotWord s t i) 0) (chainFrom (wordOf s k 124) (p + 1)) n₀ cl₀ w cl′
       chain-on = rw (append-nil _) at (walks-then d s _ _ (entry k t i p ∷ []) _ [] n₀ n cl₀ cl cl′ (Done n) w (v .walked) refl (is-link k h) (u .walks))

@@ -8,11 +8,11 @@ use Rattle.answers.specs.declared.Refusal.{Refusal}
 use Rattle.answers.specs.Refusals.{refusal}
 use Rattle.reach.specs.Walk.{free}
 use Rattle.volume.specs.declared.disk.Disk.{Disk}
-use Rattle.volume.specs.Blocks.{Holds, wordOf, keyWord}
+use Rattle.volume.specs.Blocks.{Holds, keyWord}
 use Rattle.walk.specs.declared.Counts.{Counts}
 use Rattle.walk.specs.declared.file.KeyBlock.{KeyBlock}
 use Rattle.walk.specs.Nodes.{Node, list, datum, listLink, keyNodes, keyBlockNodes, leadsTo, noted, withList, withBlock}
-use Rattle.walk.specs.KeyBlocks.{headerOf, nextOf, keysIn, listNode, linkTo, InFile, KeysReady, InImage, NextReady}
+use Rattle.walk.specs.KeyBlocks.{headerOf, nextOf, listNode, linkTo, InFile, KeysReady, InImage, NextReady}
 use Rattle.walk.proofs.Links.{link-next}
 use Rattle.walk.proofs.Loops.{in-image, ready-image, nodes, next, Turn, turn-next, turn-again, turn-end, list-ready}
 use Rattle.audit.specs.declared.walked.Walked.{Walked}

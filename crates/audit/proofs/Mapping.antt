@@ -6,11 +6,10 @@ use mathlib.Core.List.{List}
 use native.Mathlib.Omega.{arith}
 use native.Mathlib.Numerals.{add-one}
 use lib.Dec.{eqb}
-use lib.ListN.{length, getD}
+use lib.ListN.{getD}
 use Rattle.answers.specs.Tests.{pick}
 use Rattle.volume.specs.declared.disk.Disk.{Disk}
-use Rattle.volume.specs.Disks.{Sized, mostBlocks, firstKey, imageBytes}
-use Rattle.volume.specs.Blocks.{Holds}
+use Rattle.volume.specs.Disks.{Sized, firstKey}
 use Rattle.volume.specs.Bitmap.{isFree}
 use Rattle.audit.specs.declared.bitmap.Mapped.the-variants.{Right, Wrong}
 use Rattle.audit.specs.Bits.{bitWrong, bitsFrom, bitsOf}
@@ -49,9 +48,6 @@ module _ (d : Disk) (s : List ℕ) (bitmapKey : ℕ) (cl : List ℕ) where
   bits-start h = record { low = omega arith; high = omega (arith, h .least); few = omega arith; left = refl }
 
   module _ (free k : ℕ) (v : BitsInv free k) where
-    pub bits-asks : Sized d → length s ≡ imageBytes d → bitmapKey < d .blocks → k < d .blocks → (firstKey ≤ k) × (k < mostBlocks) × Holds s bitmapKey
-    bits-asks h l p q = (v .low, omega (arith, h .most), omega arith)
-
     pub bits-few : Sized d → free < 4294967295
     bits-few h = omega (arith, v .few, v .high, h .most)
 

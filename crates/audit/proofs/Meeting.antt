@@ -1,20 +1,22 @@
 -- Claims, and blocks that are met: what each return of the code says of the walk. Assumes nothing.
-use Prim.Native.Nat.{ℕ, zero, suc, _<_}
+use Prim.Native.Nat.{ℕ, zero, suc, _≤_, _<_}
 use mathlib.Core.Path.{_≡_, refl, sym, _∙_}
 use mathlib.Core.Bool.{Bool, true, false}
 use mathlib.Core.List.{List}
 use native.Mathlib.Omega.{arith}
 use lib.ListN.{length, getD, set}
+use Rattle.answers.specs.Numbers as fault
 use Rattle.answers.specs.Tests.{first, must}
-use Rattle.answers.proofs.Tests.{first-zero, must-passed}
+use Rattle.answers.proofs.Tests.{first-zero}
 use Rattle.reach.specs.Walk.{claimed, verdict}
 use Rattle.reach.proofs.Claims.{byte-any}
 use Rattle.reach.proofs.Runs.{claimed-taken}
 use Rattle.volume.specs.declared.disk.Disk.{Disk}
-use Rattle.volume.specs.Disks.{inRange, imageBytes, claimBytes, rootOf}
+use Rattle.volume.specs.Disks.{firstKey, inRange, imageBytes, claimBytes, rootOf}
 use Rattle.volume.specs.Blocks.{Holds}
 use Rattle.volume.specs.Rules.{rootFault, mapFault, bitmapFault}
 use Rattle.volume.proofs.Sizes.{range-is}
+use Rattle.walk.proofs.Passes.{key-passed}
 use Rattle.walk.specs.Nodes.{Node, root, bitmap, keyOf, keyFault, faultOf}
 use Rattle.audit.specs.Walks.{Claims, Met}
 
@@ -39,28 +41,38 @@ module _ (d : Disk) (cl : List ℕ) (k : ℕ) where
   pub claim-room : (b : Bool) → b ≡ inRange d k → b ≡ true → length cl ≡ claimBytes d → k < length cl
   claim-room b e h l = omega (arith, range-is d k (sym e ∙ h))
 
-  pub claim-out : (b : Bool) → b ≡ inRange d k → b ≡ false → Claims d cl k 5 cl
+  pub claim-out : (b : Bool) → b ≡ inRange d k → b ≡ false → Claims d cl k fault.badKey cl
   unfolding first must
   claim-out b e h = record { told = rw (sym e ∙ h); claims = λ z. absurd (omega (arith, z)); keeps = λ t. refl }
 
-  pub claim-taken : (b : Bool) → b ≡ inRange d k → b ≡ true → k < length cl → (getD cl k 0 ≡ 0 → ⊥) → Claims d cl k 6 cl
+  pub claim-taken : (b : Bool) → b ≡ inRange d k → b ≡ true → k < length cl → (getD cl k 0 ≡ 0 → ⊥) → Claims d cl k fault.claimedTwice cl
   unfolding first must
-  claim-taken b e h l t = record { told = rw (sym e ∙ h, byte-any cl k 1 0 l, claimed-taken 6 (getD cl k 0) t); claims = λ z. absurd (omega (arith, z)); keeps = λ t. refl }
+  claim-taken b e h l t = record { told = rw (sym e ∙ h, byte-any cl k 1 0 l, claimed-taken fault.claimedTwice (getD cl k 0) t); claims = λ z. absurd (omega (arith, z)); keeps = λ t. refl }
 
   pub claim-new : (b : Bool) → b ≡ inRange d k → b ≡ true → k < length cl → getD cl k 0 ≡ 0 → Claims d cl k 0 (set cl k 1)
   unfolding first must
   claim-new b e h l z = record { told = rw (sym e ∙ h, byte-any cl k 1 0 l, z); claims = λ _. refl; keeps = λ t. absurd (t refl) }
 
--- a key that is claimed lies in the image
-pub claims-holds : (d : Disk) (s cl cl′ : List ℕ) (k r : ℕ) → Claims d cl k r cl′ → r ≡ 0 → length s ≡ imageBytes d → Holds s k
-claims-holds d s cl cl′ k r h z l = let i = range-is d k (must-passed _ 4 (first-zero (keyFault d k) _ (sym (h .told) ∙ z) .0)) in omega (arith, i .1)
+-- a key that is claimed lies in the volume, and so in the image
+module _ (d : Disk) (cl cl′ : List ℕ) (k r : ℕ) (h : Claims d cl k r cl′) (z : r ≡ 0) where
+  claims-range : (firstKey ≤ k) × (k < d .blocks)
+  claims-range = key-passed d k (first-zero (keyFault d k) _ (sym (h .told) ∙ z) .0)
+
+  pub claims-low : firstKey ≤ k
+  claims-low = claims-range .0
+
+  pub claims-high : k < d .blocks
+  claims-high = claims-range .1
+
+  pub claims-holds : (s : List ℕ) → length s ≡ imageBytes d → Holds s k
+  claims-holds s l = omega (arith, claims-high)
 
 -- ---- a block that is met
 
 module _ (d : Disk) (s : List ℕ) (n : Node) (cl cl′ : List ℕ) where
   pub met-claim : (r : ℕ) → Claims d cl (keyOf d n) r cl′ → (r ≡ 0 → ⊥) → Met d s n cl r cl′
   unfolding verdict first
-  met-claim r h t = record { told = h .told ∙ go (keyFault d (keyOf d n)) (claimed 6 (getD cl (keyOf d n) 1)) (λ z. t (h .told ∙ z)); claims = λ z. absurd (t z) }
+  met-claim r h t = record { told = h .told ∙ go (keyFault d (keyOf d n)) (claimed fault.claimedTwice (getD cl (keyOf d n) 1)) (λ z. t (h .told ∙ z)); claims = λ z. absurd (t z) }
     where
       go : (a b : ℕ) → (first a b ≡ 0 → ⊥) → first a b ≡ first a (first b (faultOf d s n))
       go zero zero h = absurd (h refl)
@@ -90,4 +102,4 @@ module _ (d : Disk) (s cl cl′ : List ℕ) (r f : ℕ) where
 
 -- the root lies in the image where its claim passes
 pub root-holds : (d : Disk) (s cl cl′ : List ℕ) (k r : ℕ) → k ≡ rootOf d → Claims d cl k r cl′ → r ≡ 0 → length s ≡ imageBytes d → Holds s (rootOf d)
-root-holds d s cl cl′ k r e h z l = rw e at (claims-holds d s cl cl′ k r h z l)
+root-holds d s cl cl′ k r e h z l = rw e at (claims-holds d cl cl′ k r h z s l)

@@ -5,6 +5,7 @@ use mathlib.Core.Path.{_≡_, subst}
 use mathlib.Core.Logic.{_≢_, _↔_}
 use mathlib.Core.List.{List}
 use lib.ListN.{length}
+use Rattle.answers.specs.Numbers as fault
 use Rattle.answers.specs.Tests.{pick}
 use Rattle.answers.specs.Members.{_∈_}
 use Rattle.answers.proofs.Members.{listed, in-part}
@@ -31,11 +32,11 @@ module _ (d : Disk) (s : List ℕ) (n v k : ℕ) where
   refused-number r = go (testOf v) (numbered v) (refused-exactly .0 r)
     where
       go : (t : Test) → Numbered v t → Says d s n v k t → v ∈ auditRefusals
-      go size e c = rw e (listed auditRefusals 1 tt)
-      go area e c = rw e (listed auditRefusals 2 tt)
-      go tag e c = rw e (listed auditRefusals 3 tt)
+      go size e c = rw e (listed auditRefusals fault.imageLength tt)
+      go area e c = rw e (listed auditRefusals fault.claimArea tt)
+      go tag e c = rw e (listed auditRefusals fault.bootTag tt)
       go walk e c = in-part walkRefusals auditRefusals v tt (walk-number d s v k (caused d s v k (c .1)))
-      go bits e c = rw e (listed auditRefusals 17 tt)
+      go bits e c = rw e (listed auditRefusals fault.wrongBit tt)
 
   -- the walk's are given exactly at the first node that fails, and each names a field of the law that its block breaks
   module _ (h : v ∈ walkRefusals) where
@@ -48,18 +49,18 @@ module _ (d : Disk) (s : List ℕ) (n v k : ℕ) where
 -- ---- each number by itself
 
 module _ (d : Disk) (s : List ℕ) (n k : ℕ) where
-  pub refused-1 : (auditOf d s n ≡ refuse 1 k) ↔ ((k ≡ 0) × (length s ≢ imageBytes d))
+  pub refused-1 : (auditOf d s n ≡ refuse fault.imageLength k) ↔ ((k ≡ 0) × (length s ≢ imageBytes d))
   unfolding pick
-  refused-1 = refused-exactly d s n 1 k
+  refused-1 = refused-exactly d s n fault.imageLength k
 
-  pub refused-2 : (auditOf d s n ≡ refuse 2 k) ↔ ((k ≡ 0) × (length s ≡ imageBytes d) × (n < claimBytes d))
+  pub refused-2 : (auditOf d s n ≡ refuse fault.claimArea k) ↔ ((k ≡ 0) × (length s ≡ imageBytes d) × (n < claimBytes d))
   unfolding pick
-  refused-2 = refused-exactly d s n 2 k
+  refused-2 = refused-exactly d s n fault.claimArea k
 
-  pub refused-3 : (auditOf d s n ≡ refuse 3 k) ↔ ((k ≡ 0) × (length s ≡ imageBytes d) × (claimBytes d ≤ n) × (wordAt s 0 ≢ tagOf d))
+  pub refused-3 : (auditOf d s n ≡ refuse fault.bootTag k) ↔ ((k ≡ 0) × (length s ≡ imageBytes d) × (claimBytes d ≤ n) × (wordAt s 0 ≢ tagOf d))
   unfolding pick
-  refused-3 = refused-exactly d s n 3 k
+  refused-3 = refused-exactly d s n fault.bootTag k
 
-  pub refused-17 : (auditOf d s n ≡ refuse 17 k) ↔ ((claimBytes d ≤ n) × Tree d s × Valid d s × FirstWrong d s k)
+  pub refused-17 : (auditOf d s n ≡ refuse fault.wrongBit k) ↔ ((claimBytes d ≤ n) × Tree d s × Valid d s × FirstWrong d s k)
   unfolding pick
-  refused-17 = refused-exactly d s n 17 k
+  refused-17 = refused-exactly d s n fault.wrongBit k

@@ -14,9 +14,8 @@ use Rattle.reach.proofs.Runs.{passed, run-stop, run-enter}
 use Rattle.volume.specs.declared.disk.Disk.{Disk}
 use Rattle.volume.specs.Disks.{firstKey, mostBlocks}
 use Rattle.volume.specs.Blocks.{directory}
-use Rattle.volume.proofs.Sizes.{range-is}
-use Rattle.answers.proofs.Tests.{must-passed}
 use Rattle.answers.proofs.Clashes.{impossible}
+use Rattle.walk.proofs.Passes.{key-passed}
 use Rattle.walk.specs.declared.Counts.{Counts}
 use Rattle.walk.specs.Nodes.{Node, root, bitmap, entry, list, datum, keyOf, leadsTo, noted, withEntry, graph, faultOf}
 use Rattle.audit.specs.declared.walked.Walked.{Walked}
@@ -80,7 +79,7 @@ module _ (d : Disk) (s : List ℕ) where
     met-free z = rw (h .claims z) (free-set cl (keyOf d n) (passed (graph d s) cl n (sym (h .told) ∙ z) .1))
 
     pub met-range : f ≡ 0 → (firstKey ≤ keyOf d n) × (keyOf d n < d .blocks)
-    met-range z = range-is d (keyOf d n) (must-passed _ 4 (passed (graph d s) cl n (sym (h .told) ∙ z) .0))
+    met-range z = key-passed d (keyOf d n) (passed (graph d s) cl n (sym (h .told) ∙ z) .0)
 
     pub met-inside : f ≡ 0 → keyOf d n < d .blocks
     met-inside z = met-range z .1

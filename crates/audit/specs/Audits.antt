@@ -1,6 +1,6 @@
--- What an audit answers, and what it leaves in the claim area (docs/FORMAT.md, "Order of the walk" and "Numbers"): the image's length, the
--- claim area, the boot tag, then the walk from the root, and the bitmap last.
-use Prim.Native.Nat.{ℕ, _+_, _-_, _≤_}
+-- What an audit answers, and what it leaves in the claim area (docs/FORMAT.md, "Order of the walk" and "Numbers"):
+-- the image's length, the claim area, the boot tag, then the walk from the root, and the bitmap last.
+use Prim.Native.Nat.{ℕ, _+_, _-_}
 use mathlib.Core.Path.{_≡_}
 use mathlib.Core.List.{List, [], _∷_, _++_}
 use lib.Dec.{eqb, ltb}
@@ -33,7 +33,9 @@ numbersOf (Refused r) = refusedAs nothingToReport r
 
 -- the numbers of the walk's refusals
 abbrev pub walkRefusals : List ℕ
-walkRefusals = fault.rootWords ∷ fault.badKey ∷ fault.claimedTwice ∷ fault.blockSum ∷ fault.blockType ∷ fault.link ∷ fault.wrongTies ∷ fault.badName ∷ fault.wrongSlot ∷ fault.doubleName ∷ fault.fileLayout ∷ fault.dataLayout ∷ fault.bitmapWords ∷ []
+walkRefusals =
+    fault.rootWords ∷ fault.badKey ∷ fault.claimedTwice ∷ fault.blockSum ∷ fault.blockType ∷ fault.link
+    ∷ fault.wrongTies ∷ fault.badName ∷ fault.wrongSlot ∷ fault.doubleName ∷ fault.fileLayout ∷ fault.dataLayout ∷ fault.bitmapWords ∷ []
 
 -- and of all that an audit gives
 abbrev pub auditRefusals : List ℕ
@@ -45,7 +47,14 @@ refuse v k = Refused (refusal v k)
 -- used: what is counted, the root and the bitmap block
 abbrev pub reportOf : Counts → ℕ → Report
 reportOf c free =
-    record { directories = c .directories; files = c .files; lists = c .lists; blocks = c .blocks; used = c .directories + c .files + c .lists + c .blocks + 2; free = free }
+    record {
+      directories = c .directories;
+      files = c .files;
+      lists = c .lists;
+      blocks = c .blocks;
+      used = c .directories + c .files + c .lists + c .blocks + 2;
+      free = free;
+    }
 
 -- ---- the answer
 
@@ -77,24 +86,9 @@ abbrev pub claimAfter : Disk → List ℕ → Audited → ℕ → List ℕ
 claimAfter d s (Accepted r) n = claimsOf (walkOf d s) ++ replicate (n - claimBytes d) 0
 claimAfter d s (Refused r) n = replicate n 0
 
--- ---- the promises
+-- ---- the promise
 
--- of the walk and the bitmap, with a claim byte for each block
-pub record Within (d : Disk) (s : List ℕ) (r : Audited) (claim′ : List ℕ) : Type 0 where
-  pub answer : r ≡ walked d s (walkOf d s)
-  pub claims : (p : Report) → r ≡ Accepted p → claim′ ≡ claimsOf (walkOf d s)
-
--- a claim area that is all 0, and has room for a byte for each block
-pub record Fresh (d : Disk) (claim : List ℕ) : Type 0 where
-  pub zero : claim ≡ replicate (length claim) 0
-  pub room : claimBytes d ≤ length claim
-
--- of these in a claim area of n bytes
-pub record Tagged (d : Disk) (s : List ℕ) (n : ℕ) (r : Audited) (claim′ : List ℕ) : Type 0 where
-  pub answer : r ≡ walked d s (walkOf d s)
-  pub claim : claim′ ≡ claimAfter d s r n
-
--- of an audit, whose answer is said also by its numbers
+-- the answer is said also by its numbers
 pub record Audits (d : Disk) (s : List ℕ) (n : ℕ) (r : Audited) (claim′ : List ℕ) : Type 0 where
   pub answer : r ≡ auditOf d s n
   pub numbers : numbersOf r ≡ numbersOf (auditOf d s n)

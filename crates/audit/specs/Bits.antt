@@ -1,5 +1,5 @@
--- The bitmap must say that a block is free if and only if it is not claimed; the lowest block of which it does not is refused, and the free
--- blocks are counted (docs/FORMAT.md, "Order of the walk", and refusal 17).
+-- The bitmap must say that a block is free if and only if it is not claimed; the lowest block of which it does not
+-- is refused, and the free blocks are counted (docs/FORMAT.md, "Order of the walk", and refusal 17).
 use Prim.Native.Nat.{ℕ, zero, suc, _+_}
 use mathlib.Core.Bool.{Bool, not}
 use mathlib.Core.List.{List}

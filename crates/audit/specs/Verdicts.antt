@@ -1,9 +1,8 @@
--- What an audit's answer means, said of blocks, kinds and bits (docs/FORMAT.md, "Order of the walk" and "Numbers"): the six numbers of a
--- report, the claim area after it, and the cause of each refusal.
+-- What an audit's answer means, said of blocks, kinds and bits (docs/FORMAT.md, "Order of the walk" and "Numbers"):
+-- the six numbers of a report, the claim area after it, and the cause of each refusal.
 use Prim.Native.Nat.{ℕ, zero, suc, _+_, _≤_, _<_}
 use mathlib.Core.Path.{_≡_}
 use mathlib.Core.Logic.{_≢_, _⊎_}
-use mathlib.Core.Bool.{true, false}
 use mathlib.Core.List.{List, map}
 use lib.Dec.{eqb}
 use lib.ListN.{length, getD}
@@ -23,7 +22,8 @@ use Rattle.audit.specs.declared.audit.Report.{Report}
 -- how many of the n blocks from block k on the bitmap block `bitmapKey` calls free
 unfoldable pub freeFrom : List ℕ → ℕ → ℕ → ℕ → ℕ
 freeFrom s bitmapKey k zero = 0
-freeFrom s bitmapKey k (suc n) = pick (isFree s bitmapKey k) (suc (freeFrom s bitmapKey (suc k) n)) (freeFrom s bitmapKey (suc k) n)
+freeFrom s bitmapKey k (suc n) =
+    pick (isFree s bitmapKey k) (suc (freeFrom s bitmapKey (suc k) n)) (freeFrom s bitmapKey (suc k) n)
 
 -- ---- accepted
 
@@ -51,15 +51,11 @@ pub record Claimed (d : Disk) (s : List ℕ) (n : ℕ) (claim : List ℕ) : Type
 
 -- ---- refused
 
--- k is called free though it is reached, or in use though it is not
-abbrev pub BitWrong : Disk → List ℕ → ℕ → Type 0
-BitWrong d s k = ((isFree s (bitmapKeyOf d s) k ≡ true) × Used d s k) ⊎ ((isFree s (bitmapKeyOf d s) k ≡ false) × (¬ Used d s k))
-
--- k is the lowest block whose bit is wrong
+-- k is the lowest block whose bit is wrong: free though it is reached, or in use though it is not
 pub record FirstWrong (d : Disk) (s : List ℕ) (k : ℕ) : Type 0 where
   pub low : firstKey ≤ k
   pub high : k < d .blocks
-  pub wrong : BitWrong d s k
+  pub wrong : BitRight d s k → ⊥
   pub before : (j : ℕ) → firstKey ≤ j → j < k → BitRight d s j
 
 -- what is tested before the walk
@@ -73,7 +69,9 @@ pub data Test : Type 0 where
   size area tag walk bits : Test
 
 abbrev pub testOf : ℕ → Test
-testOf v = pick (eqb v fault.imageLength) size (pick (eqb v fault.claimArea) area (pick (eqb v fault.bootTag) tag (pick (eqb v fault.wrongBit) bits walk)))
+testOf v =
+    pick (eqb v fault.imageLength) size
+    (pick (eqb v fault.claimArea) area (pick (eqb v fault.bootTag) tag (pick (eqb v fault.wrongBit) bits walk)))
 
 -- of an image s and a claim area of n bytes: when a test refuses with v at place k
 abbrev pub Says : Disk → List ℕ → ℕ → ℕ → ℕ → Test → Type 0

@@ -1,8 +1,10 @@
--- What a part of the walk has done: a claim, a block that was met, a stretch of work. Each is said of the walk over the graph of crate `walk`.
+-- What a part of the walk has done: a claim, a block that was met, a stretch of work. Each is said of the walk over
+-- the graph of crate `walk`.
 use Prim.Native.Nat.{ℕ, _+_, _≤_, _<_}
 use mathlib.Core.Path.{_≡_}
 use mathlib.Core.List.{List, [], _∷_, _++_}
 use lib.ListN.{length, getD, set}
+use Rattle.answers.specs.Numbers as fault
 use Rattle.answers.specs.Tests.{first}
 use Rattle.reach.specs.Walk.{Outcome, refused, claimed, free, verdict, run}
 use Rattle.volume.specs.declared.disk.Disk.{Disk}
@@ -19,7 +21,7 @@ use Rattle.audit.specs.declared.walked.Walked.the-variants.{Done, Stoppe
 
 -- a key is claimed, or refused
 pub record Claims (d : Disk) (cl : List ℕ) (k r : ℕ) (cl′ : List ℕ) : Type 0 where
-  pub told : r ≡ first (keyFault d k) (claimed 6 (getD cl k 1))
+  pub told : r ≡ first (keyFault d k) (claimed fault.claimedTwice (getD cl k 1))
   pub claims : r ≡ 0 → cl′ ≡ set cl k 1
   pub keeps : (r ≡ 0 → ⊥) → cl′ ≡ cl
 
@@ -37,12 +39,14 @@ goesOn d s (Done c) cl ns = run (graph d s) cl c ns
 goesOn d s (Stopped r) cl ns = refused (r .number) (r .place)
 
 -- of the work `todo` the walk has left `rest`, whatever comes after it
-pub record Walks (d : Disk) (s : List ℕ) (todo rest : List Node) (n : Counts) (cl : List ℕ) (r : Walked) (cl′ : List ℕ) : Type 0 where
+pub record Walks (d : Disk) (s : List ℕ) (todo rest : List Node) (n : Counts) (cl : List ℕ) (r : Walked)
+    (cl′ : List ℕ) : Type 0 where
   pub same : (ns : List Node) → run (graph d s) cl n (todo ++ ns) ≡ goesOn d s r cl′ (rest ++ ns)
   pub count : (c : Counts) → r ≡ Done c → total c + free cl′ ≤ total n + free cl
   pub less : (c : Counts) → r ≡ Done c → free cl′ ≤ free cl
 
--- what the walk stands on: a disk of a known size, its image, a claim byte for each block, and counts that cannot overflow
+-- what the walk stands on: a disk of a known size, its image, a claim byte for each block, and counts that cannot
+-- overflow
 pub record Ready (d : Disk) (s cl : List ℕ) (n : Counts) : Type 0 where
   pub sized : Sized d
   pub image : length s ≡ imageBytes d
@@ -52,12 +56,14 @@ pub record Ready (d : Disk) (s cl : List ℕ) (n : Counts) : Type 0 where
 -- ---- files
 
 -- the data blocks of a block that lists keys are walked, up to the link to the next
-pub record KeysWalked (d : Disk) (s : List ℕ) (b : KeyBlock) (n : Counts) (cl : List ℕ) (r : Walked) (cl′ : List ℕ) : Type 0 where
+pub record KeysWalked (d : Disk) (s : List ℕ) (b : KeyBlock) (n : Counts) (cl : List ℕ) (r : Walked) (cl′ : List ℕ)
+    : Type 0 where
   pub walks : Walks d s (keyBlockNodes d s (b .header) (b .key) (b .done) (b .last)) (linkTo (nextOf s b)) n cl r cl′
   pub next : (c : Counts) → r ≡ Done c → NextReady d s (nextOf s b)
 
 -- a list block is walked, and so are its data blocks
-pub record ListWalked (d : Disk) (s : List ℕ) (b : KeyBlock) (n : Counts) (cl : List ℕ) (r : Walked) (cl′ : List ℕ) : Type 0 where
+pub record ListWalked (d : Disk) (s : List ℕ) (b : KeyBlock) (n : Counts) (cl : List ℕ) (r : Walked) (cl′ : List ℕ)
+    : Type 0 where
   pub walks : Walks d s (listNode b ∷ []) (linkTo (nextOf s b)) n cl r cl′
   pub image : (c : Counts) → r ≡ Done c → InImage s b
   pub next : (c : Counts) → r ≡ Done c → NextReady d s (nextOf s b)
@@ -78,7 +84,8 @@ pub record Chain (d : Disk) (s : List ℕ) (t i p : ℕ) : Type 0 where
   pub earlier : (q : ℕ) → q < p → Known d s (chainKey s (slotWord s t i) q)
 
 -- an entry is walked, with what is in it, up to the link to the next on its chain
-pub record EntryWalked (d : Disk) (s : List ℕ) (k t i p : ℕ) (n : Counts) (cl : List ℕ) (r : Walked) (cl′ : List ℕ) : Type 0 where
+pub record EntryWalked (d : Disk) (s : List ℕ) (k t i p : ℕ) (n : Counts) (cl : List ℕ) (r : Walked) (cl′ : List ℕ)
+    : Type 0 where
   pub walks : Walks d s (entry k t i p ∷ []) (chained (wordOf s k 124) t i (p + 1)) n cl r cl′
   pub known : (c : Counts) → r ≡ Done c → Known d s k
   pub less : (c : Counts) → r ≡ Done c → free cl′ < free cl

@@ -16,9 +16,11 @@ ghost use Prim.Native.Nat.{_+_, _≤_};
 ghost use lib.ListN.{length, replicate};
 ghost use Rattle.volume.specs.Disks.{Sized, mostBlocks, floppy, imageBytes, claimBytes};
 ghost use Rattle.audit.specs.Walks.{total};
-ghost use Rattle.audit.specs.Audits.{refuse, reportOf, Fresh, Within, Tagged, Audits};
+ghost use Rattle.audit.specs.Audits.{refuse, reportOf, Audits};
+ghost use Rattle.audit.specs.Parts.{Fresh, Within, Tagged};
 
-// How much there is of what: directories without the root, files, list blocks, data blocks; then all blocks in use, and those that are free.
+// How much there is of what: directories without the root, files, list blocks, data blocks; then all blocks in use,
+// and those that are free.
 pub struct Report {
     pub directories: u32,
     pub files: u32,
@@ -89,7 +91,8 @@ fn audit_tagged(disk: Disk, image: &[u8], area: &mut [u8]) -> Audited
     r
 }
 
-// Audits the image of a disk. The whole claim area is written: 1 for each block that is reached, and 0 elsewhere; all 0 where it refuses.
+// Audits the image of a disk. The whole claim area is written: 1 for each block that is reached, and 0 elsewhere;
+// all 0 where it refuses.
 fn audit_on(disk: Disk, image: &[u8], claim: &mut [u8]) -> Audited
     requires { ⌜ Sized disk ⌝ }
     ensures { λ r. ⌜ Audits disk (now (image .entry)) (length (now (claim .entry))) r (now (claim .exit)) ⌝ }

@@ -36,7 +36,8 @@ fn counted(n: u32, free: bool) -> u32
 
 // Every bit of the bitmap block `bitmap`, upward.
 pub(crate) fn check_bits(disk: Disk, image: &[u8], bitmap: u32, claim: &[u8]) -> Mapped
-    requires { ⌜ (Sized disk) × (length (now image) ≡ imageBytes disk) × (length (now claim) ≡ claimBytes disk) × (bitmap < disk .blocks) ⌝ }
+    requires { ⌜ (Sized disk) × (length (now image) ≡ imageBytes disk) × (length (now claim) ≡ claimBytes disk)
+        × (bitmap < disk .blocks) ⌝ }
     ensures { λ r. ⌜ r ≡ bitsOf disk (now (image .entry)) bitmap (now (claim .entry)) ⌝ }
 {
     let mut free: u32 = 0;

@@ -1,4 +1,5 @@
-// The walk through a directory, slot by slot and along each chain; what is in an entry is walked before its link is followed.
+// The walk through a directory, slot by slot and along each chain; what is in an entry is walked before its link is
+// followed.
 use crate::claims::claim_key;
 use crate::files::walk_file;
 use crate::walked::Walked;
@@ -35,7 +36,8 @@ fn next_entry(image: &[u8], key: u32) -> u32
 
 // Whether one of the first `position` entries of the chain from `head` has the name of an entry.
 fn is_twin(disk: Disk, image: &[u8], key: u32, head: u32, position: u32) -> bool
-    requires { ⌜ (length (now image) ≡ imageBytes disk) × (Known disk (now image) key) × ((q : ℕ) → q < position → Known disk (now image) (chainKey (now image) head q)) ⌝ }
+    requires { ⌜ (length (now image) ≡ imageBytes disk) × (Known disk (now image) key)
+        × ((q : ℕ) → q < position → Known disk (now image) (chainKey (now image) head q)) ⌝ }
     ensures { λ r. ⌜ r ≡ twin disk (now (image .entry)) key head position ⌝ }
 {
     let mut e = head;
@@ -52,7 +54,8 @@ fn is_twin(disk: Disk, image: &[u8], key: u32, head: u32, position: u32) -> bool
 
 // The tests of an entry at a position of a chain.
 fn hangs_fault(disk: Disk, image: &[u8], key: u32, directory: u32, slot: u32, position: u32) -> u32
-    requires { ⌜ (Sized disk) × (length (now image) ≡ imageBytes disk) × (firstKey ≤ key) × (key < disk .blocks) × (Chain disk (now image) directory slot position) ⌝ }
+    requires { ⌜ (Sized disk) × (length (now image) ≡ imageBytes disk) × (firstKey ≤ key) × (key < disk .blocks)
+        × (Chain disk (now image) directory slot position) ⌝ }
     ensures { λ r. ⌜ r ≡ hangsFault disk (now (image .entry)) key directory slot position ⌝ }
 {
     let f = entry_fault(disk, image, key, directory, slot);
@@ -81,7 +84,8 @@ fn meet_entry(
     c: Counts,
 ) -> u32
     requires { ⌜ (Ready disk (now image) (now claim) c) × (Chain disk (now image) directory slot position) ⌝ }
-    ensures { λ r. ⌜ Met disk (now (image .entry)) (entry key directory slot position) (now (claim .entry)) r (now (claim .exit)) ⌝ }
+    ensures { λ r. ⌜ Met disk (now (image .entry)) (entry key directory slot position) (now (claim .entry)) r
+        (now (claim .exit)) ⌝ }
 {
     let f = claim_key(disk, claim, key);
     if f != 0 {
@@ -128,7 +132,8 @@ fn walk_entry(
     n: Counts,
 ) -> Walked
     requires { ⌜ (Ready disk (now image) (now claim) n) × (Chain disk (now image) directory slot position) ⌝ }
-    ensures { λ r. ⌜ EntryWalked disk (now (image .entry)) key directory slot position n (now (claim .entry)) r (now (claim .exit)) ⌝ }
+    ensures { λ r. ⌜ EntryWalked disk (now (image .entry)) key directory slot position n (now (claim .entry)) r
+        (now (claim .exit)) ⌝ }
 {
     let f = meet_entry(disk, image, claim, key, directory, slot, position, n);
     if f != 0 {
@@ -149,7 +154,8 @@ pub(crate) fn walk_directory(
     n: Counts,
 ) -> Walked
     requires { ⌜ (Ready disk (now image) (now claim) n) × (key < disk .blocks) ⌝ }
-    ensures { λ r. ⌜ Walks disk (now (image .entry)) (slotNodes (now (image .entry)) key 0 slots) [] n (now (claim .entry)) r (now (claim .exit)) ⌝ }
+    ensures { λ r. ⌜ Walks disk (now (image .entry)) (slotNodes (now (image .entry)) key 0 slots) [] n
+        (now (claim .entry)) r (now (claim .exit)) ⌝ }
 {
     let mut m = n;
     let mut slot: u32 = 0;

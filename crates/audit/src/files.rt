@@ -31,8 +31,10 @@ fn meet_data(
     last: u32,
     c: Counts,
 ) -> u32
-    requires { ⌜ (Ready disk (now image) (now claim) c) × (InFile disk (now image) b) × (last < disk .blocks) × (1 ≤ n) × (n ≤ blocksOf disk (now image) (b .header)) ⌝ }
-    ensures { λ r. ⌜ Met disk (now (image .entry)) (datum key (b .header) n last) (now (claim .entry)) r (now (claim .exit)) ⌝ }
+    requires { ⌜ (Ready disk (now image) (now claim) c) × (InFile disk (now image) b) × (last < disk .blocks)
+        × (1 ≤ n) × (n ≤ blocksOf disk (now image) (b .header)) ⌝ }
+    ensures { λ r. ⌜ Met disk (now (image .entry)) (datum key (b .header) n last) (now (claim .entry)) r
+        (now (claim .exit)) ⌝ }
 {
     let f = claim_key(disk, claim, key);
     if f != 0 {
@@ -121,8 +123,11 @@ pub(crate) fn walk_file(
     header: u32,
     n: Counts,
 ) -> Walked
-    requires { ⌜ (Ready disk (now image) (now claim) n) × (header < disk .blocks) × (fileFault disk (now image) header ≡ 0) ⌝ }
-    ensures { λ r. ⌜ Walks disk (now (image .entry)) (keyBlockNodes disk (now (image .entry)) header header 0 header) [] n (now (claim .entry)) r (now (claim .exit)) ⌝ }
+    requires { ⌜ (Ready disk (now image) (now claim) n) × (header < disk .blocks)
+        × (fileFault disk (now image) header ≡ 0) ⌝ }
+    ensures { λ r. ⌜ Walks disk (now (image .entry))
+        (keyBlockNodes disk (now (image .entry)) header header 0 header) [] n (now (claim .entry)) r
+        (now (claim .exit)) ⌝ }
 {
     let first = header_block(image, header);
     let w = walk_keys(disk, image, claim, first, n);

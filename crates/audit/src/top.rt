@@ -59,7 +59,8 @@ fn meet_bitmap(disk: Disk, image: &[u8], claim: &mut [u8], key: u32) -> u32
 // The walk from the root, with nothing claimed yet.
 pub(crate) fn walk_volume(disk: Disk, image: &[u8], claim: &mut [u8]) -> Walked
     requires { ⌜ (Sized disk) × (length (now image) ≡ imageBytes disk) × (now claim ≡ replicate (claimBytes disk) 0) ⌝ }
-    ensures { λ r. ⌜ Walks disk (now (image .entry)) (root ∷ []) [] nothing (now (claim .entry)) r (now (claim .exit)) ⌝ }
+    ensures { λ r. ⌜ Walks disk (now (image .entry)) (root ∷ []) [] nothing (now (claim .entry)) r
+        (now (claim .exit)) ⌝ }
 {
     let root = disk.root();
     let f = meet_root(disk, image, claim);

@@ -4,6 +4,7 @@ use mathlib.Core.Path.{_≡_, refl, sym, _∙_}
 use mathlib.Core.Logic.{_↔_}
 use mathlib.Core.List.{List}
 use lib.ListN.{length}
+use Rattle.answers.specs.Numbers as fault
 use Rattle.answers.specs.declared.Refusal.{Refusal}
 use Rattle.answers.specs.Members.{_∈_}
 use Rattle.answers.proofs.Members.{listed, unlisted, in-part}
@@ -25,11 +26,11 @@ module _ (d : Disk) (s path : List ℕ) (o n v k : ℕ) where
     where
       go : Refuses d s path v k → v ∈ readRefusals
       go (of-lookup f) = in-part findRefusals readRefusals v tt (lookup.refused-number d s path v k f)
-      go (of-directory t c f a b) = rw a (listed readRefusals 20 tt)
+      go (of-directory t c f a b) = rw a (listed readRefusals fault.wrongKind tt)
       go (of-header z c f b) = in-part headerRefusals readRefusals v tt (header-number b)
-      go (of-block h z c f g (at-data i x a y (data-key q w))) = rw w (listed readRefusals 5 tt)
+      go (of-block h z c f g (at-data i x a y (data-key q w))) = rw w (listed readRefusals fault.badKey tt)
       go (of-block h z c f g (at-data i x a y (data-itself q b))) = in-part dataRefusals readRefusals v tt (data-number b)
-      go (of-block h z c f g (at-list j a y (list-key q w))) = rw w (listed readRefusals 5 tt)
+      go (of-block h z c f g (at-list j a y (list-key q w))) = rw w (listed readRefusals fault.badKey tt)
       go (of-block h z c f g (at-list j a y (list-itself q b))) = in-part listRefusals readRefusals v tt (list-number b)
 
 module _ (d : Disk) (s path : List ℕ) (o : ℕ) (output : List ℕ) (r : Reading) (output′ : List ℕ) (a : Reads d s path o output r output′) where

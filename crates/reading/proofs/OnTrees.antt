@@ -8,6 +8,7 @@ use mathlib.Core.List.{List, [], _∷_, _++_, map}
 use native.Mathlib.Omega.{arith}
 use lib.ListN.{length, drop}
 use lib.Seq.{take-all}
+use Rattle.answers.specs.Numbers as fault
 use Rattle.answers.specs.Tests.{pick}
 use Rattle.answers.specs.declared.Tested.the-variants.{Passed}
 use Rattle.answers.proofs.Clashes.{impossible}
@@ -112,7 +113,7 @@ filled-whole bytes output h = rw (take-all (length output) bytes h) refl
 
 module _ (d : Disk) (s : List ℕ) (v : Tree d s) where
   intact : (a : Kind) (k : ℕ) → Reached (references d s) (to a k) → Intact d s k
-  intact a k r = record { low = v .keys (to a k) r .0; inside = v .keys (to a k) r .1; sum = v .sums (to a k) r }
+  intact a k r = let p = v .keys (to a k) r in record { inside = record { low = p .0; high = p .1 }; sum = v .sums (to a k) r }
 
   -- Every reached file is whole, and passes its tests.
   pub tree-file-whole : (k : ℕ) → Reached (references d s) (to Kind.entry k) → directory s k ≡ false → FileWhole d s k
@@ -141,13 +142,13 @@ module _ (d : Disk) (s : List ℕ) (v : Tree d s) where
           (a, b, h .left ∙ rw (a, e) (filled-whole (fileBytes d s k) output (omega arith) ∙ rw b refl))
 
     -- A read of any path gives bytes, 18, 19 or 20.
-    pub tree-read-answers : (o n w i : ℕ) → readOf d s path o n ≡ refuse w i → (w ≡ 18) ⊎ (w ≡ 19) ⊎ (w ≡ 20)
+    pub tree-read-answers : (o n w i : ℕ) → readOf d s path o n ≡ refuse w i → (w ≡ fault.pathForm) ⊎ (w ≡ fault.notFound) ⊎ (w ≡ fault.wrongKind)
     tree-read-answers o n w i q = go (refused-exactly d s path o n w i .0 q)
       where
         none : (k z c : ℕ) → findOf d s path ≡ found.File k z c → ⊥
         none k z c e = let y = tree-reads k z c e o n in impossible cc
 
-        go : Refuses d s path w i → (w ≡ 18) ⊎ (w ≡ 19) ⊎ (w ≡ 20)
+        go : Refuses d s path w i → (w ≡ fault.pathForm) ⊎ (w ≡ fault.notFound) ⊎ (w ≡ fault.wrongKind)
         go (of-lookup e) = tree-answers d s v path w i e
         go (of-directory t c e a b) = inr (inr a)
         go (of-header z c e f) = absurd (none i z c e)

@@ -39,11 +39,11 @@ module _ (d : Disk) (s : List ℕ) where
 
     datum-passes : (k n c : ℕ) → Intact d s k → Follows d s h n c k → nodeFault d s (datum k h n c) ≡ 0
     unfolding faultOf
-    datum-passes k n c i f = key-passes d k (i .low, i .inside) & data-passes d s k h n (wordOf s c 4) (i .sum, f .0, (f .1, f .2))
+    datum-passes k n c i f = key-passes d k (i .inside .low, i .inside .high) & data-passes d s k h n (wordOf s c 4) (i .sum, f .0, (f .1, f .2))
 
     list-there : (k m c : ℕ) → Intact d s k → ListBlock s h k → KeyCount s k (blocksOf d s h - m) → nodeFault d s (list k h m c) ≡ 0
     unfolding faultOf
-    list-there k m c i f l = key-passes d k (i .low, i .inside) & list-passes s k h (blocksOf d s h - m) (i .sum, f, l)
+    list-there k m c i f l = key-passes d k (i .inside .low, i .inside .high) & list-passes s k h (blocksOf d s h - m) (i .sum, f, l)
 
     -- ---- the data blocks of one block
 

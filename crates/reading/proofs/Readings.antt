@@ -11,6 +11,7 @@ use lib.Dec.{eqb}
 use lib.ListN.{length, getD, drop}
 use lib.Seq.{drop-cons, drop-length}
 use borrow.Author.Tests.{eq-eqb, ne-eqb}
+use Rattle.answers.specs.Numbers as fault
 use Rattle.answers.specs.Tests.{pick}
 use Rattle.answers.specs.declared.Refusal.{Refusal}
 use Rattle.answers.specs.declared.Tested.{Tested}
@@ -104,7 +105,7 @@ pub followed : (d : Disk) (s : List ℕ) (k : ℕ) (t : Tested) → t ≡ blocks
 followed d s k t e q =
     let p : blocksFault d s k ≡ Passed = sym e ∙ q in
     let w = tested-whole d s k p in
-    record { size = w .file .size; keys = λ b a. w .keys b a .inside; following = w .file .following }
+    record { size = w .file .size; keys = λ b a. w .keys b a .inside .high; following = w .file .following }
 
 -- what is found is a file with a key in the volume
 module _ (d : Disk) (s path : List ℕ) (f : Found) (e : f ≡ findOf d s path) (k z c : ℕ) (g : f ≡ found.File k z c) where
@@ -154,9 +155,9 @@ read-determined d s path o output r r′ a a′ h h′ =
     (ap numbersOf e, e, h .left ∙ ap (outputAfter d s path o output) e ∙ sym (h′ .left))
 
 -- a directory is no file
-pub handed-directory : (path : List ℕ) (f : Found) (n : ℕ) → OneOf (0 ∷ 1 ∷ []) (tagOf the-type f) → n ≡ lastComponent path → refuse 20 n ≡ handed path f
-handed-directory path (found.Directory k c) n h e = ap (refuse 20) e
-handed-directory path (found.File k z c) n h e = ap (refuse 20) e
+pub handed-directory : (path : List ℕ) (f : Found) (n : ℕ) → OneOf (0 ∷ 1 ∷ []) (tagOf the-type f) → n ≡ lastComponent path → refuse fault.wrongKind n ≡ handed path f
+handed-directory path (found.Directory k c) n h e = ap (refuse fault.wrongKind) e
+handed-directory path (found.File k z c) n h e = ap (refuse fault.wrongKind) e
 handed-directory path (found.Refused x) n h e = absurd (⊎-elim (λ e. omega arith) (λ e. omega arith) h)
 
 pub handed-refusal : (path : List ℕ) (f : Found) (x : Refusal) → f ≡ found.Refused x → Refused x ≡ handed path f

@@ -7,6 +7,7 @@ use mathlib.Core.List.{List, [], _∷_}
 use native.Mathlib.Omega.{arith}
 use lib.Dec.{eqb}
 use borrow.Author.Tests.{eq-eqb, ne-eqb, eqb-true, eqb-false}
+use Rattle.answers.specs.Numbers as fault
 use Rattle.answers.specs.Tests.{pick, must, first}
 use Rattle.answers.specs.Refusals.{refusal}
 use Rattle.answers.specs.declared.Tested.{Tested}
@@ -36,7 +37,7 @@ use Rattle.reading.proofs.Order.{data-position, list-position, Stands, 
 -- ---- a block's tests begin with its key's
 
 data KeyFirst (d : Disk) (k f v : ℕ) : Type 0 where
-  out : (Inside d k → ⊥) → v ≡ 5 → KeyFirst d k f v
+  out : (Inside d k → ⊥) → v ≡ fault.badKey → KeyFirst d k f v
   own : Inside d k → f ≡ v → v ≢ 0 → KeyFirst d k f v
 
 module _ (d : Disk) (k f v : ℕ) where
@@ -44,7 +45,7 @@ module _ (d : Disk) (k f v : ℕ) where
   unfolding first must
   key-first z e = go (inRange d k) refl e
     where
-      go : (b : Bool) → inRange d k ≡ b → first (must b 5) f ≡ v → KeyFirst d k f v
+      go : (b : Bool) → inRange d k ≡ b → first (must b fault.badKey) f ≡ v → KeyFirst d k f v
       go true q e = own (key-inside d k .0 q) e z
       go false q e = out (key-outside d k .0 q) (sym e)
 
@@ -203,7 +204,7 @@ module _ (d : Disk) (s path : List ℕ) (o n v k : ℕ) where
           of-header z c (rw y at e) (header-breaks d s k v .0 (rw y at (number-is x), λ u. eqb-false _ 0 p (number-is x ∙ u)))
 
   read-why : (f : Found) → findOf d s path ≡ f → reads d s path o n f ≡ refuse v k → Refuses d s path v k
-  read-why (found.Directory t c) e q = let x : refusal 20 (lastComponent path) ≡ refusal v k = cc in of-directory t c e (sym (number-is x)) (sym (place-is x))
+  read-why (found.Directory t c) e q = let x : refusal fault.wrongKind (lastComponent path) ≡ refusal v k = cc in of-directory t c e (sym (number-is x)) (sym (place-is x))
   read-why (found.Refused r) e q = let x : r ≡ refusal v k = cc in of-lookup (e ∙ ap found.Refused x)
   read-why (found.File h z c) e q = go (blocksFault d s h) refl q
     where

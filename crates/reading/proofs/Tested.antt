@@ -48,7 +48,7 @@ module _ (d : Disk) (s : List ℕ) where
   intact : (x : Node) → nodeFault d s x ≡ 0 → Intact d s (keyOf d x)
   intact x e =
       let r = key-passed d (keyOf d x) (first-zero (keyFault d (keyOf d x)) _ e .0) in
-      record { low = r .0; inside = r .1; sum = sum-passed d s x (in-tree d s x (own x e)) }
+      record { inside = record { low = r .0; high = r .1 }; sum = sum-passed d s x (in-tree d s x (own x e)) }
 
   -- a data block that passes is as the law says
   sound : (x : Node) → faultOf d s x ≡ 0 → DataSound d s x

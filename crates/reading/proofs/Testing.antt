@@ -12,7 +12,7 @@ use Rattle.answers.specs.Refusals.{refusal}
 use Rattle.answers.specs.declared.Refusal.{Refusal}
 use Rattle.answers.specs.declared.Tested.{Tested}
 use Rattle.answers.specs.declared.Tested.the-variants.{Passed, Failed}
-use Rattle.answers.proofs.Tests.{first-zero, must-passed}
+use Rattle.answers.proofs.Tests.{first-zero}
 use Rattle.answers.proofs.Clashes.{impossible}
 use Rattle.answers.specs.Numbers as fault
 use Rattle.volume.specs.declared.disk.Disk.{Disk}
@@ -24,6 +24,7 @@ use Rattle.volume.proofs.Sizes.{range-is}
 use Rattle.walk.specs.declared.file.KeyBlock.{KeyBlock}
 use Rattle.walk.specs.Nodes.{Node, datum, keyNodes, keyOf, keyFault, faultOf}
 use Rattle.walk.specs.KeyBlocks.{headerOf, nextOf, listNode, dataNodes, InFile, KeysReady, InImage, NextReady}
+use Rattle.walk.proofs.Passes.{key-passed}
 use Rattle.walk.proofs.Loops.{nodes, next, Turn, turn-next, turn-again, turn-end, list-ready, ready-image}
 use Rattle.reading.specs.FileTests.{nodeFault, firstFault, blocksFrom, fileNodes, blocksFault}
 use Rattle.reading.specs.Parts.{KeysTested, ListTested}
@@ -43,7 +44,7 @@ module _ (d : Disk) (s : List ℕ) (n : Node) (b : Bool) (e : b ≡ inRange d (k
   node-in f h q = rw (sym e ∙ h) q
 
 node-inside : (d : Disk) (s : List ℕ) (n : Node) → nodeFault d s n ≡ 0 → keyOf d n < d .blocks
-node-inside d s n e = range-is d (keyOf d n) (must-passed _ 4 (first-zero (keyFault d (keyOf d n)) _ e .0)) .1
+node-inside d s n e = key-passed d (keyOf d n) (first-zero (keyFault d (keyOf d n)) _ e .0) .1
 
 -- ---- blocks one after the other
 

@@ -1,5 +1,6 @@
--- A file's bytes are those of its data blocks one after the other, as many as its size. A read takes those after its offset, as many as
--- there are and have room, and leaves what room is over as it was (docs/FORMAT.md, "Blocks of a volume", File and Data block, and "Paths and reads").
+-- A file's bytes are those of its data blocks one after the other, as many as its size. A read takes those after
+-- its offset, as many as there are and have room, and leaves what room is over as it was (docs/FORMAT.md, "Blocks
+-- of a volume", File and Data block, and "Paths and reads").
 use Prim.Native.Nat.{ℕ, _+_, _*_}
 use mathlib.Core.List.{List, [], _∷_, _++_}
 use lib.ListN.{length, take, drop}

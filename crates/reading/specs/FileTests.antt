@@ -1,5 +1,5 @@
--- The tests of a file before it is read: its header's own, then all of its blocks in the audit's order, without claims (docs/FORMAT.md,
--- "Paths and reads"). The blocks, their order and their tests are the audit's.
+-- The tests of a file before it is read: its header's own, then all of its blocks in the audit's order, without
+-- claims (docs/FORMAT.md, "Paths and reads"). The blocks, their order and their tests are the audit's.
 use Prim.Native.Nat.{ℕ, zero, suc, _+_, _-_}
 use mathlib.Core.List.{List, [], _∷_, _++_}
 use lib.Dec.{eqb}
@@ -20,17 +20,21 @@ nodeFault d s n = first (keyFault d (keyOf d n)) (faultOf d s n)
 -- the first block that fails
 unfoldable pub firstFault : Disk → List ℕ → List Node → Tested
 firstFault d s [] = Passed
-firstFault d s (n ∷ ns) = pick (eqb (nodeFault d s n) 0) (firstFault d s ns) (Failed (refusal (nodeFault d s n) (keyOf d n)))
+firstFault d s (n ∷ ns) =
+    pick (eqb (nodeFault d s n) 0) (firstFault d s ns) (Failed (refusal (nodeFault d s n) (keyOf d n)))
 
--- the blocks of file h from block b on, which lists keys after m data blocks, c the last of them; q list blocks follow it
+-- the blocks of file h from block b on, which lists keys after m data blocks, c the last of them; q list blocks
+-- follow it
 unfoldable pub blocksFrom : Disk → List ℕ → ℕ → ℕ → ℕ → ℕ → ℕ → List Node
 blocksFrom d s h b m c zero = keyNodes s h b m c 0 (keysHere (blocksOf d s h - m))
 blocksFrom d s h b m c (suc q) =
     keyNodes s h b m c 0 (keysHere (blocksOf d s h - m))
-    ++ (list (wordOf s b 126) h (m + slots) (keyWord s b 71) ∷ blocksFrom d s h (wordOf s b 126) (m + slots) (keyWord s b 71) q)
+    ++ (list (wordOf s b 126) h (m + slots) (keyWord s b 71)
+    ∷ blocksFrom d s h (wordOf s b 126) (m + slots) (keyWord s b 71) q)
 
 abbrev pub fileNodes : Disk → List ℕ → ℕ → List Node
 fileNodes d s h = blocksFrom d s h h 0 h (listBlocks (blocksOf d s h))
 
 unfoldable pub blocksFault : Disk → List ℕ → ℕ → Tested
-blocksFault d s h = pick (eqb (fileFault d s h) 0) (firstFault d s (fileNodes d s h)) (Failed (refusal (fileFault d s h) h))
+blocksFault d s h =
+    pick (eqb (fileFault d s h) 0) (firstFault d s (fileNodes d s h)) (Failed (refusal (fileFault d s h) h))

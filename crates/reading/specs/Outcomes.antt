@@ -1,14 +1,14 @@
--- What a read's answer says, in the words of the law: when bytes are given, and how many; what the output holds then; and why a read is
--- refused, with which number at which block (docs/FORMAT.md, "Paths and reads" and "Numbers").
+-- What a read's answer says, in the words of the law: when bytes are given, and how many; what the output holds
+-- then; and why a read is refused, with which number at which block (docs/FORMAT.md, "Paths and reads" and
+-- "Numbers").
 use Prim.Native.Nat.{ℕ, suc, _+_, _-_, _*_, _/_, _≤_, _<_, min}
 use mathlib.Core.Path.{_≡_}
-use mathlib.Core.List.{List, _∷_}
+use mathlib.Core.List.{List}
 use lib.ListN.{length, getD}
 use Rattle.reach.specs.References.{At, _∈_}
 use Rattle.answers.specs.Numbers as fault
 use Rattle.answers.specs.Refusals.{refusal}
 use Rattle.volume.specs.declared.disk.Disk.{Disk}
-use Rattle.volume.specs.Disks.{firstKey}
 use Rattle.volume.specs.Blocks.{slots, wordOf, sumOf}
 use Rattle.volume.specs.Files.{blocksOf, listsOf, keysOf}
 use Rattle.volume.specs.Law.{File}
@@ -21,8 +21,7 @@ use Rattle.reading.specs.Reads.{lastComponent}
 
 -- a block that lies after the boot blocks, in the volume, and whose sum is 0
 pub record Intact (d : Disk) (s : List ℕ) (k : ℕ) : Type 0 where
-  pub low : firstKey ≤ k
-  pub inside : k < d .blocks
+  pub inside : Inside d k
   pub sum : sumOf s k ≡ 0
 
 -- it is as the law says, with all of its blocks
@@ -63,7 +62,8 @@ pub data BadData (d : Disk) (s : List ℕ) (h i k c v : ℕ) : Type 0 where
   data-key : (Inside d k → ⊥) → v ≡ fault.badKey → BadData d s h i k c v
   data-itself : Inside d k → DataBreaks d s k h (suc i) (wordOf s c 4) v → BadData d s h i k c v
 
--- list block j, from 0, is block k, and as the law says: the keys still to come are those after the header's and the earlier list blocks'
+-- list block j, from 0, is block k, and as the law says: the keys still to come are those after the header's and
+-- the earlier list blocks'
 pub record GoodList (d : Disk) (s : List ℕ) (h j k : ℕ) : Type 0 where
   pub inside : Inside d k
   pub sound : ListSound s k h (blocksOf d s h - slots * suc j)
@@ -78,16 +78,21 @@ pub record BlocksGood (d : Disk) (s : List ℕ) (h n m : ℕ) : Type 0 where
   pub keys : (i k c : ℕ) → i < n → IsData d s h i k c → GoodData d s h i k c
   pub lists : (j k : ℕ) → j < m → At j k (listsOf d s h) → GoodList d s h j k
 
--- Block k is its first bad one, by number v. A list block comes after all data blocks that those before it list, and before its own.
+-- Block k is its first bad one, by number v. A list block comes after all data blocks that those before it list,
+-- and before its own.
 pub data Fails (d : Disk) (s : List ℕ) (h v k : ℕ) : Type 0 where
   at-data : (i c : ℕ) → IsData d s h i k c → BlocksGood d s h i (i / slots) → BadData d s h i k c v → Fails d s h v k
-  at-list : (j : ℕ) → At j k (listsOf d s h) → BlocksGood d s h (slots * suc j) j → BadList d s h j k v → Fails d s h v k
+  at-list : (j : ℕ) → At j k (listsOf d s h) → BlocksGood d s h (slots * suc j) j → BadList d s h j k v
+      → Fails d s h v k
 
 -- ---- a refusal
 
--- the path leads to no file; or the file's header breaks the law, 14; or its header is good and another of its blocks is not
+-- the path leads to no file; or the file's header breaks the law, 14; or its header is good and another of its
+-- blocks is not
 pub data Refuses (d : Disk) (s path : List ℕ) (v k : ℕ) : Type 0 where
   of-lookup : findOf d s path ≡ found.Refused (refusal v k) → Refuses d s path v k
-  of-directory : (t c : ℕ) → findOf d s path ≡ found.Directory t c → v ≡ fault.wrongKind → k ≡ lastComponent path → Refuses d s path v k
+  of-directory : (t c : ℕ) → findOf d s path ≡ found.Directory t c → v ≡ fault.wrongKind → k ≡ lastComponent path
+      → Refuses d s path v k
   of-header : (z c : ℕ) → findOf d s path ≡ found.File k z c → HeaderBreaks d s k v → Refuses d s path v k
-  of-block : (h z c : ℕ) → findOf d s path ≡ found.File h z c → HeaderSound d s h → Fails d s h v k → Refuses d s path v k
+  of-block : (h z c : ℕ) → findOf d s path ≡ found.File h z c → HeaderSound d s h → Fails d s h v k
+      → Refuses d s path v k

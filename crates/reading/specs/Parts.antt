@@ -1,5 +1,5 @@
 -- What the parts of the code ask and promise. Nothing that a read answers is said here.
-use Prim.Native.Nat.{ℕ, _+_, _-_, _<_, _≤_}
+use Prim.Native.Nat.{ℕ, _+_, _<_, _≤_}
 use mathlib.Core.Path.{_≡_}
 use mathlib.Core.List.{List, [], _++_, _∷_, map}
 use lib.ListN.{length}

@@ -1,5 +1,5 @@
--- A read: the path's lookup, the tests of the file's blocks, and then its bytes from an offset on (docs/FORMAT.md, "Paths and reads"). Nothing is
--- copied before all is tested; a directory is no file.
+-- A read: the path's lookup, the tests of the file's blocks, and then its bytes from an offset on (docs/FORMAT.md,
+-- "Paths and reads"). Nothing is copied before all is tested; a directory is no file.
 use Prim.Native.Nat.{ℕ, _-_}
 use mathlib.Core.Path.{_≡_}
 use mathlib.Core.List.{List, [], _∷_, _++_}

@@ -34,7 +34,8 @@ fn failed(number: u32, key: u32) -> Tested
 
 // Data block n of b's file, after the block `last`.
 fn test_data(disk: Disk, image: &[u8], b: KeyBlock, key: u32, n: u32, last: u32) -> u32
-    requires { ⌜ (Sized disk) × (length (now image) ≡ imageBytes disk) × (InFile disk (now image) b) × (last < disk .blocks) × (1 ≤ n) × (n ≤ blocksOf disk (now image) (b .header)) ⌝ }
+    requires { ⌜ (Sized disk) × (length (now image) ≡ imageBytes disk) × (InFile disk (now image) b)
+        × (last < disk .blocks) × (1 ≤ n) × (n ≤ blocksOf disk (now image) (b .header)) ⌝ }
     ensures { λ r. ⌜ r ≡ nodeFault disk (now (image .entry)) (datum key (b .header) n last) ⌝ }
 {
     if disk.in_range(key) {
@@ -88,7 +89,8 @@ fn test_with_keys(disk: Disk, image: &[u8], b: KeyBlock) -> Tested
 
 // The data blocks and list blocks of a file whose header has passed its own tests.
 fn test_blocks(disk: Disk, image: &[u8], header: u32) -> Tested
-    requires { ⌜ (Sized disk) × (length (now image) ≡ imageBytes disk) × (header < disk .blocks) × (fileFault disk (now image) header ≡ 0) ⌝ }
+    requires { ⌜ (Sized disk) × (length (now image) ≡ imageBytes disk) × (header < disk .blocks)
+        × (fileFault disk (now image) header ≡ 0) ⌝ }
     ensures { λ r. ⌜ r ≡ firstFault disk (now (image .entry)) (fileNodes disk (now (image .entry)) header) ⌝ }
 {
     let first = header_block(image, header);

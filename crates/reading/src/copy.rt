@@ -43,7 +43,8 @@ fn copy_bytes(image: &[u8], from: usize, output: &mut [u8], at: usize, n: usize)
 
 // The key of the data block that holds byte `offset` of a file: each block names the next.
 fn seek(disk: Disk, image: &[u8], header: u32, offset: usize) -> u32
-    requires { ⌜ (length (now image) ≡ imageBytes disk) × (header < disk .blocks) × (Followed disk (now image) header) × (offset < sizeOf (now image) header) ⌝ }
+    requires { ⌜ (length (now image) ≡ imageBytes disk) × (header < disk .blocks)
+        × (Followed disk (now image) header) × (offset < sizeOf (now image) header) ⌝ }
     ensures { λ r. ⌜ r ≡ getD (keysOf disk (now (image .entry)) header) (offset / dataBytes disk) 0 ⌝ }
 {
     let n = offset / disk.data_bytes() as usize;
@@ -65,8 +66,10 @@ pub(crate) fn copy_file(
     offset: usize,
     output: &mut [u8],
 ) -> usize
-    requires { ⌜ (Sized disk) × (length (now image) ≡ imageBytes disk) × (header < disk .blocks) × (size ≡ sizeOf (now image) header) × (Followed disk (now image) header) ⌝ }
-    ensures { λ r. ⌜ Copied (fileBytes disk (now (image .entry)) header) offset (now (output .entry)) r (now (output .exit)) ⌝ }
+    requires { ⌜ (Sized disk) × (length (now image) ≡ imageBytes disk) × (header < disk .blocks)
+        × (size ≡ sizeOf (now image) header) × (Followed disk (now image) header) ⌝ }
+    ensures { λ r. ⌜ Copied (fileBytes disk (now (image .entry)) header) offset (now (output .entry)) r
+        (now (output .exit)) ⌝ }
 {
     let left = left_of(size, offset);
     let count = least(output.len(), left);

@@ -59,11 +59,12 @@ fn handed_back(found: Found, path: &[u8]) -> Reading
     Reading::Refused(r)
 }
 
-// Reads a file of a disk's image from `offset` on, as much as there is room for. Output after what was read stays, and all of it where the
-// read is refused.
+// Reads a file of a disk's image from `offset` on, as much as there is room for. Output after what was read stays,
+// and all of it where the read is refused.
 fn read_on(disk: Disk, image: &[u8], path: &[u8], offset: usize, output: &mut [u8]) -> Reading
     requires { ⌜ Sized disk ⌝ }
-    ensures { λ r. ⌜ Reads disk (now (image .entry)) (now (path .entry)) offset (now (output .entry)) r (now (output .exit)) ⌝ }
+    ensures { λ r. ⌜ Reads disk (now (image .entry)) (now (path .entry)) offset (now (output .entry)) r
+        (now (output .exit)) ⌝ }
 {
     let found = find_on(disk, image, path);
     let Found::File(key, size, _) = found else {
@@ -81,7 +82,8 @@ fn read_on(disk: Disk, image: &[u8], path: &[u8], offset: usize, output: &mut [u
 
 // Reads a file of an 880 KB floppy of the old file system.
 pub fn read(image: &[u8], path: &[u8], offset: usize, output: &mut [u8]) -> Reading
-    ensures { λ r. ⌜ Reads floppy (now (image .entry)) (now (path .entry)) offset (now (output .entry)) r (now (output .exit)) ⌝ }
+    ensures { λ r. ⌜ Reads floppy (now (image .entry)) (now (path .entry)) offset (now (output .entry)) r
+        (now (output .exit)) ⌝ }
 {
     read_on(Disk::floppy(), image, path, offset, output)
 }

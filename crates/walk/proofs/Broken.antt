@@ -1,29 +1,26 @@
 -- `cause-breaks`: each number of a refusal names a rule of the law that is broken, so what it says holds of no tree with w78 valid. Assumes
 -- nothing.
-use Prim.Native.Nat.{ℕ, zero, suc, _-_}
+use Prim.Native.Nat.{ℕ, suc, _-_}
 use mathlib.Core.Path.{_≡_, refl, sym, ap, _∙_, subst}
-use mathlib.Core.Logic.{_≢_, _⊎_, inl, inr}
-use mathlib.Core.Bool.{true, false}
-use mathlib.Core.List.{List, [], _∷_, _++_, map}
+use mathlib.Core.Logic.{_⊎_, inl, inr}
+use mathlib.Core.List.{List, [], _∷_, _++_}
 use native.Mathlib.Nat.{sub-zero}
 use native.Mathlib.Omega.{arith}
-use lib.ListN.{length}
 use borrow.Author.Tests.{ne-eqb}
 use Rattle.answers.proofs.Clashes.{impossible}
 use Rattle.reach.specs.References.{At, _∈_, Reached}
 use Rattle.reach.proofs.Lists.{at-in, at-one, at-map}
 use Rattle.volume.specs.declared.disk.Disk.{Disk}
-use Rattle.volume.specs.Disks.{rootOf}
 use Rattle.volume.specs.Blocks.{wordOf}
 use Rattle.volume.specs.Names.{nameGood}
 use Rattle.volume.specs.Files.{blocksOf, listBlocks, listsOf, keysOf}
 use Rattle.volume.specs.References.{Kind, Ref, to, references}
-use Rattle.volume.specs.Law.{Root, OneBitmap, Entry, File, Tree, Valid, RootFixed, EntryKind}
+use Rattle.volume.specs.Law.{OneBitmap, Entry, File, Tree, Valid, RootFixed}
 use Rattle.volume.specs.Breaks.{Link, HeaderSound, DataTies}
 use Rattle.volume.proofs.Keys.{keys-long}
 use Rattle.volume.proofs.Passes.{entry-passed, list-passed, data-passed}
-use Rattle.walk.specs.Nodes.{Node, root, bitmap, entry, list, datum, keyOf, bare, faultOf}
-use Rattle.walk.specs.Refusals.{Hung, FileAt, KindRight, Cause, number-4, number-5, number-6, number-7, number-8, number-9, number-10, number-10-list, number-11, number-12, number-13, number-14, number-14-list, number-15, number-16}
+use Rattle.walk.specs.Nodes.{Node, root, bitmap, entry, list, datum, bare, faultOf}
+use Rattle.walk.specs.Refusals.{FileAt, KindRight, Cause, number-4, number-5, number-6, number-7, number-8, number-9, number-10, number-10-list, number-11, number-12, number-13, number-14, number-14-list, number-15, number-16}
 use Rattle.walk.proofs.Lists.{at-left, at-end}
 use Rattle.walk.proofs.Passes.{InTree, hung-passed}
 use Rattle.walk.proofs.Accepts.{node-reached}

@@ -22,7 +22,6 @@ use Rattle.volume.specs.Files.{keysHere, blocksOf, listsOf}
 use Rattle.volume.specs.References.{Kind, to, references}
 use Rattle.volume.specs.Law.{chainKey, Hangs, KeyCount, EntryKind}
 use Rattle.volume.specs.Breaks.{Link, DataTies, root-7, root-8, root-4, root-11, map-16, bitmap-7, entry-7, entry-8, entry-9, entry-10, entry-11, entry-12, header-14, ListBreaks, list-7, list-8, list-10, list-14, DataBreaks, data-7, data-8, data-15}
-use Rattle.volume.proofs.Checks.{among}
 use Rattle.volume.proofs.Given.{rootRefusals, entryRefusals, headerRefusals, listRefusals, dataRefusals, root-number, entry-number, header-number, list-number, data-number}
 use Rattle.walk.specs.Nodes.{Node, root, bitmap, entry, list, datum, keyOf, bare, chained, slotNodes, before, keyNodes, listLink, keyBlockNodes, contents, leadsTo, keyFault, faultOf, nothing, graph, walkOf}
 use Rattle.walk.specs.Refusals.{NodeBreaks, Fails, outside, again, breaks, Visited, start, step, FirstRefusal, Hung, Cause, number-4, number-5, number-6, number-7, number-8, number-9, number-10, number-10-list, number-11, number-12, number-13, number-14, number-14-list, number-15, number-16}

@@ -7,7 +7,7 @@ use native.Mathlib.Omega.{arith}
 use native.Mathlib.Decide.{decLt}
 use Rattle.volume.specs.declared.disk.Disk.{Disk}
 use Rattle.volume.specs.Blocks.{slots, wordOf, keyWord}
-use Rattle.volume.specs.Files.{blocksOf, keysHere}
+use Rattle.volume.specs.Files.{blocksOf}
 use Rattle.volume.specs.Law.{KeyCount}
 use Rattle.walk.specs.declared.file.KeyBlock.{KeyBlock}
 use Rattle.walk.specs.Nodes.{before, listLink}

@@ -1,17 +1,16 @@
 -- The loops over a file's keys and over its list blocks: what is known at each turn, whatever is done with a block. The audit's loops and those
 -- of a read rest on it. Assumes nothing.
 use Prim.Native.Nat.{ℕ, suc, _+_, _-_, _≤_, _<_}
-use mathlib.Core.Path.{_≡_, refl, _∙_}
+use mathlib.Core.Path.{_≡_, refl}
 use mathlib.Core.List.{List, _∷_}
 use native.Mathlib.Omega.{arith}
 use native.Mathlib.Numerals.{add-one}
 use native.Mathlib.Decide.{decLt}
 use lib.ListN.{length}
 use Rattle.volume.specs.declared.disk.Disk.{Disk}
-use Rattle.volume.specs.Disks.{Sized, mostBlocks, imageBytes, fileLimit}
+use Rattle.volume.specs.Disks.{Sized, mostBlocks, imageBytes}
 use Rattle.volume.specs.Blocks.{slots, Holds, wordOf, keyWord}
 use Rattle.volume.specs.Files.{dataBlocks, sizeOf, blocksOf, keysHere}
-use Rattle.volume.specs.Law.{KeyCount}
 use Rattle.volume.specs.Rules.{fileFault, listFault, dataFault}
 use Rattle.volume.proofs.Sizes.{blocks-most}
 use Rattle.volume.proofs.Passes.{file-passed, list-passed}

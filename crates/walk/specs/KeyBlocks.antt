@@ -1,5 +1,5 @@
--- A block that lists data blocks of a file, as code passes it on: the header, the block after another, what they lead to, and what code may take
--- for granted of them.
+-- A block that lists data blocks of a file, as code passes it on: the header, the block after another, what they
+-- lead to, and what code may take for granted of them.
 use Prim.Native.Nat.{ℕ, _+_, _-_, _≤_, _<_}
 use mathlib.Core.Path.{_≡_}
 use mathlib.Core.Logic.{_≢_}
@@ -20,7 +20,13 @@ headerOf s h = record { header = h; size = sizeOf s h; key = h; done = 0; last =
 -- after the last its key is 0
 abbrev pub nextOf : List ℕ → KeyBlock → KeyBlock
 nextOf s b =
-    record { header = b .header; size = b .size; key = wordOf s (b .key) 126; done = b .done + slots; last = keyWord s (b .key) 71 }
+    record {
+      header = b .header;
+      size = b .size;
+      key = wordOf s (b .key) 126;
+      done = b .done + slots;
+      last = keyWord s (b .key) 71;
+    }
 
 -- how many keys it has
 abbrev pub keysIn : Disk → List ℕ → KeyBlock → ℕ

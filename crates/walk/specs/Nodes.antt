@@ -1,5 +1,6 @@
--- A volume as a graph: what each block leads to, in the order of the walk, and the tests that it must pass (docs/FORMAT.md, "Order of the
--- walk"). A node is a key with the kind that its reference asks for, and what the tests of that kind must know.
+-- A volume as a graph: what each block leads to, in the order of the walk, and the tests that it must pass
+-- (docs/FORMAT.md, "Order of the walk"). A node is a key with the kind that its reference asks for, and what the
+-- tests of that kind must know.
 use Prim.Native.Nat.{ℕ, zero, suc, _+_, _-_}
 use native.Mathlib.Omega.{arith}
 use mathlib.Core.Bool.{Bool, true, false}
@@ -103,7 +104,9 @@ keyFault d k = must (inRange d k) fault.badKey
 
 -- the tests of an entry: its own, no earlier name, and those of a file
 unfoldable pub hangsFault : Disk → List ℕ → ℕ → ℕ → ℕ → ℕ → ℕ
-hangsFault d s k t i p = first (entryFault d s k t i) (first (never (twin d s k (slotWord s t i) p) fault.doubleName) (pick (directory s k) 0 (fileFault d s k)))
+hangsFault d s k t i p =
+    first (entryFault d s k t i)
+    (first (never (twin d s k (slotWord s t i) p) fault.doubleName) (pick (directory s k) 0 (fileFault d s k)))
 
 unfoldable pub faultOf : Disk → List ℕ → Node → ℕ
 faultOf d s root = first (rootFault d s) (mapFault d s)

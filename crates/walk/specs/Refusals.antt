@@ -1,6 +1,6 @@
--- What a refusal of the walk means: a number v, and the key k of a block (docs/FORMAT.md, "Order of the walk" and "Numbers"). `FirstRefusal`
--- says exactly when it is given, in the order of the walk. `Cause` leaves the order out and names, number by number, the field of the law that
--- block k breaks.
+-- What a refusal of the walk means: a number v, and the key k of a block (docs/FORMAT.md, "Order of the walk" and
+-- "Numbers"). `FirstRefusal` says exactly when it is given, in the order of the walk. `Cause` leaves the order out
+-- and names, number by number, the field of the law that block k breaks.
 use Prim.Native.Nat.{ℕ, suc, _-_, _*_, _<_}
 use mathlib.Core.Path.{_≡_}
 use mathlib.Core.Logic.{_≢_, _⊎_}
@@ -14,9 +14,11 @@ use Rattle.volume.specs.Disks.{rootOf}
 use Rattle.volume.specs.Blocks.{slots, wordOf, sumOf, slotWord, directory, dataType, fileKind}
 use Rattle.volume.specs.Names.{nameOf, nameGood, folded, slotOf}
 use Rattle.volume.specs.Files.{blocksOf, listsOf}
-use Rattle.volume.specs.References.{Kind, Ref, to, references}
-use Rattle.volume.specs.Law.{OneBitmap, Valid, chainKey, Hangs, KeyCount, ListBlock, RootKind, RootFixed, EntryKind, ListKind}
-use Rattle.volume.specs.Breaks.{Inside, RootSound, RootBreaks, MapBreaks, BitmapBreaks, Link, EntryTies, EntrySound, EntryBreaks, HeaderSound, HeaderBreaks, ListBreaks, IsData, DataTies, DataBreaks}
+use Rattle.volume.specs.References.{Kind, to, references}
+use Rattle.volume.specs.Law.{OneBitmap, Valid, chainKey, Hangs, KeyCount, ListBlock}
+use Rattle.volume.specs.Law.{RootKind, RootFixed, EntryKind, ListKind}
+use Rattle.volume.specs.Breaks.{Inside, RootSound, RootBreaks, MapBreaks, BitmapBreaks, Link, EntryTies, EntrySound}
+use Rattle.volume.specs.Breaks.{EntryBreaks, HeaderSound, HeaderBreaks, ListBreaks, IsData, DataTies, DataBreaks}
 use Rattle.walk.specs.Nodes.{Node, root, bitmap, entry, list, datum, keyOf, leadsTo}
 
 -- ---- when it is given, exactly
@@ -36,17 +38,19 @@ NodeBreaks d s (entry k t i p) v =
 NodeBreaks d s (list k h m c) v = ListBreaks s k h (blocksOf d s h - m) v
 NodeBreaks d s (datum k h n c) v = DataBreaks d s k h n (wordOf s c 4) v
 
--- of a node that comes after those seen: its key lies outside the volume, or it is a block's that was seen, or it breaks a rule of its kind
+-- of a node that comes after those seen: its key lies outside the volume, or it is a block's that was seen, or it
+-- breaks a rule of its kind
 pub data Fails (d : Disk) (s : List ℕ) (seen : List Node) (n : Node) (v : ℕ) : Type 0 where
   outside : (Inside d (keyOf d n) → ⊥) → v ≡ fault.badKey → Fails d s seen n v
   again : Inside d (keyOf d n) → keyOf d n ∈ map (keyOf d) seen → v ≡ fault.claimedTwice → Fails d s seen n v
   breaks : Inside d (keyOf d n) → ¬ (keyOf d n ∈ map (keyOf d) seen) → NodeBreaks d s n v → Fails d s seen n v
 
--- the walk comes to where these nodes are seen, the latest first, and these are to do, the next first: a node that does not fail is seen, and what
--- it leads to comes before the rest
+-- the walk comes to where these nodes are seen, the latest first, and these are to do, the next first: a node that
+-- does not fail is seen, and what it leads to comes before the rest
 pub data Visited (d : Disk) (s : List ℕ) : List Node → List Node → Type 0 where
   start : Visited d s [] (root ∷ [])
-  step : {seen todo : List Node} {n : Node} → Visited d s seen (n ∷ todo) → ((v : ℕ) → Fails d s seen n v → ⊥) → Visited d s (n ∷ seen) (leadsTo d s n ++ todo)
+  step : {seen todo : List Node} {n : Node} → Visited d s seen (n ∷ todo) → ((v : ℕ) → Fails d s seen n v → ⊥)
+      → Visited d s (n ∷ seen) (leadsTo d s n ++ todo)
 
 -- k is the key of the first node, in the order of the walk, that fails
 pub record FirstRefusal (d : Disk) (s : List ℕ) (v k : ℕ) : Type 0 where
@@ -93,22 +97,30 @@ pub data Cause (d : Disk) (s : List ℕ) (v k : ℕ) : Type 0 where
   -- `Tree.sums`
   number-7 : (a : Kind) → Reached (references d s) (to a k) → sumOf s k ≢ 0 → v ≡ fault.blockSum → Cause d s v k
   -- `type` and `kind` of `Root`, `Entry` and `ListBlock`, `type` of `DataBlock`
-  number-8 : (a : Kind) → Reached (references d s) (to a k) → (KindRight s k a → ⊥) → v ≡ fault.blockType → Cause d s v k
+  number-8 : (a : Kind) → Reached (references d s) (to a k) → (KindRight s k a → ⊥) → v ≡ fault.blockType
+      → Cause d s v k
   -- `Entry.kind`: it is a link
   number-9 : Reached (references d s) (to Kind.entry k) → Link s k → v ≡ fault.link → Cause d s v k
-  -- of an entry `Entry.own`, `Directory.parent`, or w126 of a directory (`Tree.directories`); of list block i of a file `own` and `parent`
+  -- of an entry `Entry.own`, `Directory.parent`, or w126 of a directory (`Tree.directories`); of list block i of a
+  -- file `own` and `parent`
   number-10 : (t i : ℕ) → Hung d s t i k → EntryKind s k → (EntryTies s k t → ⊥) → v ≡ fault.wrongTies → Cause d s v k
-  number-10-list : (h i : ℕ) → FileAt d s h → At i k (listsOf d s h) → ListKind s k → (ListBlock s h k → ⊥) → v ≡ fault.wrongTies → Cause d s v k
+  number-10-list : (h i : ℕ) → FileAt d s h → At i k (listsOf d s h) → ListKind s k → (ListBlock s h k → ⊥)
+      → v ≡ fault.wrongTies → Cause d s v k
   -- `Root.name` or `Entry.name`
-  number-11 : (k ≡ rootOf d) ⊎ Reached (references d s) (to Kind.entry k) → nameGood s k ≡ false → v ≡ fault.badName → Cause d s v k
+  number-11 : (k ≡ rootOf d) ⊎ Reached (references d s) (to Kind.entry k) → nameGood s k ≡ false → v ≡ fault.badName
+      → Cause d s v k
   -- `Directory.slot`
   number-12 : (t i : ℕ) → Hung d s t i k → slotOf d (nameOf s k) ≢ i → v ≡ fault.wrongSlot → Cause d s v k
   -- `Directory.names`: another entry, earlier on the chain of that directory, has the same folded name
-  number-13 : (t i l : ℕ) (h : Hung d s t i k) (g : Hangs s t i l) → g .position < h .hangs .position → l ≢ k → folded d (nameOf s l) ≡ folded d (nameOf s k) → v ≡ fault.doubleName → Cause d s v k
+  number-13 : (t i l : ℕ) (h : Hung d s t i k) (g : Hangs s t i l) → g .position < h .hangs .position → l ≢ k
+      → folded d (nameOf s l) ≡ folded d (nameOf s k) → v ≡ fault.doubleName → Cause d s v k
   -- `File.size`, `File.counts` or, of an empty file, `File.following`; of list block i of a file `File.counts`
   number-14 : FileAt d s k → (HeaderSound d s k → ⊥) → v ≡ fault.fileLayout → Cause d s v k
-  number-14-list : (h i : ℕ) → FileAt d s h → At i k (listsOf d s h) → (KeyCount s k (blocksOf d s h - slots * suc i) → ⊥) → v ≡ fault.fileLayout → Cause d s v k
-  -- `File.blocks` or `File.following`, of data block i of a file, counted from 0; c is the data block before it, or the header
-  number-15 : (h i c : ℕ) → FileAt d s h → IsData d s h i k c → (DataTies d s k h (suc i) (wordOf s c 4) → ⊥) → v ≡ fault.dataLayout → Cause d s v k
+  number-14-list : (h i : ℕ) → FileAt d s h → At i k (listsOf d s h)
+      → (KeyCount s k (blocksOf d s h - slots * suc i) → ⊥) → v ≡ fault.fileLayout → Cause d s v k
+  -- `File.blocks` or `File.following`, of data block i of a file, counted from 0; c is the data block before it, or
+  -- the header
+  number-15 : (h i c : ℕ) → FileAt d s h → IsData d s h i k c → (DataTies d s k h (suc i) (wordOf s c 4) → ⊥)
+      → v ≡ fault.dataLayout → Cause d s v k
   -- `Volume.valid` or `Root.rest`
   number-16 : k ≡ rootOf d → (Valid d s → ⊥) ⊎ (OneBitmap s k → ⊥) → v ≡ fault.bitmapWords → Cause d s v k

@@ -1,5 +1,5 @@
--- What an accepted walk hands back, said of blocks and kinds alone: a claim byte for each block, and the counts (docs/FORMAT.md, "Order of
--- the walk").
+-- What an accepted walk hands back, said of blocks and kinds alone: a claim byte for each block, and the counts
+-- (docs/FORMAT.md, "Order of the walk").
 use Prim.Native.Nat.{ℕ, suc, _+_, _<_}
 use mathlib.Core.Path.{_≡_}
 use mathlib.Core.Logic.{_⊎_}
@@ -23,10 +23,12 @@ count f (r ∷ l) = pick (f r) (suc (count f l)) (count f l)
 -- ---- what is counted
 
 abbrev pub isDirectory : List ℕ → Ref → Bool
-isDirectory s r = elim (r .kind) [ root ↦ false | bitmap ↦ false | entry ↦ directory s (r .key) | list ↦ false | datum ↦ false ]
+isDirectory s r =
+    elim (r .kind) [ root ↦ false | bitmap ↦ false | entry ↦ directory s (r .key) | list ↦ false | datum ↦ false ]
 
 abbrev pub isFile : List ℕ → Ref → Bool
-isFile s r = elim (r .kind) [ root ↦ false | bitmap ↦ false | entry ↦ not (directory s (r .key)) | list ↦ false | datum ↦ false ]
+isFile s r =
+    elim (r .kind) [ root ↦ false | bitmap ↦ false | entry ↦ not (directory s (r .key)) | list ↦ false | datum ↦ false ]
 
 abbrev pub isList : Ref → Bool
 isList r = elim (r .kind) [ root ↦ false | bitmap ↦ false | entry ↦ false | list ↦ true | datum ↦ false ]

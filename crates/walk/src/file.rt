@@ -1,5 +1,5 @@
-// A file's blocks in the order of the walk: a block that lists keys, the tests of what it leads to, and the list block after it. What an
-// audit and a read do alike.
+// A file's blocks in the order of the walk: a block that lists keys, the tests of what it leads to, and the list
+// block after it. What an audit and a read do alike.
 use volume::block::Block;
 use volume::block::word_of;
 use volume::disk::Disk;
@@ -65,7 +65,8 @@ pub fn key_count(disk: Disk, b: KeyBlock) -> u32
 
 // The tests of data block n of b's file, after the block `last`.
 pub fn data_tests(disk: Disk, image: &[u8], b: KeyBlock, key: u32, n: u32, last: u32) -> u32
-    requires { ⌜ Sized disk × (length (now image) ≡ imageBytes disk) × InFile disk (now image) b × Holds (now image) key × (last < disk .blocks) × (1 ≤ n) × (n ≤ blocksOf disk (now image) (b .header)) ⌝ }
+    requires { ⌜ Sized disk × (length (now image) ≡ imageBytes disk) × InFile disk (now image) b × Holds (now image) key
+        × (last < disk .blocks) × (1 ≤ n) × (n ≤ blocksOf disk (now image) (b .header)) ⌝ }
     ensures { λ r. ⌜ r ≡ faultOf disk (now (image .entry)) (datum key (b .header) n last) ⌝ }
 {
     data_fault(

@@ -1,5 +1,4 @@
 -- `audit::audit::audit_on` meets its contract. Assumes nothing.
-use mathlib.Core.Path.{_∙_}
 use Rattle.audit.proofs.Auditing.{audit-length, audit-short, audit-untagged, audit-goes, is-fresh}
 use borrow.Author.Needs.{needs}
 use Rattle.audit.proofs.audit.audit_on.Statement.{statement}

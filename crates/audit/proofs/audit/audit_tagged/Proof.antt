@@ -1,7 +1,4 @@
 -- `audit::audit::audit_tagged` meets its contract. Assumes nothing.
-use native.Mathlib.Omega.{arith}
--- `audit::audit::audit_tagged` meets its contract. Assumes nothing.
-use mathlib.Core.Path.{_∙_}
 use Rattle.audit.proofs.Auditing.{part-zero, part-long, area-long, tagged-accepted, tagged-refused}
 use borrow.Author.Needs.{needs}
 use Rattle.audit.proofs.audit.audit_tagged.Statement.{statement}

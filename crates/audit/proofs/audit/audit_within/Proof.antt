@@ -1,8 +1,5 @@
 -- `audit::audit::audit_within` meets its contract. Assumes nothing.
-use native.Mathlib.Omega.{arith}
-use mathlib.Core.Path.{_∙_}
-use lib.ListN.{length-replicate}
-use Rattle.audit.proofs.Auditing.{zeros-long, kept-long, within-stopped, walk-few, bitmap-inside, within-right, within-wrong}
+use Rattle.audit.proofs.Auditing.{kept-long, within-stopped, walk-few, bitmap-inside, within-right, within-wrong}
 use borrow.Author.Needs.{needs}
 use Rattle.audit.proofs.audit.audit_within.Statement.{statement}
 use Rattle.audit.proofs.audit.audit_within.Tie as tie

@@ -2,7 +2,7 @@
 use borrow.Author.Needs.{needs}
 use Prim.Native.Nat.{_-_}
 use native.Mathlib.Omega.{arith}
-use Rattle.audit.proofs.Mapping.{BitsInv, bits-start, bits-asks, bits-few, bits-wrong, bits-again, bits-end}
+use Rattle.audit.proofs.Mapping.{BitsInv, bits-start, bits-few, bits-wrong, bits-again, bits-end}
 use Rattle.audit.proofs.bitmap.check_bits.Statement.{statement}
 use Rattle.audit.proofs.bitmap.check_bits.Tie as tie
 
@@ -13,7 +13,7 @@ abbrev μ-loop : tie.MeasureT-loop
 μ-loop disk image bitmap claim free₀ key₀ free key = disk .blocks - key
 
 loop-holds : tie.Need-loop-holds Inv-loop μ-loop
-loop-holds c = bits-start _ _ _ _ (c .before .before .pre .0)
+loop-holds c = search bits-start depth 9
 
 is-free-requires : tie.Need-is-free-requires Inv-loop μ-loop
 is-free-requires c κs = search needs
@@ -43,7 +43,7 @@ loop-again : tie.Need-loop-again Inv-loop μ-loop
 loop-again c = search bits-again depth 9
 
 returns-2 : tie.Need-returns-2 Inv-loop μ-loop
-returns-2 c = bits-end _ _ _ _ _ _ (c .before .before .loop .inv) (c .if1 .left)
+returns-2 c = search bits-end depth 9
 
 pub check-bits-spec : {M : Type 1} → statement M
 check-bits-spec =

@@ -1,8 +1,6 @@
 -- The proof of the cycle of calls {walk_directory, walk_entry}: `walk_entry` claims a block before it calls `walk_directory`, which calls `walk_entry`
 -- with no more blocks unclaimed than it was given. The measures are twice the unclaimed blocks, and one more for `walk_directory`. Assumes nothing.
 use Prim.Native.Nat.{ℕ, _<_, _+_, _-_, _*_}
-use mathlib.Core.Path.{sym, _∙_}
-use mathlib.Core.Bool.{true, false}
 use native.Mathlib.Omega.{arith}
 use borrow.Author.Needs.{needs}
 use borrow.Fn.Kinds.{In}
@@ -11,7 +9,7 @@ use Rattle.reach.specs.Walk.{free}
 use Rattle.volume.specs.Blocks.{slots}
 use Rattle.audit.proofs.Walking.{ready-most}
 use Rattle.audit.proofs.KeyBlocks.{ready-holds}
-use Rattle.audit.proofs.Hanging.{ChainInv, SlotsInv, met-high, met-holds, met-file, entry-stops, entry-falls, entry-holds, entry-less, entry-ready, entry-goes, chain-start, chain-few, chain-out, chain-again, slots-start, slots-out, slots-again, slots-end}
+use Rattle.audit.proofs.Hanging.{ChainInv, SlotsInv, met-high, met-holds, met-file, entry-stops, entry-falls, entry-holds, entry-less, entry-ready, entry-goes, chain-start, chain-out, chain-again, slots-start, slots-out, slots-again, slots-end}
 use Rattle.audit.proofs.directories.walk_directory.Reads as walk-directory
 use Rattle.audit.proofs.directories.walk_directory.Kinds as walk-directory-kinds
 use Rattle.audit.proofs.directories.+walk_directory+walk_entry.Lts-walk_directory as walk-directory-lts
@@ -67,7 +65,7 @@ abbrev Ms : walk-directory-lts.MeasureT-slots
 Ms disk image claim₀ key m₀ slot₀ claim m slot = slots - slot
 
 walk-directory-slots-holds : (t : ℕ) → walk-directory-lts.Need-slots-holds (D t) (walk-directory-at t) walk-directory.Post Ic Mc Is Ms
-walk-directory-slots-holds t c = slots-start _ _ _ _ _ (c .before .before .pre .1 .0) (c .before .before .pre .1 .1)
+walk-directory-slots-holds t c = search slots-start depth 9
 
 walk-directory-cast-word-of : (t : ℕ) → walk-directory-lts.Need-cast-word-of (D t) (walk-directory-at t) walk-directory.Post Ic Mc Is Ms
 walk-directory-cast-word-of t c = search needs
@@ -79,7 +77,7 @@ walk-directory-word-of-requires : (t : ℕ) → walk-directory-lts.Need-word-of-
 walk-directory-word-of-requires t c κs = search (needs, ready-holds) depth 9
 
 walk-directory-chain-holds : (t : ℕ) → walk-directory-lts.Need-chain-holds (D t) (walk-directory-at t) walk-directory.Post Ic Mc Is Ms
-walk-directory-chain-holds t c = chain-start _ _ _ _ _ _ _ (c .before .before .slots .inv .ready) (c .before .before .slots .inv .inside) (c .before .slots-test .taken) (c .word-of .ensures)
+walk-directory-chain-holds t c = search chain-start depth 9
 
 walk-directory-walk-entry-requires : (t : ℕ) → walk-directory-lts.Need-walk-entry-requires (D t) (walk-directory-at t) walk-directory.Post Ic Mc Is Ms
 walk-directory-walk-entry-requires t c κs = search needs

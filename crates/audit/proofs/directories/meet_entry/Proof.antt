@@ -1,6 +1,6 @@
 -- `audit::directories::meet_entry` meets its contract. Assumes nothing.
-use Rattle.audit.proofs.Meeting.{met-claim}
-use Rattle.audit.proofs.Hanging.{claims-low, claims-high, met-entry}
+use Rattle.audit.proofs.Meeting.{claims-low, claims-high, met-claim}
+use Rattle.audit.proofs.Hanging.{met-entry}
 use borrow.Author.Needs.{needs}
 use Rattle.audit.proofs.directories.meet_entry.Statement.{statement}
 use Rattle.audit.proofs.directories.meet_entry.Tie as tie

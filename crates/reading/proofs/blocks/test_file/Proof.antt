@@ -1,7 +1,5 @@
 -- `reading::blocks::test_file` meets its contract. Assumes nothing.
 use Rattle.reading.proofs.Testing.{header-stops, header-goes}
--- `reading::blocks::test_file` meets its contract. Assumes nothing.
-use mathlib.Core.Path.{sym, _∙_}
 use borrow.Author.Needs.{needs}
 use Rattle.reading.proofs.blocks.test_file.Statement.{statement}
 use Rattle.reading.proofs.blocks.test_file.Tie as tie
@@ -13,13 +11,13 @@ failed-requires : tie.Need-failed-requires
 failed-requires c κs = search needs
 
 returns : tie.Need-returns
-returns c = header-stops _ _ _ _ (c .before .before .file-fault .ensures) _ (c .before .if1 .taken) (c .failed .ensures)
+returns c = search header-stops depth 9
 
 test-blocks-requires : tie.Need-test-blocks-requires
-test-blocks-requires c κs = (c .before .before .before .pre .0, c .before .before .before .pre .1, c .before .before .before .pre .2, sym (c .before .file-fault .ensures) ∙ c .if1 .left)
+test-blocks-requires c κs = search needs
 
 returns-2 : tie.Need-returns-2
-returns-2 c = header-goes _ _ _ _ (c .before .before .file-fault .ensures) _ (c .before .if1 .left) (c .test-blocks .ensures)
+returns-2 c = search header-goes depth 9
 
 pub test-file-spec : {M : Type 1} → statement M
 test-file-spec =

@@ -1,7 +1,6 @@
 -- `reading::read::last_component` meets its contract. Assumes nothing.
 use lib.ListN.{length}
 use Prim.Native.Nat.{_-_}
-use native.Mathlib.Omega.{arith}
 use borrow.Author.Needs.{needs}
 use Rattle.reading.proofs.Readings.{SlashInv, slash-start, slash-again, slash-end}
 use Rattle.reading.proofs.read.last_component.Statement.{statement}
@@ -20,7 +19,7 @@ shared-slice-read-with-slash : tie.Need-shared-slice-read-with-slash Inv-loop μ
 shared-slice-read-with-slash c = search needs
 
 with-slash-requires : tie.Need-with-slash-requires Inv-loop μ-loop
-with-slash-requires c κs = omega (arith, c .before .before .loop .inv .few)
+with-slash-requires c κs = search needs
 
 add-i : tie.Need-add-i Inv-loop μ-loop
 add-i c = search needs
@@ -29,7 +28,7 @@ loop-less : tie.Need-loop-less Inv-loop μ-loop
 loop-less c = search needs
 
 loop-again : tie.Need-loop-again Inv-loop μ-loop
-loop-again c = slash-again _ _ _ (c .before .before .before .loop .inv) (c .before .before .loop-test .taken) _ (c .with-slash .ensures)
+loop-again c = search slash-again depth 9
 
 returns : tie.Need-returns Inv-loop μ-loop
 returns c = slash-end _ _ _ (c .before .loop .inv) (c .loop-test .left)
