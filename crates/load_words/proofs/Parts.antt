@@ -16,4 +16,4 @@ cut n k l h e = sym (length-take-le n l (omega arith))
 pub fits : (file bases m table w : List ℕ) (r : Answer) (m1 t1 w1 : List ℕ) (t n : ℕ) → Loads file bases m table w r m1 t1 w1 → length m1 ≡ length m → r ≡ Accepted t n → n ≤ length m1
 fits file bases m table w r m1 t1 w1 t n l k e =
     let f = load-facts file bases (length m) (length table / 4) (length w) t n r (l .answer) e in
-    omega (arith, f .fits, f .file-good .bytes)
+    omega (arith, f .fits, f .file-accepted .bytes)
