@@ -30,10 +30,10 @@ module _
   facts e = load-facts file bases (length m) (length table / 4) (length w) t n r (l .answer) e
 
   pub load-fits : length m1 ≡ length m → r ≡ Accepted t n → n ≤ length m1
-  load-fits k e = omega (arith, facts e .fits, facts e .file-good .bytes)
+  load-fits k e = omega (arith, facts e .fits, facts e .file-accepted .bytes)
 
   pub load-records : length t1 ≡ length table → r ≡ Accepted t n → 4 * t ≤ length t1
-  load-records k e = omega (arith, facts e .records, facts e .file-good .hunks)
+  load-records k e = omega (arith, facts e .records, facts e .file-accepted .hunks)
 
 -- and a moved one
 module _
@@ -43,7 +43,7 @@ module _
   moved-facts e = move-facts file old new (length m) (length table / 4) (length w) t n r (l .answer) e .load
 
   pub move-fits : length m1 ≡ length m → r ≡ Accepted t n → n ≤ length m1
-  move-fits k e = omega (arith, moved-facts e .fits, moved-facts e .file-good .bytes)
+  move-fits k e = omega (arith, moved-facts e .fits, moved-facts e .file-accepted .bytes)
 
   pub move-records : length t1 ≡ length table → r ≡ Accepted t n → 4 * t ≤ length t1
-  move-records k e = omega (arith, moved-facts e .records, moved-facts e .file-good .hunks)
+  move-records k e = omega (arith, moved-facts e .records, moved-facts e .file-accepted .hunks)

@@ -14,4 +14,4 @@ pub fits :
     Loads file bases m table w r m1 t1 w1 → length m1 ≡ length m → r ≡ Accepted t n → n ≤ length m1
 fits file bases m table w r m1 t1 w1 t n l k e =
     let f = load-facts file bases (length m) (length table / 4) (length w) t n r (l .answer) e in
-    omega (arith, f .fits, f .file-good .bytes)
+    omega (arith, f .fits, f .file-accepted .bytes)
