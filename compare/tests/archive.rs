@@ -1,9 +1,5 @@
 //! The archive's calls are declared three times: where they are proved, for C and for Rust. Here the three are held to
 //! each other, name by name and type by type; so are the numbers of refusals.
-#[path = "../../include/rust/src/lib.rs"]
-#[allow(dead_code)]
-mod jufferdeeg;
-
 use std::fs::read_to_string;
 use std::mem::{offset_of, size_of};
 
