@@ -11,8 +11,8 @@
  * - Memory is lent as a pointer and a length, in bytes, bases or records. A pointer is not NULL, not even if the
  *   length is 0, and is aligned for its type. Memory that a call writes must not overlap anything else that it is
  *   lent.
- * - An answer is a struct. If the call did what it was asked, number and place are 0. If it refused, number says
- *   why, place says where, and all else in the struct is 0.
+ * - An answer is a struct, but for jufferdeeg_reason. If the call did what it was asked, number and place are 0. If
+ *   it refused, number says why, place says where, and all else in the struct is 0.
  * - Words of an image, of a program file and of the memory that a program is loaded into have their highest byte
  *   first. Bases, records and answers are numbers of the machine.
  * - Stack, measured on x86-64 and aarch64 (examples/c/stack.c): an audit takes 400 and 512 bytes for each directory
@@ -68,6 +68,16 @@ extern "C" {
 #define JUFFERDEEG_BAD_BASE 40        /* [entry] a base that is not allowed; [the first] not one for each hunk */
 #define JUFFERDEEG_SHORT_ROOM 41      /* [0] memory, table or work area is short */
 #define JUFFERDEEG_NEAR_TARGETS 42    /* [byte] an offset is less than 4 bytes from an earlier one of its hunk */
+
+/* Room for any sentence of jufferdeeg_reason. */
+#define JUFFERDEEG_REASON_BYTES 128
+
+/* Says in English what a refusal's number means, and answers how many bytes the whole sentence has; 0 for a number
+ * that no refusal has.
+ *
+ * Lent: the output.
+ * Left: the sentence, as far as it fits and without an end mark; the rest of the output stays. */
+size_t jufferdeeg_reason(uint32_t number, uint8_t *output, size_t output_bytes);
 
 /* ---- volumes */
 

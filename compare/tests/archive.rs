@@ -1,9 +1,5 @@
 //! The archive's calls are declared three times: where they are proved, for C and for Rust. Here the three are held to
 //! each other, name by name and type by type; so are the numbers of refusals.
-#[path = "../../include/rust/src/lib.rs"]
-#[allow(dead_code)]
-mod jufferdeeg;
-
 use std::fs::read_to_string;
 use std::mem::{offset_of, size_of};
 
@@ -106,7 +102,9 @@ fn calls_are_declared_alike() {
     let (c, rust) = (text("include/jufferdeeg.h"), text("include/rust/src/lib.rs"));
     let (volumes, programs) =
         (text("crates/jufferdeeg/src/volumes.rt"), text("crates/jufferdeeg/src/programs.rt"));
+    let reasons = text("crates/jufferdeeg/src/reasons.rt");
     for (call, in_c, of, source) in [
+        ("jufferdeeg_reason", "size_t", "usize", &reasons),
         ("jufferdeeg_audit", "struct jufferdeeg_audit_numbers", "AuditNumbers", &volumes),
         ("jufferdeeg_find", "struct jufferdeeg_find_numbers", "FindNumbers", &volumes),
         ("jufferdeeg_read", "struct jufferdeeg_read_numbers", "ReadNumbers", &volumes),
@@ -177,6 +175,7 @@ fn lengths_and_versions_are_the_same() {
     assert_eq!(of("CLAIM_BYTES"), jufferdeeg::CLAIM_BYTES.to_string());
     assert_eq!(of("MOST_HUNKS"), jufferdeeg::MOST_HUNKS.to_string());
     assert_eq!(of("MOST_BYTES"), jufferdeeg::MOST_BYTES.to_string());
+    assert_eq!(of("REASON_BYTES"), jufferdeeg::REASON_BYTES.to_string());
     assert_eq!(of("DIRECTORY"), format!("{}u", jufferdeeg::DIRECTORY));
     assert_eq!(of("FILE"), format!("0x{:X}u", jufferdeeg::FILE));
     let version = of("VERSION");

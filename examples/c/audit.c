@@ -4,7 +4,7 @@
 #include "jufferdeeg.h"
 
 /* One byte more than an image, to see that a file is longer. */
-static uint8_t image[JUFFERDEEG_IMAGE_BYTES + 1], claim[JUFFERDEEG_CLAIM_BYTES];
+static uint8_t image[JUFFERDEEG_IMAGE_BYTES + 1], claim[JUFFERDEEG_CLAIM_BYTES], why[JUFFERDEEG_REASON_BYTES];
 
 int main(int argc, char **argv) {
     FILE *f = argc == 2 ? fopen(argv[1], "rb") : NULL;
@@ -13,7 +13,8 @@ int main(int argc, char **argv) {
     if (a.number == 0) {
         printf("a volume: %u directories, %u files, %u blocks free\n", a.directories, a.files, a.free);
     } else {
-        printf("refused: number %u, place %zu\n", a.number, a.place);
+        int bytes = (int)jufferdeeg_reason(a.number, why, sizeof why);
+        printf("refused: %.*s (number %u, place %zu)\n", bytes, (const char *)why, a.number, a.place);
     }
     return a.number != 0;
 }

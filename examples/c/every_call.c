@@ -33,6 +33,16 @@ static int all_are(const uint8_t *bytes, size_t count, uint8_t value) {
     return 1;
 }
 
+/* Asks for the sentence of a number, with room for all of it and for 9 bytes. */
+static void reason(uint32_t number) {
+    uint8_t room[JUFFERDEEG_REASON_BYTES + 1], few[10];
+    memset(room, 0, sizeof room);
+    memset(few, 0, sizeof few);
+    size_t bytes = jufferdeeg_reason(number, room, JUFFERDEEG_REASON_BYTES);
+    jufferdeeg_reason(number, few, sizeof few - 1);
+    printf("reason of %u: %zu bytes, \"%s\"; of 9 bytes, \"%s\"\n", number, bytes, (char *)room, (char *)few);
+}
+
 static void audit(const char *what, size_t image_bytes) {
     struct jufferdeeg_audit_numbers a = jufferdeeg_audit(image, image_bytes, claim, sizeof claim);
     size_t claimed = 0;
@@ -126,6 +136,8 @@ int main(int argc, char **argv) {
     memset(claim, 0xAA, sizeof claim);
     audit("of the image", image_bytes);
     audit("of half of it", image_bytes / 2);
+    reason(JUFFERDEEG_IMAGE_LENGTH);
+    reason(0);
     find(image_bytes, argv[2]);
     find(image_bytes, "");
     find(image_bytes, "no/such");

@@ -120,6 +120,9 @@ static uint32_t find(void) {
 static uint32_t read_file(void) {
     return jufferdeeg_read(image, sizeof image, path, sizeof path, 0, output, sizeof output).number;
 }
+static uint32_t reason(void) {
+    return jufferdeeg_reason(JUFFERDEEG_NEAR_TARGETS, output, sizeof output) == 0;
+}
 static uint32_t check(void) {
     return jufferdeeg_check(file, file_bytes).number;
 }
@@ -176,5 +179,6 @@ int main(void) {
     make_volume();
     make_program();
     int bad = measure("audit", audit) + measure("find", find) + measure("read", read_file);
+    bad += measure("reason", reason);
     return bad + measure("check", check) + measure("load", load) + measure("move", move);
 }

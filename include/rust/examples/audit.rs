@@ -8,6 +8,6 @@ fn main() -> std::io::Result<ExitCode> {
         println!("a volume: {} directories, {} files, {} blocks free", a.directories, a.files, a.free);
         return Ok(ExitCode::SUCCESS);
     }
-    println!("refused: number {}, place {}", a.number, a.place);
+    println!("refused: {} (number {}, place {})", jufferdeeg::reason(a.number), a.number, a.place);
     Ok(ExitCode::FAILURE)
 }

@@ -10,7 +10,9 @@
 //! let mut claim = vec![0; jufferdeeg::CLAIM_BYTES];
 //! let answer = jufferdeeg::audit(&image, &mut claim);
 //! if answer.number == jufferdeeg::fault::BLOCK_SUM {
-//!     println!("the words of block {} do not add up to 0", answer.place);
+//!     println!("block {} is damaged", answer.place);
+//! } else if answer.number != 0 {
+//!     println!("{}, place {}", jufferdeeg::reason(answer.number), answer.place);
 //! }
 //! # Ok::<(), std::io::Error>(())
 //! ```
@@ -23,6 +25,9 @@ pub const CLAIM_BYTES: usize = 1_760;
 pub const MOST_HUNKS: usize = 64;
 /// The most bytes of a loaded program: memory and a work area of so many are never short.
 pub const MOST_BYTES: usize = 16_777_216;
+
+/// Room for any sentence of [`reason_into`].
+pub const REASON_BYTES: usize = 128;
 
 /// `kind` of [`FindNumbers`] for a directory.
 pub const DIRECTORY: u32 = 2;
@@ -159,6 +164,7 @@ mod c {
 
     #[rustfmt::skip]
     extern "C" {
+        pub fn jufferdeeg_reason(number: u32, output: *mut u8, output_bytes: usize) -> usize;
         pub fn jufferdeeg_audit(image: *const u8, image_bytes: usize,
             claim: *mut u8, claim_bytes: usize) -> AuditNumbers;
         pub fn jufferdeeg_find(image: *const u8, image_bytes: usize,
@@ -177,6 +183,19 @@ mod c {
 
 // Each call is safe: a slice's pointer is not null and is aligned, its length is right, and what is lent to be written
 // overlaps nothing.
+
+/// Copies the sentence that says what a refusal's number means, as far as it fits; answers the bytes of the whole
+/// sentence, and 0 for a number that no refusal has.
+pub fn reason_into(number: u32, output: &mut [u8]) -> usize {
+    unsafe { c::jufferdeeg_reason(number, output.as_mut_ptr(), output.len()) }
+}
+
+/// The sentence that says what a refusal's number means; empty for a number that no refusal has.
+pub fn reason(number: u32) -> String {
+    let mut room = [0; REASON_BYTES];
+    let bytes = reason_into(number, &mut room);
+    String::from_utf8_lossy(&room[..bytes]).into_owned()
+}
 
 /// Audits an image. Deep directories take stack: 0.9 MB for the deepest volume that there can be.
 pub fn audit(image: &[u8], claim: &mut [u8]) -> AuditNumbers {
