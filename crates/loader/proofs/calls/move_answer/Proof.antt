@@ -30,7 +30,7 @@ cast-bases-fault : tie.Need-cast-bases-fault
 cast-bases-fault c = search needs
 
 bases-fault-requires-2 : tie.Need-bases-fault-requires-2
-bases-fault-requires-2 c κs = (search checked-header, search checked-few)
+bases-fault-requires-2 c κs = (search checked-header, search (checked-few, arith))
 
 also-test-requires-2 : tie.Need-also-test-requires-2
 also-test-requires-2 c κs = search needs
