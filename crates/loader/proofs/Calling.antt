@@ -1,5 +1,5 @@
 -- The calls leave what they promise: laws for the returns of their code. Assumes nothing.
-use Prim.Native.Nat.{ℕ, _+_, _*_, _/_, _<_, _≤_}
+use Prim.Native.Nat.{ℕ, _+_, _*_, _/_, _%_, _<_, _≤_}
 use mathlib.Core.Path.{_≡_, refl, sym, ap, _∙_}
 use mathlib.Core.List.{List, _++_}
 use native.Mathlib.Omega.{arith}
@@ -13,11 +13,12 @@ use Rattle.program.specs.Header.{totalOf}
 use Rattle.program.specs.Acts.{actsOf}
 use Rattle.program.specs.Check.{numbersOf}
 use Rattle.loader.specs.declared.calls.Outcome.{Outcome}
-use Rattle.loader.specs.Memory.{withStored, targetsOf, amountOf, moved, loadOf, moveOf}
+use Rattle.program.specs.Cursors.{HeaderFits}
+use Rattle.loader.specs.Memory.{loadedOf, withStored, targetsOf, amountOf, moved, loadOf, moveOf}
 use Rattle.loader.specs.Table.{tableRoom, withRecords, recordsOf, tableOf}
 use Rattle.loader.specs.Calls.{loadAnswer, moveAnswer, effect, Loads, Moves}
-use Rattle.loader.specs.Parts.{handed, LoadsCore, MovesCore, Fills, filled}
-use Rattle.loader.proofs.Answering.{load-facts, move-facts}
+use Rattle.loader.specs.Parts.{Roomy, Cleanly, Writes, handed, LoadsCore, MovesCore, Fills, filled}
+use Rattle.loader.proofs.Answering.{LoadFacts, MoveFacts, load-facts, move-facts}
 use Rattle.loader.proofs.Inside.{keyed-targets, length-withRecords}
 
 -- a work area wiped, used and wiped again
@@ -28,28 +29,125 @@ module _ (w w1 w2 w3 : List ℕ) (e1 : w1 ≡ replicate (length w) 0) (e2 : leng
   wiped-clean : w3 ≡ replicate (length w) 0
   wiped-clean = e3 ∙ rw (e2, wiped-long)
 
-  module _ (file m : List ℕ) (records : ℕ) (a : Answer) (o : Outcome) (eo : o .answer ≡ a) where
-    module _ (bases : List ℕ) (ea : a ≡ loadAnswer file bases (length m) records (length w1)) where
-      pub core-refused : (f : Refusal) → a ≡ Refused f → o .records ≡ replicate tableRoom 0 → LoadsCore file bases m w records o m w3
-      core-refused f h z = record { answer = eo ∙ ea ∙ rw wiped-long; loaded = rw (eo, h); numbers = z ∙ rw (eo, h); clean = wiped-clean }
+  module _ (file : List ℕ) (m records : ℕ) (a : Answer) where
+    pub load-cleanly : (bases : List ℕ) → a ≡ loadAnswer file bases m records (length w1)
+        → Cleanly (loadAnswer file bases m records (length w)) (length w) a w3
+    load-cleanly bases e = record { answer = e ∙ rw wiped-long; clean = wiped-clean }
 
-      pub core-accepted : (t n : ℕ) (m1 m2 m3 : List ℕ) → a ≡ Accepted t n → m1 ≡ replicate n 0 ++ drop n m → m2 ≡ withStored m1 (actsOf file) → m3 ≡ shiftAll m2 (targetsOf file) (amountOf bases) → o .records ≡ withRecords file bases (replicate tableRoom 0) (actsOf file) → LoadsCore file bases m w records o m3 w3
-      core-accepted t n m1 m2 m3 h x y z l =
-          let g = load-facts file bases (length m) records (length w1) t n a ea h .file-accepted in
-          record { answer = eo ∙ ea ∙ rw wiped-long; loaded = z ∙ rw (eo, h, y, x, g .bytes); numbers = l ∙ rw (eo, h); clean = wiped-clean }
+    pub move-cleanly : (old new : List ℕ) → a ≡ moveAnswer file old new m records (length w1)
+        → Cleanly (moveAnswer file old new m records (length w)) (length w) a w3
+    move-cleanly old new e = record { answer = e ∙ rw wiped-long; clean = wiped-clean }
 
-    module _ (old new : List ℕ) (ea : a ≡ moveAnswer file old new (length m) records (length w1)) where
-      pub moving-refused : (f : Refusal) → a ≡ Refused f → o .records ≡ replicate tableRoom 0 → MovesCore file old new m w records o m w3
-      moving-refused f h z = record { answer = eo ∙ ea ∙ rw wiped-long; shifted = rw (eo, h); numbers = z ∙ rw (eo, h); clean = wiped-clean }
+-- ---- an accepted program is written
 
-      pub moving-accepted : (t n : ℕ) (amounts m1 : List ℕ) → a ≡ Accepted t n → ((k : ℕ) → k < length new → amountOf amounts k ≡ moved old new k) → m1 ≡ shiftAll m (targetsOf file) (amountOf amounts) → o .records ≡ withRecords file new (replicate tableRoom 0) (actsOf file) → MovesCore file old new m w records o m1 w3
-      moving-accepted t n amounts m1 h k z l =
-          let f = move-facts file old new (length m) records (length w1) t n a ea h in
+module _ (file : List ℕ) (b m : ℕ) (y : Roomy file b m) where
+  pub clear-asks : (n : ℕ) → n ≡ loadedOf file → n ≤ m
+  clear-asks n e = omega (arith, y .fits)
+
+  pub store-asks : (l : ℕ) → l ≡ m → (HeaderFits file) × (length file % 4 ≡ 0) × (loadedOf file ≤ l)
+  store-asks l e = (y .header, y .whole, omega (arith, y .fits))
+
+  pub add-asks : (l a : ℕ) → l ≡ m → b ≤ a
+      → (HeaderFits file) × (length file % 4 ≡ 0) × (loadedOf file ≤ l) × (totalOf file ≤ a)
+  add-asks l a e h = (y .header, y .whole, omega (arith, y .fits), omega (arith, y .counted))
+
+  pub write-asks : (k : ℕ) → k ≡ tableRoom
+      → (HeaderFits file) × (length file % 4 ≡ 0) × (totalOf file ≤ b) × (4 * totalOf file ≤ k)
+  write-asks k e = (y .header, y .whole, omega (arith, y .counted), omega (arith, y .header .few))
+
+  pub few-bases : b ≤ 64
+  few-bases = omega (arith, y .counted, y .header .few)
+
+module _ (file m numbers numbers′ : List ℕ) where
+  pub load-writes : (bases m1 m2 m3 : List ℕ) (n : ℕ) → n ≡ loadedOf file → m1 ≡ replicate n 0 ++ drop n m
+      → m2 ≡ withStored m1 (actsOf file) → m3 ≡ shiftAll m2 (targetsOf file) (amountOf bases)
+      → numbers′ ≡ withRecords file bases numbers (actsOf file)
+      → Writes (loadOf file bases m) (withRecords file bases numbers (actsOf file)) m3 numbers′
+  load-writes bases m1 m2 m3 n e x y z l = record { memory = z ∙ rw (y, x, e); numbers = l }
+
+  pub move-writes : (old new amounts m1 : List ℕ) (b : ℕ) → Roomy file (length new) b
+      → ((i : ℕ) → i < length new → amountOf amounts i ≡ moved old new i)
+      → m1 ≡ shiftAll m (targetsOf file) (amountOf amounts) → numbers′ ≡ withRecords file new numbers (actsOf file)
+      → Writes (moveOf file old new m) (withRecords file new numbers (actsOf file)) m1 numbers′
+  move-writes old new amounts m1 b y h z l =
+      let g =
+      shiftAll-agree m (totalOf file) (targetsOf file) (amountOf amounts) (moved old new)
+      (λ j q. h j (omega (arith, y .counted))) (keyed-targets file (y .header))
+      in
+      record { memory = z ∙ g; numbers = l }
+
+-- ---- the cores
+
+module _ (file m w w′ : List ℕ) (records : ℕ) (a : Answer) where
+  module _ (bases : List ℕ)
+      (v : Cleanly (loadAnswer file bases (length m) records (length w)) (length w) a w′) where
+    module _ (t n : ℕ) (h : a ≡ Accepted t n) where
+      facts : LoadFacts file bases (length m) records (length w) t n
+      facts = load-facts file bases (length m) records (length w) t n a (v .answer) h
+
+      pub load-bytes : n ≡ loadedOf file
+      load-bytes = facts .file-accepted .bytes
+
+      pub load-roomy : Roomy file (length bases) (length m)
+      load-roomy =
           record {
-            answer = eo ∙ ea ∙ rw wiped-long;
-            shifted = z ∙ shiftAll-agree m (totalOf file) (targetsOf file) (amountOf amounts) (moved old new) (λ j q. k j (omega (arith, f .count))) (keyed-targets file (f .load .file-accepted .header)) ∙ rw (eo, h);
-            numbers = l ∙ rw (eo, h);
-            clean = wiped-clean;
+            header = facts .file-accepted .header;
+            whole = facts .file-accepted .whole;
+            counted = sym (facts .count);
+            fits = omega (arith, facts .fits, load-bytes);
+          }
+
+    pub core-refused : (o : Outcome) (f : Refusal) → o .answer ≡ a → a ≡ Refused f → o .records ≡ replicate tableRoom 0
+        → LoadsCore file bases m w records o m w′
+    core-refused o f e h z =
+        record { answer = e ∙ v .answer; loaded = rw (e, h); numbers = z ∙ rw (e, h); clean = v .clean }
+
+    -- the code knows the answer by its parts
+    pub core-accepted : (o : Outcome) (t n : ℕ) (m′ : List ℕ) → o .answer ≡ Accepted t n → a ≡ Accepted t n
+        → Writes (loadOf file bases m) (withRecords file bases (replicate tableRoom 0) (actsOf file)) m′ (o .records)
+        → LoadsCore file bases m w records o m′ w′
+    core-accepted o t n m′ e h y =
+        record {
+          answer = e ∙ sym h ∙ v .answer;
+          loaded = y .memory ∙ rw e;
+          numbers = y .numbers ∙ rw e;
+          clean = v .clean;
+        }
+
+  module _ (old new : List ℕ)
+      (v : Cleanly (moveAnswer file old new (length m) records (length w)) (length w) a w′) where
+    module _ (t n : ℕ) (h : a ≡ Accepted t n) where
+      moves : MoveFacts file old new (length m) records (length w) t n
+      moves = move-facts file old new (length m) records (length w) t n a (v .answer) h
+
+      pub move-bases : length old ≡ length new
+      move-bases = moves .load .count ∙ sym (moves .count)
+
+      pub move-roomy : Roomy file (length new) (length m)
+      move-roomy =
+          let f = moves .load in
+          record {
+            header = f .file-accepted .header;
+            whole = f .file-accepted .whole;
+            counted = sym (moves .count);
+            fits = omega (arith, f .fits, f .file-accepted .bytes);
+          }
+
+    module _ (o : Outcome) (e : o .answer ≡ a) where
+      pub moving-refused : (f : Refusal) → a ≡ Refused f → o .records ≡ replicate tableRoom 0
+          → MovesCore file old new m w records o m w′
+      moving-refused f h z =
+          record { answer = e ∙ v .answer; shifted = rw (e, h); numbers = z ∙ rw (e, h); clean = v .clean }
+
+      pub moving-accepted : (t n : ℕ) (m′ : List ℕ) → a ≡ Accepted t n
+          → Writes (moveOf file old new m) (withRecords file new (replicate tableRoom 0) (actsOf file)) m′ (o .records)
+          → MovesCore file old new m w records o m′ w′
+      moving-accepted t n m′ h y =
+          record {
+            answer = e ∙ v .answer;
+            shifted = y .memory ∙ rw (e, h);
+            numbers = y .numbers ∙ rw (e, h);
+            clean = v .clean;
           }
 
 -- ---- the fronts

@@ -48,6 +48,23 @@ pub record Marks (m : List ℕ) (a : Act) (r : Bool) (n : List ℕ) : Type 0 whe
 
 -- ---- the core
 
+-- an accepted file, with so many bases, one for each hunk, and so many bytes, room for all of it
+pub record Roomy (file : List ℕ) (bases memory : ℕ) : Type 0 where
+  pub header : HeaderFits file
+  pub whole : length file % 4 ≡ 0
+  pub counted : totalOf file ≡ bases
+  pub fits : loadedOf file ≤ memory
+
+-- the answer is a, and a work area of n bytes comes back all 0
+pub record Cleanly (a : Answer) (n : ℕ) (r : Answer) (work′ : List ℕ) : Type 0 where
+  pub answer : r ≡ a
+  pub clean : work′ ≡ replicate n 0
+
+-- memory and numbers are these
+pub record Writes (m n memory′ numbers′ : List ℕ) : Type 0 where
+  pub memory : memory′ ≡ m
+  pub numbers : numbers′ ≡ n
+
 -- the records at the bases, in room for 64; zeros where refused
 abbrev pub handed : List ℕ → List ℕ → Answer → List ℕ
 handed file bases a = effect a (withRecords file bases (replicate tableRoom 0) (actsOf file)) (replicate tableRoom 0)

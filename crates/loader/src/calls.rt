@@ -17,9 +17,11 @@ ghost use mathlib.Core.List.{_++_};
 ghost use Prim.Native.Nat.{ℕ, _<_, _≤_};
 ghost use lib.ListN.{length, getD, take, drop};
 ghost use Rattle.answers.specs.Refusals.{refusal};
-ghost use Rattle.loader.specs.Memory.{moved, amountOf};
+ghost use Rattle.program.specs.Acts.{actsOf};
+ghost use Rattle.loader.specs.Memory.{loadedOf, loadOf, moveOf, moved, amountOf};
+ghost use Rattle.loader.specs.Table.{tableRoom, withRecords};
 ghost use Rattle.loader.specs.Calls.{roomFault, also, lastTests, loadAnswer, moveAnswer, Loads, Moves};
-ghost use Rattle.loader.specs.Parts.{LoadsCore, MovesCore, Fills, filled, AcceptedFile};
+ghost use Rattle.loader.specs.Parts.{Roomy, Cleanly, Writes, LoadsCore, MovesCore, Fills, filled, AcceptedFile};
 
 // An answer, and the records' numbers beside it.
 pub struct Outcome {
@@ -135,6 +137,63 @@ fn copy_numbers(from: &[u32], n: usize, to: &mut [u32])
     }
 }
 
+// The answer of a load; the work area is 0 before its tests, and after them.
+fn load_verdict(
+    file: &[u8],
+    bases: &[u32],
+    memory: usize,
+    records: usize,
+    work: &mut [u8],
+) -> Answer
+    ensures { λ r. ⌜ Cleanly (loadAnswer (now (file .entry)) (now (bases .entry)) memory records (length (now (work .entry)))) (length (now (work .entry))) r (now (work .exit)) ⌝ }
+{
+    wipe(work);
+    let a = load_answer(file, bases, memory, records, work);
+    wipe(work);
+    a
+}
+
+// The same of a move.
+fn move_verdict(
+    file: &[u8],
+    old: &[u32],
+    new: &[u32],
+    memory: usize,
+    records: usize,
+    work: &mut [u8],
+) -> Answer
+    ensures { λ r. ⌜ Cleanly (moveAnswer (now (file .entry)) (now (old .entry)) (now (new .entry)) memory records (length (now (work .entry)))) (length (now (work .entry))) r (now (work .exit)) ⌝ }
+{
+    wipe(work);
+    let a = move_answer(file, old, new, memory, records, work);
+    wipe(work);
+    a
+}
+
+// Loads an accepted program, n bytes long, and writes its records' numbers.
+fn load_accepted(file: &[u8], bases: &[u32], n: usize, memory: &mut [u8], numbers: &mut [u32])
+    requires { ⌜ (n ≡ loadedOf (now file)) × (Roomy (now file) (length (now bases)) (length (now memory)))
+        × (length (now numbers) ≡ tableRoom) ⌝ }
+    ensures { λ _. ⌜ Writes (loadOf (now (file .entry)) (now (bases .entry)) (now (memory .entry))) (withRecords (now (file .entry)) (now (bases .entry)) (now (numbers .entry)) (actsOf (now (file .entry)))) (now (memory .exit)) (now (numbers .exit)) ⌝ }
+{
+    clear(memory, n);
+    store_all(file, memory);
+    add_all(file, memory, bases);
+    write_all(file, bases, numbers);
+}
+
+// Moves an accepted program, and writes its records' numbers.
+fn move_accepted(file: &[u8], old: &[u32], new: &[u32], memory: &mut [u8], numbers: &mut [u32])
+    requires { ⌜ (length (now old) ≡ length (now new)) × (Roomy (now file) (length (now new)) (length (now memory)))
+        × (length (now numbers) ≡ tableRoom) ⌝ }
+    ensures { λ _. ⌜ Writes (moveOf (now (file .entry)) (now (old .entry)) (now (new .entry)) (now (memory .entry))) (withRecords (now (file .entry)) (now (new .entry)) (now (numbers .entry)) (actsOf (now (file .entry)))) (now (memory .exit)) (now (numbers .exit)) ⌝ }
+{
+    let mut amounts = [0u32; 64];
+    differences(old, new, &mut amounts);
+    add_all(file, memory, &amounts);
+    write_all(file, new, numbers);
+}
+
 // Loads a program, and hands the records' numbers back.
 pub fn load_core(
     file: &[u8],
@@ -146,14 +205,9 @@ pub fn load_core(
     ensures { λ r. ⌜ LoadsCore (now (file .entry)) (now (bases .entry)) (now (memory .entry)) (now (work .entry)) records r (now (memory .exit)) (now (work .exit)) ⌝ }
 {
     let mut numbers = [0u32; 256];
-    wipe(work);
-    let a = load_answer(file, bases, memory.len(), records, work);
-    wipe(work);
+    let a = load_verdict(file, bases, memory.len(), records, work);
     if let Answer::Accepted(_, n) = a {
-        clear(memory, n);
-        store_all(file, memory);
-        add_all(file, memory, bases);
-        write_all(file, bases, &mut numbers);
+        load_accepted(file, bases, n, memory, &mut numbers);
     }
     Outcome {
         answer: a,
@@ -173,14 +227,9 @@ pub fn move_core(
     ensures { λ r. ⌜ MovesCore (now (file .entry)) (now (old .entry)) (now (new .entry)) (now (memory .entry)) (now (work .entry)) records r (now (memory .exit)) (now (work .exit)) ⌝ }
 {
     let mut numbers = [0u32; 256];
-    let mut amounts = [0u32; 64];
-    wipe(work);
-    let a = move_answer(file, old, new, memory.len(), records, work);
-    wipe(work);
+    let a = move_verdict(file, old, new, memory.len(), records, work);
     if let Answer::Accepted(_, _) = a {
-        differences(old, new, &mut amounts);
-        add_all(file, memory, &amounts);
-        write_all(file, new, &mut numbers);
+        move_accepted(file, old, new, memory, &mut numbers);
     }
     Outcome {
         answer: a,

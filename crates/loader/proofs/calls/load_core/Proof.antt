@@ -1,39 +1,20 @@
 -- `loader::calls::load_core` meets its contract. Assumes nothing.
-use mathlib.Core.Path.{refl, sym}
-use native.Mathlib.Omega.{arith}
-use lib.ListN.{length}
-use Rattle.loader.proofs.Answering.{all-zero, load-facts}
-use Rattle.loader.proofs.Calling.{core-refused, core-accepted}
+use Rattle.loader.proofs.Calling.{load-bytes, load-roomy, core-refused, core-accepted}
 use borrow.Author.Needs.{needs}
 use Rattle.loader.proofs.calls.load_core.Statement.{statement}
 use Rattle.loader.proofs.calls.load_core.Tie as tie
 
-wipe-requires : tie.Need-wipe-requires
-wipe-requires c κs = search needs
-
-load-answer-requires : tie.Need-load-answer-requires
-load-answer-requires c κs = search all-zero
-
-wipe-requires-2 : tie.Need-wipe-requires-2
-wipe-requires-2 c κs = search needs
+load-verdict-requires : tie.Need-load-verdict-requires
+load-verdict-requires c κs = search needs
 
 enum-known-a : tie.Need-enum-known-a
 enum-known-a c = search needs
 
-clear-requires : tie.Need-clear-requires
-clear-requires c κs = let f = load-facts _ _ _ _ _ _ _ _ (c .before .before .before .before .before .before .before .before .before .before .load-answer .ensures) (c .before .before .a .given .1) in omega (arith, f .fits, f .file-accepted .bytes)
+slice-aggregate-load-accepted : tie.Need-slice-aggregate-load-accepted
+slice-aggregate-load-accepted c = search needs
 
-store-all-requires : tie.Need-store-all-requires
-store-all-requires c κs = let f = load-facts _ _ _ _ _ _ _ _ (c .before .before .before .before .before .before .before .before .before .before .before .before .before .before .load-answer .ensures) (c .before .before .before .before .before .before .a .given .1) in (f .file-accepted .header, f .file-accepted .whole, omega (arith, f .fits))
-
-add-all-requires : tie.Need-add-all-requires
-add-all-requires c κs = let f = load-facts _ _ _ _ _ _ _ _ (c .before .before .before .before .before .before .before .before .before .before .before .before .before .before .before .before .before .before .load-answer .ensures) (c .before .before .before .before .before .before .before .before .before .before .a .given .1) in (f .file-accepted .header, f .file-accepted .whole, omega (arith, f .fits), omega (arith, f .count))
-
-slice-aggregate-write-all : tie.Need-slice-aggregate-write-all
-slice-aggregate-write-all c = search needs
-
-write-all-requires : tie.Need-write-all-requires
-write-all-requires c κs = let f = load-facts _ _ _ _ _ _ _ _ (c .before .before .before .before .before .before .before .before .before .before .before .before .before .before .before .before .before .before .before .before .before .before .load-answer .ensures) (c .before .before .before .before .before .before .before .before .before .before .before .before .before .before .a .given .1) in (f .file-accepted .header, f .file-accepted .whole, omega (arith, f .count), omega (arith, f .file-accepted .header .few))
+load-accepted-requires : tie.Need-load-accepted-requires
+load-accepted-requires c κs = (search load-bytes depth 12, search load-roomy depth 12, search needs)
 
 enum-told : tie.Need-enum-told
 enum-told c = search needs
@@ -45,7 +26,7 @@ same-length-2 : tie.Need-same-length-2
 same-length-2 c = search needs
 
 returns : tie.Need-returns
-returns c = core-accepted _ (c .before .before .before .before .before .before .before .before .before .before .before .before .before .before .before .before .before .before .before .before .before .before .before .before .before .before .before .before .wipe .last .0) (c .before .before .before .before .before .before .before .before .before .before .before .before .before .before .before .before .before .before .before .before .before .before .before .before .load-answer .last .1 .1 .1 .1 .0) (c .before .before .before .before .before .before .before .before .before .before .before .before .before .before .before .before .before .before .before .before .wipe2 .last .0) (c .before .before .before .before .before .before .before .before .before .before .before .before .before .before .before .before .before .before .before .before .before .before .before .before .before .before .before .before .wipe .ensures) (omega arith) (c .before .before .before .before .before .before .before .before .before .before .before .before .before .before .before .before .before .before .before .before .wipe2 .ensures) _ _ _ _ _ (sym (c .before .before .before .before .before .before .before .before .before .before .before .before .before .before .before .before .a .given .1)) _ (c .before .before .before .before .before .before .before .before .before .before .before .before .before .before .before .before .before .before .before .before .before .before .before .before .load-answer .ensures) _ _ _ _ _ (c .before .before .before .before .before .before .before .before .before .before .before .before .before .before .before .before .a .given .1) (c .before .before .before .before .before .before .before .before .before .before .before .before .before .clear .ensures) (c .before .before .before .before .before .before .before .before .before .store-all .ensures) (c .before .before .before .before .before .add-all .ensures) (c .before .write-all .ensures)
+returns c = search core-accepted depth 12
 
 same-length-3 : tie.Need-same-length-3
 same-length-3 c = search needs
@@ -57,15 +38,10 @@ pub load-core-spec : {M : Type 1} → statement M
 load-core-spec =
     tie.close
     (tie.spec
-    wipe-requires
-    load-answer-requires
-    wipe-requires-2
+    load-verdict-requires
     enum-known-a
-    clear-requires
-    store-all-requires
-    add-all-requires
-    slice-aggregate-write-all
-    write-all-requires
+    slice-aggregate-load-accepted
+    load-accepted-requires
     enum-told
     same-length
     same-length-2
