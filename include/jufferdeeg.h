@@ -1,53 +1,23 @@
-/* Jufferdeeg: audits the image of an 880 KB floppy of the old file system, finds and reads its files, loads a program file into memory and moves a
- * loaded program to other addresses.
+/* Jufferdeeg: audits the image of an 880 KB floppy of the old file system, finds and reads its files, checks a
+ * program file, loads it into memory and moves a loaded program to other addresses.
  *
- * `rt staticlib jufferdeeg` proves the library and writes target/staticlib/libjufferdeeg.a, for x86-64. It needs no other library.
+ * `./make-archive` proves the library and makes target/native/libjufferdeeg.a for this processor, x86-64 or
+ * aarch64. It needs memcpy and memset of a C library, and nothing else from outside.
  *
  * What holds for every call:
- * - It may be given any bytes. It ends, stays inside what it is lent, and keeps no pointer to it.
- * - Memory is lent as a pointer and a length, which counts bytes, bases or records. A pointer is not NULL, not even with length 0, and is aligned for
- *   its type. Memory that a call writes must not overlap anything else that it is lent. Nothing else is asked of it but that it is there.
- * - It needs stack. An audit takes some 400 bytes for each directory within a directory, 0.7 MB for the deepest volume that there can be; the other
- *   calls take little.
- * - An answer is a struct of numbers. number is 0 where the call did what it was asked, and place is 0 then. Where it refused, number says why, place says
- *   where, and every other number is 0. The table below gives both.
+ * - It may be given any bytes. It ends, stays inside what it is lent, and keeps no pointer to it. There are no
+ *   global variables: calls may run at once on several threads, if none writes what another is lent.
  * - The same input gives the same answer and leaves the same bytes.
- *
- *   number   refused because                                                                        place
- *    1       the image is not 901,120 bytes long                                                    0
- *    2       the claim area is short                                                                0
- *    3       the boot tag is not that of the old file system                                        0
- *    4       a word of the root that has one value only is wrong                                    880
- *    5       a key is not in 2 to 1,759                                                             the key
- *    6       a block is claimed twice, or a chain is too long                                       the key
- *    7       the words of a block do not add to 0                                                   the block
- *    8       a type word is wrong                                                                   the block
- *    9       an entry is a link                                                                     the block
- *   10       own key, parent, or a directory's last link is wrong                                   the block
- *   11       a name is not allowed                                                                  the block
- *   12       an entry hangs in another slot than its name's                                         the block
- *   13       a directory has a name twice                                                           the block
- *   14       a file's size, key count, list link, or an empty file's first data key is wrong        the block
- *   15       the words of a data block are wrong, or the one before it names another                the block
- *   16       the root's bitmap words are wrong                                                      880
- *   17       a bit of the bitmap is wrong                                                           the lowest such block
- *   18       the path is not well formed                                                            its component, from 0
- *   19       there is no such name                                                                  its component, from 0
- *   20       a file is used as a directory, or a directory is read                                  its component, from 0
- *   30       the program file is empty or not made of whole words                                   0
- *   31       the file ends too early                                                                its length
- *   32       its first word, its hunk count, or its first or last hunk number is wrong              the byte of that word
- *   33       it names a library                                                                     4
- *   34       a hunk's size is too large                                                             the byte of that word
- *   35       a block of this type is not allowed here                                               the byte of that word
- *   36       a hunk's count of words is above its size                                               the byte of that word
- *   37       a symbol's type is not allowed                                                         the byte of that word
- *   38       a hunk number or an offset is not allowed                                              the byte of that word
- *   39       there is more after the last hunk                                                      the byte of that word
- *   40       the bases are not one for each hunk, or one is not allowed                             its entry; new bases count on
- *   41       memory, table or work area is short                                                    0
- *   42       an offset is less than 4 bytes from an earlier one in its hunk                         the byte of that word
- */
+ * - Memory is lent as a pointer and a length, in bytes, bases or records. A pointer is not NULL, not even if the
+ *   length is 0, and is aligned for its type. Memory that a call writes must not overlap anything else that it is
+ *   lent.
+ * - An answer is a struct. If the call did what it was asked, number and place are 0. If it refused, number says
+ *   why, place says where, and all else in the struct is 0.
+ * - Words of an image, of a program file and of the memory that a program is loaded into have their highest byte
+ *   first. Bases, records and answers are numbers of the machine.
+ * - Stack, measured on x86-64 and aarch64 (examples/c/stack.c): an audit takes 400 and 512 bytes for each directory
+ *   within a directory, 0.7 and 0.9 MB for the deepest volume that there can be; find and read take less than
+ *   32 KB, the other calls less than 4 KB. */
 #ifndef JUFFERDEEG_H
 #define JUFFERDEEG_H
 
@@ -58,18 +28,54 @@
 extern "C" {
 #endif
 
+#define JUFFERDEEG_VERSION "0.1.0"
+#define JUFFERDEEG_VERSION_MAJOR 0
+#define JUFFERDEEG_VERSION_MINOR 1
+#define JUFFERDEEG_VERSION_PATCH 0
+
+/* The numbers of refusals. In brackets the place: the key of a block, or a key just as it was read; a component of
+ * the path, counted from 0; the byte of a word of the program file; an entry of the bases, counted from 0. */
+#define JUFFERDEEG_IMAGE_LENGTH 1     /* [0] the image is not 901,120 bytes long */
+#define JUFFERDEEG_CLAIM_AREA 2       /* [0] the claim area is short */
+#define JUFFERDEEG_BOOT_TAG 3         /* [0] the boot tag is not that of the old file system */
+#define JUFFERDEEG_ROOT_WORDS 4       /* [880] a word of the root that has one value only is wrong */
+#define JUFFERDEEG_BAD_KEY 5          /* [key] it is not in 2 to 1,759 */
+#define JUFFERDEEG_CLAIMED_TWICE 6    /* [key] audit: it is claimed already; find, read: its chain is too long */
+#define JUFFERDEEG_BLOCK_SUM 7        /* [block] its words do not add up to 0 */
+#define JUFFERDEEG_BLOCK_TYPE 8       /* [block] a type word is wrong */
+#define JUFFERDEEG_LINK 9             /* [block] an entry is a link */
+#define JUFFERDEEG_WRONG_TIES 10      /* [block] own key, parent, or a directory's last link is wrong */
+#define JUFFERDEEG_BAD_NAME 11        /* [block] its name is not allowed */
+#define JUFFERDEEG_WRONG_SLOT 12      /* [block] an entry hangs in another slot than its name's */
+#define JUFFERDEEG_DOUBLE_NAME 13     /* [block] an earlier entry of the directory has its name */
+#define JUFFERDEEG_FILE_LAYOUT 14     /* [block] size, key count, list link, or an empty file's first data key */
+#define JUFFERDEEG_DATA_LAYOUT 15     /* [block] the words of a data block; or the one before it names another */
+#define JUFFERDEEG_BITMAP_WORDS 16    /* [880] the root's bitmap words are wrong */
+#define JUFFERDEEG_WRONG_BIT 17       /* [block] the lowest whose bit of the bitmap is wrong */
+#define JUFFERDEEG_PATH_FORM 18       /* [component] it may not be one; [0] the path is longer than 255 bytes */
+#define JUFFERDEEG_NOT_FOUND 19       /* [component] there is no such name */
+#define JUFFERDEEG_WRONG_KIND 20      /* [component] a file used as a directory, or a directory that is read */
+#define JUFFERDEEG_FILE_LENGTH 30     /* [0] the program file is empty, or not made of whole words */
+#define JUFFERDEEG_EARLY_END 31       /* [length of the file] a word is needed after its end */
+#define JUFFERDEEG_HEADER_WORD 32     /* [byte] the first word, the hunk count, or the first or last hunk number */
+#define JUFFERDEEG_LIBRARY 33         /* [4] the file names a library */
+#define JUFFERDEEG_HUNK_SIZE 34       /* [byte] a hunk's size is above 65,536 words */
+#define JUFFERDEEG_MISPLACED_BLOCK 35 /* [byte] a block of this type may not stand here */
+#define JUFFERDEEG_BODY_LENGTH 36     /* [byte] a hunk's count of words is above its size */
+#define JUFFERDEEG_SYMBOL_TYPE 37     /* [byte] a symbol's type is not allowed */
+#define JUFFERDEEG_BAD_TARGET 38      /* [byte] a hunk number or an offset is not allowed */
+#define JUFFERDEEG_TRAILING_WORDS 39  /* [byte] there is more after the last hunk */
+#define JUFFERDEEG_BAD_BASE 40        /* [entry] a base that is not allowed; [the first] not one for each hunk */
+#define JUFFERDEEG_SHORT_ROOM 41      /* [0] memory, table or work area is short */
+#define JUFFERDEEG_NEAR_TARGETS 42    /* [byte] an offset is less than 4 bytes from an earlier one of its hunk */
+
+/* ---- volumes */
+
 /* The length of an image, and of the shortest claim area. */
 #define JUFFERDEEG_IMAGE_BYTES 901120
 #define JUFFERDEEG_CLAIM_BYTES 1760
 
-/* The most hunks of a program: a table of so many records is never short. */
-#define JUFFERDEEG_MOST_HUNKS 64
-
-/* What a path leads to: kind of struct jufferdeeg_found. */
-#define JUFFERDEEG_DIRECTORY 2u
-#define JUFFERDEEG_FILE 0xFFFFFFFDu
-
-struct jufferdeeg_audited {
+struct jufferdeeg_audit_numbers {
     uint32_t number;
     size_t place;
     uint32_t directories; /* below the root */
@@ -80,15 +86,23 @@ struct jufferdeeg_audited {
     uint32_t free; /* used and free are 1,758 together */
 };
 
-/* Audits an image: with a claim area that is long enough, number is 0 exactly if it is a sound volume, without links.
+/* Audits an image: with a claim area that is long enough, number is 0 if and only if it is a sound volume, without
+ * links.
  *
- * Lent: the image; a claim area of at least JUFFERDEEG_CLAIM_BYTES, whose contents do not matter.
- * Left: accepted, claim byte k is 1 where block k is in use, and every other byte of the claim area is 0; refused, the whole claim area is 0.
- * Numbers: 0 to 17. What is met first is refused first: the length, the claim area, the boot tag, the root and its bitmap block; then the entries, slot
- * by slot along each chain, and what is in an entry before the next one on its chain; the bits at the end. */
-struct jufferdeeg_audited jufferdeeg_audit(const uint8_t *image, size_t image_bytes, uint8_t *claim, size_t claim_bytes);
+ * Lent: the image; a claim area, of JUFFERDEEG_CLAIM_BYTES or more, whose contents do not matter.
+ * Left: accepted, claim byte k is 1 if block k is in use, and every other byte of the claim area is 0; refused, the
+ * whole claim area is 0.
+ * Numbers: 0 to 17. What is met first is refused first: the length, the claim area, the boot tag, the root, its
+ * bitmap block; then the entries, slot by slot along each chain, and what is in an entry before the next one on its
+ * chain; the bits at the end. */
+struct jufferdeeg_audit_numbers jufferdeeg_audit(const uint8_t *image, size_t image_bytes, uint8_t *claim,
+                                                 size_t claim_bytes);
 
-struct jufferdeeg_found {
+/* What a path leads to: kind of struct jufferdeeg_find_numbers. */
+#define JUFFERDEEG_DIRECTORY 2u
+#define JUFFERDEEG_FILE 0xFFFFFFFDu
+
+struct jufferdeeg_find_numbers {
     uint32_t number;
     size_t place;
     uint32_t kind; /* JUFFERDEEG_DIRECTORY or JUFFERDEEG_FILE */
@@ -97,26 +111,50 @@ struct jufferdeeg_found {
     uint32_t compared; /* how many entries were looked at */
 };
 
-/* Finds what a path leads to, on any image. Names of a path are split by '/'; upper and lower case of a to z are the same; the empty path is the root.
+/* Finds what a path leads to, on any image. The names of a path are split by '/'; upper and lower case of a to z
+ * are the same; the empty path is the root.
  *
  * Lent: the image; the path, without an end mark.
  * Left: nothing is written.
  * Numbers: 0, 1, 3 to 12, 18, 19, 20. Only the blocks on the way are tested. */
-struct jufferdeeg_found jufferdeeg_find(const uint8_t *image, size_t image_bytes, const uint8_t *path, size_t path_bytes);
+struct jufferdeeg_find_numbers jufferdeeg_find(const uint8_t *image, size_t image_bytes, const uint8_t *path,
+                                               size_t path_bytes);
 
-struct jufferdeeg_reading {
+struct jufferdeeg_read_numbers {
     uint32_t number;
     size_t place;
     size_t count; /* how many bytes were copied */
 };
 
-/* Reads a file from an offset on, until the file or the output ends. At or after the file's end 0 bytes are copied, which is no refusal.
+/* Reads a file from an offset on, until the file or the output ends. At the file's end or after it 0 bytes are
+ * copied, which is no refusal.
  *
  * Lent: the image; the path, without an end mark; the output.
  * Left: the first count bytes of the output are the file's; the rest of it stays; refused, all of it stays.
  * Numbers: 0, 1, 3 to 12, 14, 15, 18, 19, 20. All of the file's blocks are tested before a byte is copied. */
-struct jufferdeeg_reading jufferdeeg_read(const uint8_t *image, size_t image_bytes, const uint8_t *path, size_t path_bytes, size_t offset,
-                                          uint8_t *output, size_t output_bytes);
+struct jufferdeeg_read_numbers jufferdeeg_read(const uint8_t *image, size_t image_bytes, const uint8_t *path,
+                                               size_t path_bytes, size_t offset, uint8_t *output, size_t output_bytes);
+
+/* ---- programs
+ *
+ * A program file has 1 to 64 hunks of at most 65,536 words of 4 bytes. So a table of 64 records is never short, nor
+ * are memory and a work area of 16 MiB each. */
+#define JUFFERDEEG_MOST_HUNKS 64
+#define JUFFERDEEG_MOST_BYTES 16777216
+
+struct jufferdeeg_program_numbers {
+    uint32_t number;
+    size_t place;
+    uint32_t hunks;
+    size_t bytes; /* how much of the memory they take */
+};
+
+/* Checks a program file, and says how many hunks it has and how many bytes they take: the room that a load needs.
+ *
+ * Lent: the file.
+ * Left: nothing is written.
+ * Numbers: 0, 30 to 39: the file's first fault. */
+struct jufferdeeg_program_numbers jufferdeeg_check(const uint8_t *file, size_t file_bytes);
 
 /* One for each hunk of a loaded program. */
 struct jufferdeeg_hunk {
@@ -126,33 +164,35 @@ struct jufferdeeg_hunk {
     uint32_t base;  /* the address that it was loaded for */
 };
 
-struct jufferdeeg_loaded {
-    uint32_t number;
-    size_t place;
-    uint32_t hunks;
-    size_t bytes; /* how much of the memory they take */
-};
-
-/* Loads a program file for the given addresses: its hunks end to end from the first byte of memory on, the words that are not stored as 0, and each
- * relocated word with the base of its hunk added.
+/* Loads a program file for the given bases: the hunks' addresses on the machine that will run it. Memory gets the
+ * hunks end to end from its first byte on, 0 in the words that the file does not store, and at each relocated word
+ * the base of the hunk that the relocation names is added, modulo 2^32.
  *
- * Lent: the file; a base for each hunk, in their order, multiples of 4, so that no two hunks share an address; memory; a table, a record for each hunk;
- * a work area, as long as the loaded bytes.
- * Left: accepted, the loaded bytes and the hunks' records, the rest of memory and table as it was; refused, no byte of memory and no record changes. The
- * work area is all 0 in either case.
+ * Lent: the file; the bases, exactly one for each hunk, in their order; memory and a work area, each of the bytes that
+ * the check says or more; a table, of a record for each hunk or more. What these three hold does not matter.
+ * A base is a multiple of 4; base plus bytes of the hunk are at most 2^32; no two hunks share an address. A hunk of
+ * 0 words has none, and may stand anywhere.
+ * Left: accepted, the loaded bytes and the hunks' records, and the rest of memory and table as it was; refused, no
+ * byte of memory and no record changes. The work area is all 0 in either case.
  * Numbers: 0, 30 to 42: faults of the file first, in its order, then 40, 41, 42. */
-struct jufferdeeg_loaded jufferdeeg_load(const uint8_t *file, size_t file_bytes, const uint32_t *bases, size_t bases_count, uint8_t *memory,
-                                         size_t memory_bytes, struct jufferdeeg_hunk *table, size_t table_records, uint8_t *work, size_t work_bytes);
+struct jufferdeeg_program_numbers jufferdeeg_load(const uint8_t *file, size_t file_bytes, const uint32_t *bases,
+                                                  size_t bases_count, uint8_t *memory, size_t memory_bytes,
+                                                  struct jufferdeeg_hunk *table, size_t table_records, uint8_t *work,
+                                                  size_t work_bytes);
 
-/* Moves a program that was loaded from this file: what it has at the old bases becomes what a load at the new bases would give, byte for byte.
+/* Moves a program that was loaded from this file at the old bases: memory and table become what a load at the new
+ * bases would leave. At each relocated word it adds new minus old base of the hunk that the relocation names, modulo
+ * 2^32, and it changes no other byte, whatever memory holds. It does not read the table, but writes it as a load does.
  *
- * Lent: the file; the old bases; the new bases; memory and table as the load left them; a work area, as for a load.
- * Left: as for a load at the new bases; on memory that holds something else, only relocated words change. Refused, no byte of memory and no record
- * changes. The work area is all 0 in either case.
- * Numbers: as for a load; for 40 the old bases come first, and the place of a new base counts on from the hunk count. */
-struct jufferdeeg_loaded jufferdeeg_move(const uint8_t *file, size_t file_bytes, const uint32_t *old_bases, size_t old_count,
-                                         const uint32_t *new_bases, size_t new_count, uint8_t *memory, size_t memory_bytes,
-                                         struct jufferdeeg_hunk *table, size_t table_records, uint8_t *work, size_t work_bytes);
+ * Lent: the file; the old and the new bases, each as for a load; memory as the load left it; table and work area as
+ * for a load.
+ * Left: as for a load.
+ * Numbers: as for a load. For 40 the old bases come first; the entries of the new ones count on from the hunk
+ * count. */
+struct jufferdeeg_program_numbers jufferdeeg_move(const uint8_t *file, size_t file_bytes, const uint32_t *old_bases,
+                                                  size_t old_count, const uint32_t *new_bases, size_t new_count,
+                                                  uint8_t *memory, size_t memory_bytes, struct jufferdeeg_hunk *table,
+                                                  size_t table_records, uint8_t *work, size_t work_bytes);
 
 #ifdef __cplusplus
 }

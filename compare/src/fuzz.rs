@@ -8,9 +8,11 @@ use std::rc::Rc;
 
 use crate::bad_programs::{bad_bases, scratch as scratch_program, short_room, CAUSES};
 use crate::bad_volumes::{apply, causes, harmless, scratch, wrong_lengths, Cause, Harm, Patch};
+use crate::calls::{Calls, Opinion};
 use crate::disk::Disk;
 use crate::driver::Request;
-use crate::model::{load_body, move_body, read_body, Model, AUDIT, FILE, FIND, IMAGE, LOAD, MOVE, PATCH, READ};
+use crate::model::{load_body, move_body, read_request, Model, AUDIT, FILE, FIND, IMAGE, LOAD, MOVE, PATCH};
+use crate::native::Exports;
 use crate::paths::{bad_forms, telling_offsets, telling_rooms, Paths};
 use crate::programs::{file, good_bases, good_program, Room};
 use crate::rng::Rng;
@@ -47,7 +49,7 @@ impl Asked {
         match self {
             Asked::Audit(claim) => (AUDIT, claim.to_be_bytes().to_vec()),
             Asked::Find(path) => (FIND, path.clone()),
-            Asked::Read { offset, room, path } => (READ, read_body(*offset, *room, path)),
+            Asked::Read { offset, room, path } => read_request(*offset as usize, *room as usize, path),
         }
     }
 }
@@ -121,10 +123,18 @@ pub fn requests(case: &Case) -> Vec<Request> {
 /// Whoever answers requests, a line for each.
 pub type Answerer<'a> = dyn FnMut(&[Request]) -> Vec<String> + 'a;
 
+fn by<C: Calls>(mut model: Model<C>, requests: &[Request]) -> Vec<String> {
+    requests.iter().map(|(number, body)| model.answer(*number, body)).collect()
+}
+
 /// The lines due for requests.
 pub fn due(requests: &[Request]) -> Vec<String> {
-    let mut model = Model::default();
-    requests.iter().map(|(number, body)| model.answer(*number, body)).collect()
+    by(Model::new(Opinion), requests)
+}
+
+/// The lines that the exported functions give.
+pub fn exported(requests: &[Request]) -> Vec<String> {
+    by(Model::new(Exports::default()), requests)
 }
 
 /// Two lines that are not the same.
@@ -399,6 +409,7 @@ pub fn told(case: &Case) -> String {
 #[cfg(test)]
 mod tests {
     use super::*;
+    use crate::model::READ;
     use crate::shrink::shrink;
 
     /// The calls among the requests.

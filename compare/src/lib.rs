@@ -19,7 +19,7 @@
 //! - [`program`]: the check of a program file;
 //! - [`loader`]: loading a program and moving it.
 //!
-//! What holds the Rattle programs to it:
+//! What holds the Rattle programs and the exported functions to it:
 //!
 //! - [`rng`]: numbers drawn from a fixed seed, so that a failure can be had again;
 //! - [`programs`]: good programs to load, drawn at random;
@@ -27,19 +27,25 @@
 //! - [`volumes`]: good volumes to audit, drawn at random, with what each of their blocks is;
 //! - [`bad_volumes`]: what can be wrong with them, each with the refusal due for it;
 //! - [`paths`]: paths to look for on good volumes, each with the answer due;
-//! - [`talk`]: an image that the instrument holds, and its patches;
+//! - [`calls`]: the calls of the library, whoever makes them;
+//! - [`areas`]: areas to lend, with guards around them;
+//! - [`native`]: the functions that the archive exports;
 //! - [`model`]: what the instrument is to answer, request by request;
+//! - [`talk`]: an image that the instrument holds, and its patches;
 //! - [`samples`]: the files of the folder `samples`;
 //! - [`counter`]: what the counter's tool is to say;
 //! - [`driver`]: runs a Rattle program on a batch of requests and compares every line it answers;
+//! - [`sides`]: puts requests to the instrument, to the exported functions, or to both;
 //! - [`fuzz`]: cases drawn for as long as one likes, put to two answerers;
 //! - [`shrink`]: a case that they differ about, made small.
 
+pub mod areas;
 pub mod audit;
 pub mod bad_programs;
 pub mod bad_volumes;
 pub mod bitmap;
 pub mod blocks;
+pub mod calls;
 pub mod counter;
 pub mod declared;
 pub mod disk;
@@ -49,6 +55,7 @@ pub mod loader;
 pub mod lookup;
 pub mod model;
 pub mod names;
+pub mod native;
 pub mod paths;
 pub mod program;
 pub mod programs;
@@ -56,6 +63,7 @@ pub mod reading;
 pub mod rng;
 pub mod samples;
 pub mod shrink;
+pub mod sides;
 pub mod sizes;
 pub mod talk;
 pub mod volumes;

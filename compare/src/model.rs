@@ -1,5 +1,8 @@
 //! What the instrument `probe` is to answer, request by request.
 //!
+//! The calls may be made by this package or by others, as the exported functions: then what each call did to the areas
+//! that it was lent is told too, where it did what it may not.
+//!
 //! Where the instrument's description leaves room, the model takes it like this:
 //!
 //! - What answers `bad request` changes nothing: the held image and file, memory, table and their lengths stay.
@@ -11,15 +14,17 @@
 //! - A new file leaves memory and table alone.
 //! - A body that is not whole numbers is a bad request with 7 and 8.
 
-use crate::audit::{audit, Report};
-use crate::blocks::DIRECTORY;
-use crate::disk::Disk;
-use crate::driver::checksum;
-use crate::loader::{load, relocate, Lent, Loaded, RECORD};
-use crate::lookup::{find, Found};
+use std::hint::black_box;
+
+use crate::areas::{Area, Shown, Watched};
+use crate::audit::Report;
+use crate::blocks::{DIRECTORY, FILE as FILE_KIND};
+use crate::calls::{Calls, Opinion};
+use crate::driver::{checksum, Request};
+use crate::loader::{Lent, Loaded, RECORD};
+use crate::lookup::Found;
 use crate::program::Refusal;
 use crate::programs::{bytes, Room};
-use crate::reading::read;
 
 /// The numbers of the requests.
 pub const IMAGE: u32 = 1;
@@ -30,6 +35,10 @@ pub const READ: u32 = 5;
 pub const FILE: u32 = 6;
 pub const LOAD: u32 = 7;
 pub const MOVE: u32 = 8;
+
+/// Requests that `probe` does not have: a read with an offset of eight bytes, and a check of the held file.
+pub const FAR_READ: u32 = 101;
+pub const CHECK: u32 = 102;
 
 /// The answer to what is no request.
 pub const BAD: &str = "bad request";
@@ -55,19 +64,19 @@ const BEFORE: u8 = 0xAA;
 /// The largest room that `probe` lends a load.
 pub const MOST: Room = Room { memory: AREA_ROOM, records: RECORDS, work: AREA_ROOM };
 
-const DISK: Disk = Disk::FLOPPY;
-
-/// What `probe` remembers between requests.
-#[derive(Default)]
-pub struct Model {
+/// What `probe` remembers between requests, and who makes the calls that are asked for.
+pub struct Model<C = Opinion> {
+    calls: C,
     /// The held image.
-    pub image: Vec<u8>,
+    image: Shown<u8>,
     /// The held program file.
-    pub file: Vec<u8>,
+    file: Shown<u8>,
     /// The memory as the last load or move left it.
-    pub memory: Vec<u8>,
+    pub memory: Area<u8>,
     /// The table as the last load or move left it.
-    pub table: Vec<u32>,
+    pub table: Area<u32>,
+    /// How many areas were made: each lies a little further than the one before.
+    areas: usize,
 }
 
 /// The numbers of a body, if it is made of whole ones.
@@ -102,108 +111,179 @@ fn line(verb: &str, result: Result<Loaded, Refusal>, memory: &[u8], table: &[u32
     format!("{answer} memory {memory} table {table} work {work}")
 }
 
-impl Model {
-    /// The line for a request.
-    pub fn answer(&mut self, number: u32, body: &[u8]) -> String {
-        let answer = match number {
-            IMAGE => self.take_image(body),
-            PATCH => self.patch(body),
-            AUDIT => self.audit(body),
-            FIND => self.find(body),
-            READ => self.read(body),
-            FILE => self.take_file(body),
-            LOAD => numbers(body).and_then(|numbers| self.load(&numbers)),
-            MOVE => numbers(body).and_then(|numbers| self.relocate(&numbers)),
-            _ => None,
-        };
-        answer.unwrap_or(BAD.to_string())
+impl<C: Calls + Default> Default for Model<C> {
+    fn default() -> Model<C> {
+        Model::new(C::default())
+    }
+}
+
+impl<C: Calls> Model<C> {
+    /// Nothing is held yet.
+    pub fn new(calls: C) -> Model<C> {
+        let (image, file) = (Shown::new(&[], 0), Shown::new(&[], 0));
+        Model { calls, image, file, memory: Area::new(&[], 0), table: Area::new(&[], 0), areas: 0 }
     }
 
-    fn take_image(&mut self, body: &[u8]) -> Option<String> {
-        if body.len() > IMAGE_ROOM {
-            return None;
+    /// The line for a request.
+    pub fn answer(&mut self, number: u32, body: &[u8]) -> String {
+        self.answered(number, body).unwrap_or(BAD.to_string())
+    }
+
+    fn answered(&mut self, number: u32, body: &[u8]) -> Option<String> {
+        match number {
+            IMAGE if body.len() <= IMAGE_ROOM => Some(self.take_image(body)),
+            PATCH => self.patch(body),
+            AUDIT => {
+                let (length, _) = number_first(body).filter(|&(length, _)| length <= CLAIM_ROOM)?;
+                Some(self.audit(length))
+            }
+            FIND if body.len() <= PATH_ROOM => Some(self.find(body)),
+            READ => {
+                let (offset, rest) = number_first(body)?;
+                self.read_into(offset, rest)
+            }
+            FAR_READ => {
+                let (&offset, rest) = body.split_first_chunk()?;
+                self.read_into(u64::from_be_bytes(offset) as usize, rest)
+            }
+            FILE if body.len() <= FILE_ROOM => Some(self.take_file(body)),
+            CHECK => Some(self.check()),
+            LOAD => {
+                let numbers = numbers(body)?;
+                let (room, bases) = room(&numbers, MOST)?;
+                (bases.len() <= BASES).then(|| self.load(room, bases))
+            }
+            MOVE => {
+                let numbers = numbers(body)?;
+                let held = Room { memory: self.memory.len(), records: self.table.len() / RECORD, ..MOST };
+                let (room, lists) = room(&numbers, held)?;
+                let (&count, lists) = lists.split_first()?;
+                let (old, new) = lists.split_at_checked(count as usize)?;
+                (old.len() <= BASES && new.len() <= BASES).then(|| self.relocate(room, old, new))
+            }
+            _ => None,
         }
-        self.image = body.to_vec();
-        Some(format!("image {}", body.len()))
+    }
+
+    /// How far the next area is shifted.
+    fn shift(&mut self) -> usize {
+        self.areas += 1;
+        self.areas
+    }
+
+    /// The line of a call that was lent these areas, and what it did that it may not.
+    fn told(&self, line: String, lent: &[(&str, &dyn Watched)]) -> String {
+        if !C::WATCHED {
+            return line;
+        }
+        let changed = lent.iter().filter(|(_, area)| !area.is_intact());
+        let faults = changed.map(|(name, _)| format!("{name} overwritten")).chain(self.calls.fault());
+        line + &faults.map(|fault| format!(", {fault}")).collect::<String>()
+    }
+
+    /// Holds an image of any length.
+    pub fn take_image(&mut self, image: &[u8]) -> String {
+        self.image = Shown::new(image, self.shift());
+        format!("image {}", image.len())
     }
 
     fn patch(&mut self, body: &[u8]) -> Option<String> {
         let (place, new) = number_first(body)?;
-        self.image.get_mut(place..)?.get_mut(..new.len())?.copy_from_slice(new);
+        self.image.put(place, new)?;
         Some("patched".to_string())
     }
 
-    fn audit(&self, body: &[u8]) -> Option<String> {
-        let (length, _) = number_first(body).filter(|&(length, _)| length <= CLAIM_ROOM)?;
-        let mut claim = vec![BEFORE; length];
-        let answer = match audit(&DISK, &self.image, &mut claim) {
+    /// An audit with a claim area of any length.
+    pub fn audit(&mut self, length: usize) -> String {
+        let mut claim = Area::filled(BEFORE, length, self.shift());
+        let answer = match self.calls.audit(&self.image, &mut claim) {
             Ok(Report { directories, files, list_blocks, data_blocks, used, free }) => {
                 format!("accepted {directories} {files} {list_blocks} {data_blocks} {used} {free}")
             }
             Err(refusal) => refused(refusal),
         };
-        Some(format!("{answer} claim {}", checksum(&claim)))
+        let line = format!("{answer} claim {}", checksum(&claim));
+        self.told(line, &[("image", &self.image), ("claim area", &claim)])
     }
 
-    fn find(&self, path: &[u8]) -> Option<String> {
-        if path.len() > PATH_ROOM {
-            return None;
-        }
-        Some(match find(&DISK, &self.image, path) {
-            Ok(Found { kind, key, size, compared }) => {
-                let kind = if kind == DIRECTORY { "directory" } else { "file" };
-                format!("{kind} {key} {size} {compared}")
-            }
+    /// A lookup of a path of any length.
+    pub fn find(&mut self, path: &[u8]) -> String {
+        let path = Shown::new(path, self.shift());
+        let line = match self.calls.find(&self.image, &path) {
+            Ok(Found { kind: DIRECTORY, key, size, compared }) => format!("directory {key} {size} {compared}"),
+            Ok(Found { kind: FILE_KIND, key, size, compared }) => format!("file {key} {size} {compared}"),
+            Ok(other) => format!("{other:?}"),
             Err(refusal) => refused(refusal),
-        })
+        };
+        self.told(line, &[("image", &self.image), ("path", &path)])
     }
 
-    fn read(&self, body: &[u8]) -> Option<String> {
-        let (offset, rest) = number_first(body)?;
+    /// A read, if the room and the path after it are not too long.
+    fn read_into(&mut self, offset: usize, rest: &[u8]) -> Option<String> {
         let (room, path) = number_first(rest)?;
-        if room > OUTPUT_ROOM || path.len() > PATH_ROOM {
-            return None;
-        }
-        let mut output = vec![BEFORE; room];
-        let answer = read(&DISK, &self.image, path, offset, &mut output);
+        (room <= OUTPUT_ROOM && path.len() <= PATH_ROOM).then(|| self.read(path, offset, room))
+    }
+
+    /// A read of any path, from any offset on, into an output of any length.
+    pub fn read(&mut self, path: &[u8], offset: usize, room: usize) -> String {
+        let path = Shown::new(path, self.shift());
+        let mut output = Area::filled(BEFORE, room, self.shift());
+        let answer = self.calls.read(&self.image, &path, offset, &mut output);
         let answer = answer.map_or_else(refused, |count| format!("bytes {count}"));
-        Some(format!("{answer} out {}", checksum(&output)))
+        let line = format!("{answer} out {}", checksum(&output));
+        self.told(line, &[("image", &self.image), ("path", &path), ("output", &output)])
     }
 
-    fn take_file(&mut self, body: &[u8]) -> Option<String> {
-        if body.len() > FILE_ROOM {
-            return None;
-        }
-        self.file = body.to_vec();
-        Some(format!("file {}", body.len()))
+    /// Holds a program file of any length.
+    pub fn take_file(&mut self, file: &[u8]) -> String {
+        self.file = Shown::new(file, self.shift());
+        format!("file {}", file.len())
     }
 
-    fn load(&mut self, numbers: &[u32]) -> Option<String> {
-        let (room, bases) = room(numbers, MOST)?;
-        if bases.len() > BASES {
-            return None;
-        }
-        self.memory = vec![MEMORY_BEFORE; room.memory];
-        self.table = vec![TABLE_BEFORE; RECORD * room.records];
-        let mut work = vec![BEFORE; room.work];
+    /// A check of the held file.
+    pub fn check(&mut self) -> String {
+        let answer = self.calls.check(&self.file);
+        let line = answer.map_or_else(refused, |Loaded { hunks, bytes }| format!("checked {hunks} {bytes}"));
+        self.told(line, &[("file", &self.file)])
+    }
+
+    /// A load into new memory and a new table, of any lengths.
+    pub fn load(&mut self, room: Room, bases: &[u32]) -> String {
+        self.memory = Area::filled(MEMORY_BEFORE, room.memory, self.shift());
+        self.table = Area::filled(TABLE_BEFORE, RECORD * room.records, self.shift());
+        let bases = Shown::new(bases, self.shift());
+        let mut work = Area::filled(BEFORE, room.work, self.shift());
         let lent = Lent { memory: &mut self.memory, table: &mut self.table, work: &mut work };
-        let result = load(&self.file, bases, lent);
-        Some(line("loaded", result, &self.memory, &self.table, &work))
+        let result = self.calls.load(&self.file, &bases, lent);
+        let line = line("loaded", result, &self.memory, &self.table, &work);
+        let (file, memory, table) = (&self.file, &self.memory, &self.table);
+        let lent: [(_, &dyn Watched); 5] =
+            [("file", file), ("bases", &bases), ("memory", memory), ("table", table), ("work area", &work)];
+        self.told(line, &lent)
     }
 
-    fn relocate(&mut self, numbers: &[u32]) -> Option<String> {
-        let held = Room { memory: self.memory.len(), records: self.table.len() / RECORD, ..MOST };
-        let (room, lists) = room(numbers, held)?;
-        let (&count, lists) = lists.split_first()?;
-        let (old, new) = lists.split_at_checked(count as usize)?;
-        if old.len() > BASES || new.len() > BASES {
-            return None;
+    /// A move in the memory and the table that are held, or in the beginning of each.
+    pub fn relocate(&mut self, room: Room, old: &[u32], new: &[u32]) -> String {
+        let [old, new] = [old, new].map(|bases| Shown::new(bases, self.shift()));
+        let mut work = Area::filled(BEFORE, room.work, self.shift());
+        let (bytes, numbers) = (room.memory, RECORD * room.records);
+        let others = (self.memory[bytes..].to_vec(), self.table[numbers..].to_vec());
+        let lent = Lent { memory: &mut self.memory[..bytes], table: &mut self.table[..numbers], work: &mut work };
+        let result = self.calls.relocate(&self.file, &old, &new, lent);
+        let (file, memory, table) = (&self.file, black_box(&self.memory), black_box(&self.table));
+        let mut line = line("moved", result, &memory[..bytes], &table[..numbers], &work);
+        if (&memory[bytes..], &table[numbers..]) != (&others.0[..], &others.1[..]) {
+            line += ", memory or table overwritten after what was lent";
         }
-        let memory = &mut self.memory[..room.memory];
-        let table = &mut self.table[..RECORD * room.records];
-        let mut work = vec![BEFORE; room.work];
-        let result = relocate(&self.file, old, new, Lent { memory, table, work: &mut work });
-        Some(line("moved", result, &self.memory[..room.memory], &self.table[..RECORD * room.records], &work))
+        let lent: [(_, &dyn Watched); 6] = [
+            ("file", file),
+            ("old bases", &old),
+            ("new bases", &new),
+            ("memory", memory),
+            ("table", table),
+            ("work area", &work),
+        ];
+        self.told(line, &lent)
     }
 }
 
@@ -218,7 +298,11 @@ pub fn move_body(room: Room, old: &[u32], new: &[u32]) -> Vec<u8> {
     bytes(&[&numbers, old, new].concat())
 }
 
-/// The body of a read.
-pub fn read_body(offset: u32, room: u32, path: &[u8]) -> Vec<u8> {
-    [&offset.to_be_bytes(), &room.to_be_bytes(), path].concat()
+/// The request for a read.
+pub fn read_request(offset: usize, room: usize, path: &[u8]) -> Request {
+    let rest = [&(room as u32).to_be_bytes(), path].concat();
+    match u32::try_from(offset) {
+        Ok(near) => (READ, [&near.to_be_bytes(), &rest[..]].concat()),
+        Err(_) => (FAR_READ, [&(offset as u64).to_be_bytes(), &rest[..]].concat()),
+    }
 }

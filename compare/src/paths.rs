@@ -262,6 +262,17 @@ pub fn telling_offsets(disk: &Disk, size: u32) -> Vec<u32> {
     offsets.into_iter().collect()
 }
 
+/// Offsets that four bytes do not hold: such that cut to four bytes they would lie in the file or at its end, such
+/// that a sum with some length would wrap, and the largest.
+pub fn far_offsets(disk: &Disk, size: u32) -> Vec<usize> {
+    let (full, size, far) = (disk.data_bytes() as usize, size as usize, 1_usize << 32);
+    let around =
+        [far + size, far + full, 2 * far, far << 15, usize::MAX / 2, usize::MAX - size, usize::MAX - full];
+    let around = around.into_iter().flat_map(|place| [place - 1, place, place.saturating_add(1)]);
+    let offsets: BTreeSet<usize> = around.chain([far, far + 1, usize::MAX - 1, usize::MAX]).collect();
+    offsets.into_iter().filter(|&offset| offset >= far).collect()
+}
+
 /// Lengths of an output for which so many bytes are left in a file.
 pub fn telling_rooms(disk: &Disk, left: usize) -> Vec<usize> {
     let full = disk.data_bytes() as usize;
@@ -375,6 +386,13 @@ mod tests {
             assert!(offsets.contains(&wanted), "{wanted}");
         }
         assert!(telling_offsets(&DISK, 0).contains(&1));
+        for size in [0, 1, 487, 488, 35_137, 844_728] {
+            let (far, size) = (far_offsets(&DISK, size), size as usize);
+            assert!(far.iter().all(|&offset| offset > u32::MAX as usize));
+            assert!(far.contains(&(1 << 32)) && far.contains(&usize::MAX), "{size}");
+            assert!(size == 0 || far.iter().any(|&offset| (offset as u32 as usize) < size), "{size}");
+            assert!(far.iter().any(|&offset| offset.wrapping_add(size + 1) < offset), "{size}");
+        }
         assert_eq!(telling_rooms(&DISK, 1_000), [0, 1, 2, 487, 488, 489, 999, 1_000, 1_001, 1_300]);
         assert_eq!(telling_rooms(&DISK, 0), [0, 1, 2, 300, 487, 488, 489]);
     }

@@ -1,28 +1,25 @@
-//! A talk with the instrument `probe` about one image that it holds: the image is sent once and changed by patches.
+//! A talk about one image with whoever is asked: the image is sent once, held by all sides, and changed by patches.
 //!
-//! What the answers to other requests should be is up to the tests; this keeps the image as `probe` has it.
+//! What the answers to other requests should be is up to the tests; this keeps the image as the sides have it.
 
 use crate::bad_volumes::{apply, Patch};
-use crate::driver::Batch;
+use crate::model::{IMAGE, PATCH};
+use crate::sides::{Sides, Who};
 
-/// The request that takes an image over, and the one that changes bytes of it.
-const IMAGE: u32 = 1;
-const PATCH: u32 = 2;
-
-/// Requests for one run of `probe`, with the answers due.
+/// Requests with the answers due.
 pub struct Talk {
-    batch: Batch,
+    sides: Sides,
     held: Vec<u8>,
     about: String,
 }
 
 impl Talk {
     /// Nothing is held, and nothing asked.
-    pub fn new() -> Talk {
-        Talk { batch: Batch::new(), held: Vec::new(), about: "at first".into() }
+    pub fn new(who: Who) -> Talk {
+        Talk { sides: Sides::new(who), held: Vec::new(), about: "at first".into() }
     }
 
-    /// The image that `probe` holds now.
+    /// The image that is held now.
     pub fn held(&self) -> &[u8] {
         &self.held
     }
@@ -39,7 +36,7 @@ impl Talk {
 
     /// Adds a request and the line that it is to be answered with.
     pub fn ask(&mut self, number: u32, body: &[u8], answer: &str) {
-        self.batch.ask_about(&self.about, number, body, answer);
+        self.sides.ask(&self.about, number, body, answer);
     }
 
     /// Sends an image.
@@ -60,14 +57,8 @@ impl Talk {
         undo
     }
 
-    /// Runs `probe` on all of it.
+    /// Runs `probe` on all of it, if it is asked.
     pub fn run(self) {
-        self.batch.compare("probe");
-    }
-}
-
-impl Default for Talk {
-    fn default() -> Talk {
-        Talk::new()
+        self.sides.run();
     }
 }

@@ -1,6 +1,6 @@
-//! The archive's calls are declared three times: where they are proved, for C and for Rust. Here the three are held to each other, name by name and
-//! type by type. The archive is for x86-64 alone, so it is linked and run by the C program of examples/c, not here.
-#[path = "../../include/jufferdeeg.rs"]
+//! The archive's calls are declared three times: where they are proved, for C and for Rust. Here the three are held to
+//! each other, name by name and type by type; so are the numbers of refusals.
+#[path = "../../include/rust/src/lib.rs"]
 #[allow(dead_code)]
 mod jufferdeeg;
 
@@ -57,24 +57,24 @@ fn parts(inside: &str, by: char, read: fn(&str) -> (String, String)) -> Vec<(Str
 
 #[test]
 fn structs_are_declared_alike() {
-    let (c, rust) = (text("include/jufferdeeg.h"), text("include/jufferdeeg.rs"));
+    let (c, rust) = (text("include/jufferdeeg.h"), text("include/rust/src/lib.rs"));
     let (volumes, programs) =
         (text("crates/jufferdeeg/src/volumes.rt"), text("crates/jufferdeeg/src/programs.rt"));
     let hunks = text("crates/hunks/src/lib.rt");
-    for (in_c, in_rust, source, in_source) in [
-        ("audited", "Audited", &volumes, "AuditNumbers"),
-        ("found", "Found", &volumes, "FindNumbers"),
-        ("reading", "Reading", &volumes, "ReadNumbers"),
-        ("loaded", "Loaded", &programs, "ProgramNumbers"),
-        ("hunk", "Hunk", &hunks, "Hunk"),
+    for (in_c, name, source) in [
+        ("audit_numbers", "AuditNumbers", &volumes),
+        ("find_numbers", "FindNumbers", &volumes),
+        ("read_numbers", "ReadNumbers", &volumes),
+        ("program_numbers", "ProgramNumbers", &programs),
+        ("hunk", "Hunk", &hunks),
     ] {
-        let of_source = inside(source, &format!("#[repr(C)]\npub struct {in_source} "), '{', '}');
+        let of_source = inside(source, &format!("#[repr(C)]\npub struct {name} "), '{', '}');
         let proved = parts(&of_source, ',', of_rust);
-        assert!(proved.len() >= 3, "{in_source}");
+        assert!(proved.len() >= 3, "{name}");
         let for_c = parts(&inside(&c, &format!("struct jufferdeeg_{in_c} {{"), ' ', '}'), ';', of_c);
         assert_eq!(for_c, proved, "{in_c}");
-        let for_rust = parts(&inside(&rust, &format!("pub struct {in_rust} "), '{', '}'), ',', of_rust);
-        assert_eq!(for_rust, proved, "{in_rust}");
+        let for_rust = parts(&inside(&rust, &format!("pub struct {name} "), '{', '}'), ',', of_rust);
+        assert_eq!(for_rust, proved, "{name}");
     }
 }
 
@@ -94,38 +94,95 @@ fn proved(source: &str, call: &str) -> Vec<String> {
     types
 }
 
+/// The type after `->` of a function.
+fn answer(source: &str, call: &str) -> String {
+    let rest = &source[source.find(&format!("fn {call}(")).unwrap_or_else(|| panic!("there is no {call}"))..];
+    let after = rest[rest.find("->").unwrap() + 2..].trim_start();
+    after[..after.find(|c: char| !c.is_ascii_alphanumeric()).unwrap()].to_string()
+}
+
 #[test]
 fn calls_are_declared_alike() {
-    let (c, rust) = (text("include/jufferdeeg.h"), text("include/jufferdeeg.rs"));
+    let (c, rust) = (text("include/jufferdeeg.h"), text("include/rust/src/lib.rs"));
     let (volumes, programs) =
         (text("crates/jufferdeeg/src/volumes.rt"), text("crates/jufferdeeg/src/programs.rt"));
-    for (call, answer, source) in [
-        ("jufferdeeg_audit", "audited", &volumes),
-        ("jufferdeeg_find", "found", &volumes),
-        ("jufferdeeg_read", "reading", &volumes),
-        ("jufferdeeg_load", "loaded", &programs),
-        ("jufferdeeg_move", "loaded", &programs),
+    for (call, in_c, of, source) in [
+        ("jufferdeeg_audit", "struct jufferdeeg_audit_numbers", "AuditNumbers", &volumes),
+        ("jufferdeeg_find", "struct jufferdeeg_find_numbers", "FindNumbers", &volumes),
+        ("jufferdeeg_read", "struct jufferdeeg_read_numbers", "ReadNumbers", &volumes),
+        ("jufferdeeg_check", "struct jufferdeeg_program_numbers", "ProgramNumbers", &programs),
+        ("jufferdeeg_load", "struct jufferdeeg_program_numbers", "ProgramNumbers", &programs),
+        ("jufferdeeg_move", "struct jufferdeeg_program_numbers", "ProgramNumbers", &programs),
     ] {
-        let for_c = parts(&inside(&c, &format!("struct jufferdeeg_{answer} {call}"), '(', ')'), ',', of_c);
+        let for_c = parts(&inside(&c, &format!("{in_c} {call}"), '(', ')'), ',', of_c);
         let for_rust = parts(&inside(&rust, &format!("pub fn {call}"), '(', ')'), ',', of_rust);
         assert_eq!(for_c, for_rust, "{call}");
         let types: Vec<String> = for_c.into_iter().map(|(_, of)| of).collect();
         assert_eq!(types, proved(source, call), "{call}");
+        assert_eq!([answer(&rust, call), answer(source, call)], [of, of], "{call}");
     }
 }
 
-/// Rust lays its structs out as C does on x86-64: each field at the next multiple of its own size.
+/// Rust lays its structs out as C does on x86-64 and aarch64: each field at the next multiple of its own size.
 #[test]
 fn structs_lie_as_in_c() {
-    use jufferdeeg::{Audited, Found, Hunk, Loaded, Reading};
-    assert_eq!(
-        (offset_of!(Audited, place), offset_of!(Audited, directories), offset_of!(Audited, free)),
-        (8, 16, 36)
-    );
-    assert_eq!((offset_of!(Found, place), offset_of!(Found, kind), offset_of!(Found, compared)), (8, 16, 28));
-    assert_eq!((offset_of!(Reading, place), offset_of!(Reading, count)), (8, 16));
-    assert_eq!((offset_of!(Loaded, place), offset_of!(Loaded, hunks), offset_of!(Loaded, bytes)), (8, 16, 24));
-    let sizes =
-        [size_of::<Audited>(), size_of::<Found>(), size_of::<Reading>(), size_of::<Loaded>(), size_of::<Hunk>()];
-    assert_eq!(sizes, [40, 32, 24, 32, 16]);
+    use jufferdeeg::{AuditNumbers, FindNumbers, Hunk, ProgramNumbers, ReadNumbers};
+    assert_eq!(size_of::<AuditNumbers>(), 40);
+    assert_eq!(offset_of!(AuditNumbers, place), 8);
+    assert_eq!(offset_of!(AuditNumbers, directories), 16);
+    assert_eq!(offset_of!(AuditNumbers, free), 36);
+    assert_eq!(size_of::<FindNumbers>(), 32);
+    assert_eq!(offset_of!(FindNumbers, place), 8);
+    assert_eq!(offset_of!(FindNumbers, kind), 16);
+    assert_eq!(offset_of!(FindNumbers, compared), 28);
+    assert_eq!(size_of::<ReadNumbers>(), 24);
+    assert_eq!(offset_of!(ReadNumbers, place), 8);
+    assert_eq!(offset_of!(ReadNumbers, count), 16);
+    assert_eq!(size_of::<ProgramNumbers>(), 32);
+    assert_eq!(offset_of!(ProgramNumbers, place), 8);
+    assert_eq!(offset_of!(ProgramNumbers, hunks), 16);
+    assert_eq!(offset_of!(ProgramNumbers, bytes), 24);
+    assert_eq!(size_of::<Hunk>(), 16);
+}
+
+/// `pub const NAME: u32 = 7;` or `#define JUFFERDEEG_NAME 7 /* why */`, as name and number.
+fn constants(text: &str, before: &str, between: &str) -> Vec<(String, String)> {
+    let lines = text.lines().filter_map(|l| l.trim().split("/*").next().unwrap().trim().strip_prefix(before));
+    let pairs = lines.filter_map(|l| l.trim_end_matches(';').split_once(between));
+    pairs.map(|(name, number)| (name.to_string(), number.to_string())).collect()
+}
+
+/// What stands from one text to the next other.
+fn stretch<'a>(text: &'a str, from: &str, to: &str) -> &'a str {
+    let rest = &text[text.find(from).unwrap_or_else(|| panic!("there is no {from}"))..];
+    &rest[..rest.find(to).unwrap()]
+}
+
+#[test]
+fn refusals_have_the_same_numbers() {
+    let (c, rust) = (text("include/jufferdeeg.h"), text("include/rust/src/lib.rs"));
+    let proved = constants(&text("crates/answers/src/lib.rt"), "pub const ", ": u32 = ");
+    assert_eq!(proved.len(), 33);
+    let defined = stretch(&c, "/* The numbers of refusals", "\n\n");
+    assert_eq!(constants(defined, "#define JUFFERDEEG_", " "), proved);
+    let faults = stretch(&rust, "pub mod fault {", "\n}");
+    assert_eq!(constants(faults, "pub const ", ": u32 = "), proved);
+}
+
+#[test]
+fn lengths_and_versions_are_the_same() {
+    let c = constants(&text("include/jufferdeeg.h"), "#define JUFFERDEEG_", " ");
+    let of = |name: &str| &c.iter().find(|(one, _)| one == name).unwrap_or_else(|| panic!("{name}")).1[..];
+    assert_eq!(of("IMAGE_BYTES"), jufferdeeg::IMAGE_BYTES.to_string());
+    assert_eq!(of("CLAIM_BYTES"), jufferdeeg::CLAIM_BYTES.to_string());
+    assert_eq!(of("MOST_HUNKS"), jufferdeeg::MOST_HUNKS.to_string());
+    assert_eq!(of("MOST_BYTES"), jufferdeeg::MOST_BYTES.to_string());
+    assert_eq!(of("DIRECTORY"), format!("{}u", jufferdeeg::DIRECTORY));
+    assert_eq!(of("FILE"), format!("0x{:X}u", jufferdeeg::FILE));
+    let version = of("VERSION");
+    let parts = [of("VERSION_MAJOR"), of("VERSION_MINOR"), of("VERSION_PATCH")];
+    assert_eq!(version, format!("\"{}\"", parts.join(".")));
+    assert!(text("include/rust/Cargo.toml").contains(&format!("\nversion = {version}\n")));
+    let newest = format!("\n## {}\n", version.trim_matches('"'));
+    assert!(text("CHANGELOG.md").contains(&newest));
 }

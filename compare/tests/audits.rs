@@ -1,9 +1,9 @@
-//! Holds the program `probe` to the audit of this package: 1 takes an image over, 2 changes bytes of it, 3 audits
-//! it.
+//! Holds the program `probe` and the exported functions to the audit of this package: 1 takes an image over, 2 changes
+//! bytes of it, 3 audits it.
 //!
 //! Every answer due is one that the two opinions of this package [agree](agreed) on, so each image that is asked
-//! about is a comparison of these two as well. Images are long; most are had by a patch to one that `probe` holds
-//! already, which is patched back after.
+//! about is a comparison of these two as well. Images are long; most are had by a patch to one that is held already,
+//! which is patched back after.
 
 use std::collections::BTreeMap;
 use std::ops::{Deref, DerefMut};
@@ -15,6 +15,7 @@ use compare::disk::Disk;
 use compare::driver::checksum;
 use compare::program::Refusal;
 use compare::rng::Rng;
+use compare::sides::{with_seeds, Who};
 use compare::talk;
 use compare::volumes::{
     any_style, chain, empty, files, full, mixed, nested, shuffle, Plan, Volume, TELLING_SIZES,
@@ -47,7 +48,6 @@ struct Tally {
 }
 
 /// A talk about one image, and what was asked in it.
-#[derive(Default)]
 struct Talk {
     talk: talk::Talk,
     tally: Tally,
@@ -68,6 +68,10 @@ impl DerefMut for Talk {
 }
 
 impl Talk {
+    fn new(who: Who) -> Talk {
+        Talk { talk: talk::Talk::new(who), tally: Tally::default() }
+    }
+
     fn audit(&mut self, claim_length: usize) -> Result<Report, Refusal> {
         let mut claim = vec![CLAIM; claim_length];
         let answer = agreed(&DISK, self.held(), &mut claim);
@@ -124,7 +128,7 @@ fn laid_out(rng: &mut Rng, plan: &Plan) -> Volume {
 #[test]
 fn the_empty_volume() {
     let volume = laid_out(&mut Rng::new(90), &empty());
-    let mut talk = talk::Talk::new();
+    let mut talk = talk::Talk::new(Who::Both);
     talk.image(&volume.image);
     for length in [1_760, 1_761, 4_096] {
         let mut claim = vec![0; length];
@@ -142,7 +146,7 @@ fn the_empty_volume() {
 
 #[test]
 fn before_any_image_its_length_is_zero() {
-    let mut talk = Talk::default();
+    let mut talk = Talk::new(Who::Both);
     for claim in [0, ENOUGH - 1, ENOUGH, CLAIM_ROOM] {
         talk.expect(claim, refused(1));
     }
@@ -155,7 +159,7 @@ fn claim_areas_above_the_room_and_short_bodies_are_bad() {
     let mut rng = Rng::new(91);
     let plan = mixed(&mut rng, &DISK, 40);
     let volume = laid_out(&mut rng, &plan);
-    let mut talk = Talk::default();
+    let mut talk = Talk::new(Who::Both);
     talk.image(&volume.image);
     for claim in [CLAIM_ROOM as u32 + 1, 1 << 16, 1 << 31, (1 << 31) + 1_760, u32::MAX] {
         talk.about(format!("a claim area of {claim}"));
@@ -171,8 +175,8 @@ fn claim_areas_above_the_room_and_short_bodies_are_bad() {
 }
 
 /// Lengths of image and claim area on both sides of what is right, with good and with bad tags and roots.
-fn lengths(rng: &mut Rng) -> Talk {
-    let mut talk = Talk::default();
+fn lengths(who: Who, rng: &mut Rng) -> Talk {
+    let mut talk = Talk::new(who);
     let volume = laid_out(rng, &empty());
     let claims = short_claims(&DISK).into_iter().chain([ENOUGH, ENOUGH + 1, CLAIM_ROOM]);
     for length in wrong_lengths(&DISK).into_iter().chain([DISK.image_length()]) {
@@ -292,12 +296,12 @@ fn as_is(talk: &mut Talk, rng: &mut Rng, what: &str, volume: &Volume, scratches:
     talk.expect(ENOUGH, Ok(volume.report()));
 }
 
-/// All requests of the great comparison.
-fn talks() -> Vec<Talk> {
-    let mut rng = Rng::new(92);
-    let mut talks = vec![lengths(&mut rng)];
+/// All requests of the great comparison, as the seed draws them.
+fn talks(who: Who, seed: u64) -> Vec<Talk> {
+    let mut rng = Rng::new(seed);
+    let mut talks = vec![lengths(who, &mut rng)];
     for _ in 0..2 {
-        let mut talk = Talk::default();
+        let mut talk = Talk::new(who);
         for (what, volume) in moderate(&mut rng) {
             as_is(&mut talk, &mut rng, &what, &volume, 32);
             harms(&mut talk, &mut rng, &what, &volume, 100);
@@ -305,7 +309,7 @@ fn talks() -> Vec<Talk> {
         }
         talks.push(talk);
     }
-    let mut talk = Talk::default();
+    let mut talk = Talk::new(who);
     for (what, volume) in large(&mut rng) {
         as_is(&mut talk, &mut rng, &what, &volume, 3);
         harms(&mut talk, &mut rng, &what, &volume, 10);
@@ -328,16 +332,22 @@ fn are_enough(talks: &[Talk]) {
     assert!(rare.is_empty(), "too few of {rare:?}");
 }
 
-/// The two opinions agree on all that is asked, and with what is known beforehand; `probe` is not needed for that.
+/// The two opinions agree on all that is asked, and with what is known beforehand; no one else is needed for that.
 #[test]
 fn both_opinions_agree() {
-    are_enough(&talks());
+    are_enough(&talks(Who::Nobody, 92));
 }
 
-/// `probe` agrees too.
+/// `probe` and the exported functions agree too.
 #[test]
 fn volumes_good_and_bad() {
-    let talks = talks();
+    let talks = talks(Who::Both, 92);
     are_enough(&talks);
     talks.into_iter().for_each(Talk::run);
+}
+
+/// The exported functions are fast, and are asked ten times as much.
+#[test]
+fn volumes_for_the_exported_functions() {
+    with_seeds(900, 10, |seed| are_enough(&talks(Who::Exports, seed)));
 }

@@ -1,21 +1,35 @@
-//! The fuzzing run against `probe`: a few rounds of it, and that it finds what is wrong.
+//! The fuzzing run against `probe` and the exported functions: a few rounds of it, and that it finds what is wrong.
 
 use compare::driver::{answers, rattle, Request};
-use compare::fuzz::{compare, differ, due, round, told, Case};
+use compare::fuzz::{compare, differ, due, exported, round, told, Case, Tally};
 use compare::model::{AUDIT, FIND, LOAD, MOVE, READ};
 use compare::shrink::shrink;
+use compare::sides::with_seeds;
 
 fn probe(requests: &[Request]) -> Vec<String> {
     answers(rattle("probe"), requests)
 }
 
+/// Every call was answered.
+fn has_every_call(tally: &Tally) {
+    let calls = [AUDIT, FIND, READ, LOAD, MOVE];
+    assert!(calls.iter().all(|&call| tally.range((call, 0)..(call + 1, 0)).next().is_some()), "{tally:?}");
+}
+
 #[test]
 fn some_rounds_without_a_difference() {
     for seed in [7_000, 7_001, 7_002] {
-        let tally = compare(&round(seed), &mut due, &mut probe).expect("the same answers");
-        let calls = [AUDIT, FIND, READ, LOAD, MOVE];
-        assert!(calls.iter().all(|&call| tally.range((call, 0)..(call + 1, 0)).next().is_some()), "{tally:?}");
+        has_every_call(&compare(&round(seed), &mut due, &mut probe).expect("the same answers"));
+        has_every_call(&compare(&round(seed), &mut due, &mut exported).expect("the same answers"));
     }
+}
+
+/// The exported functions are fast, and are asked ten times as much.
+#[test]
+fn rounds_for_the_exported_functions() {
+    with_seeds(7_100, 30, |seed| {
+        has_every_call(&compare(&round(seed), &mut due, &mut exported).expect("the same answers"));
+    });
 }
 
 /// An expectation that is wrong on purpose: offsets that are not allowed are to be refused as symbols.

@@ -1,8 +1,9 @@
-//! Holds the program `probe` to the lookup and the reader of this package: 1 takes an image over, 2 changes bytes of
-//! it, 4 finds a path on it, 5 reads a file.
+//! Holds the program `probe` and the exported functions to the lookup and the reader of this package: 1 takes an image
+//! over, 2 changes bytes of it, 4 finds a path on it, 5 reads a file.
 //!
 //! Where the volume or the harm done to it tells the answer beforehand, this package is held to that as well. Images
-//! are long; most are had by a patch to one that `probe` holds already, which is patched back after.
+//! are long; most are had by a patch to one that is held already, which is patched back after. Offsets that four
+//! bytes do not hold are for the exported functions alone.
 
 use std::collections::{BTreeMap, BTreeSet};
 use std::ops::{Deref, DerefMut};
@@ -12,11 +13,13 @@ use compare::blocks::{DIRECTORY, FILE};
 use compare::disk::Disk;
 use compare::driver::checksum;
 use compare::lookup::{find, Found, LONGEST_PATH};
+use compare::model::read_request;
 use compare::names::{name, put_name, same, slot};
-use compare::paths::{bad_forms, telling_offsets, telling_rooms, unfolded, Paths, Question};
+use compare::paths::{bad_forms, far_offsets, telling_offsets, telling_rooms, unfolded, Paths, Question};
 use compare::program::Refusal;
 use compare::reading::read;
 use compare::rng::Rng;
+use compare::sides::{with_seeds, Who};
 use compare::talk;
 use compare::volumes::{
     any_name, any_style, chain, empty, files, full, mixed, nested, shuffle, Entry, Kind, Part, Plan, Volume,
@@ -53,6 +56,8 @@ const OF_READ: [u32; 2] = [14, 15];
 struct Tally {
     finds: usize,
     reads: usize,
+    /// Those from an offset that four bytes do not hold.
+    far: usize,
     found: usize,
     copied: usize,
     refused_finds: BTreeMap<u32, usize>,
@@ -63,7 +68,6 @@ struct Tally {
 }
 
 /// A talk about one image, and what was asked in it.
-#[derive(Default)]
 struct Talk {
     talk: talk::Talk,
     tally: Tally,
@@ -84,6 +88,10 @@ impl DerefMut for Talk {
 }
 
 impl Talk {
+    fn new(who: Who) -> Talk {
+        Talk { talk: talk::Talk::new(who), tally: Tally::default() }
+    }
+
     /// Does this with the image patched; it is as before afterwards.
     fn patched(&mut self, patches: &[Patch], then: impl FnOnce(&mut Talk)) {
         let undo = self.patch(patches);
@@ -111,10 +119,11 @@ impl Talk {
     }
 
     /// A read, and the output after it.
-    fn read(&mut self, path: &[u8], offset: u32, room: usize) -> (Result<usize, Refusal>, Vec<u8>) {
+    fn read(&mut self, path: &[u8], offset: usize, room: usize) -> (Result<usize, Refusal>, Vec<u8>) {
         let (path, mut output) = (in_room(path), vec![BEFORE; room]);
-        let answer = read(&DISK, self.held(), path, offset as usize, &mut output);
+        let answer = read(&DISK, self.held(), path, offset, &mut output);
         self.tally.reads += 1;
+        self.tally.far += usize::from(offset > u32::MAX as usize);
         let line = match answer {
             Ok(count) => {
                 self.tally.copied += 1;
@@ -125,7 +134,8 @@ impl Talk {
                 format!("refused {number} {place}")
             }
         };
-        self.ask(READ, &read_body(offset, room as u32, path), &format!("{line} out {}", checksum(&output)));
+        let (number, body) = read_request(offset, room, path);
+        self.ask(number, &body, &format!("{line} out {}", checksum(&output)));
         (answer, output)
     }
 
@@ -137,8 +147,8 @@ impl Talk {
     }
 
     /// A read that is known to give bytes of a file with these contents.
-    fn expect_bytes(&mut self, path: &[u8], offset: u32, room: usize, contents: &[u8]) {
-        let rest: Vec<u8> = contents.iter().copied().skip(offset as usize).take(room).collect();
+    fn expect_bytes(&mut self, path: &[u8], offset: usize, room: usize, contents: &[u8]) {
+        let rest: Vec<u8> = contents.iter().copied().skip(offset).take(room).collect();
         let due = (Ok(rest.len()), [&rest[..], &vec![BEFORE; room - rest.len()]].concat());
         self.tally.known += 1;
         let got = self.read(path, offset, room);
@@ -146,7 +156,7 @@ impl Talk {
     }
 
     /// A read that is known to be refused so.
-    fn expect_refused(&mut self, path: &[u8], offset: u32, room: usize, due: Refusal) {
+    fn expect_refused(&mut self, path: &[u8], offset: usize, room: usize, due: Refusal) {
         self.tally.known += 1;
         let got = self.read(path, offset, room);
         assert!(got == (Err(due), vec![BEFORE; room]), "{}: {path:?}: {:?}, not {due:?}", self.subject(), got.0);
@@ -172,11 +182,12 @@ fn laid_out(rng: &mut Rng, plan: &Plan) -> Volume {
 }
 
 /// Where to read in a file of this size, and how much.
-fn spot(rng: &mut Rng, size: u32) -> (u32, usize) {
-    let any = rng.below(u64::from(size) + 1) as u32;
-    let telling = rng.pick(&telling_offsets(&DISK, size));
-    let offset = rng.pick(&[0, any, telling, telling]);
-    let rooms = telling_rooms(&DISK, size.saturating_sub(offset) as usize);
+fn spot(rng: &mut Rng, size: u32) -> (usize, usize) {
+    let any = rng.below(u64::from(size) + 1) as usize;
+    let telling = rng.pick(&telling_offsets(&DISK, size)) as usize;
+    let far = rng.pick(&far_offsets(&DISK, size));
+    let offset = rng.pick(&[0, 0, any, any, telling, telling, telling, far]);
+    let rooms = telling_rooms(&DISK, (size as usize).saturating_sub(offset));
     let room = rng.pick(&rooms);
     // few of the long ones
     (offset, if room > SHORT && rng.below(8) > 0 { rng.below(SHORT as u64) as usize } else { room })
@@ -186,7 +197,7 @@ fn spot(rng: &mut Rng, size: u32) -> (u32, usize) {
 #[test]
 fn the_empty_volume() {
     let volume = laid_out(&mut Rng::new(140), &empty());
-    let mut talk = talk::Talk::new();
+    let mut talk = talk::Talk::new(Who::Both);
     talk.image(&volume.image);
     for (path, answer) in [
         (&b""[..], "directory 880 0 0"),
@@ -206,7 +217,7 @@ fn the_empty_volume() {
 
 #[test]
 fn before_any_image_its_length_is_zero() {
-    let mut talk = Talk::default();
+    let mut talk = Talk::new(Who::Both);
     for path in [&b""[..], b"a", b":", b"a/"] {
         talk.expect_find(path, Err(Refusal::at(1, 0)));
         talk.expect_refused(path, 0, 10, Refusal::at(1, 0));
@@ -221,7 +232,7 @@ fn paths_and_outputs_above_their_room_and_short_bodies_are_bad() {
     let plan = files(&mut rng, &[1_000]);
     let volume = laid_out(&mut rng, &plan);
     let (paths, path) = (Paths::new(&volume), &volume.entries[0].name);
-    let mut talk = Talk::default();
+    let mut talk = Talk::new(Who::Both);
     talk.image(&volume.image);
     for length in [PATH_ROOM + 1, 10_000] {
         talk.about(format!("a path of {length}"));
@@ -346,8 +357,8 @@ fn every_entry_is_found_and_every_file_read() {
 }
 
 /// Images of a wrong length, and good ones with other tags, asked for paths of all forms.
-fn lengths(rng: &mut Rng) -> Talk {
-    let mut talk = Talk::default();
+fn lengths(who: Who, rng: &mut Rng) -> Talk {
+    let mut talk = Talk::new(who);
     let plan = mixed(rng, &DISK, 30);
     let volume = laid_out(rng, &plan);
     let path = Paths::new(&volume).path(0);
@@ -437,8 +448,8 @@ fn as_is(talk: &mut Talk, rng: &mut Rng, what: &str, volume: &Volume, times: usi
 }
 
 /// The volume with long paths: those of 255 bytes, of 256, and of 128 components.
-fn long_paths(rng: &mut Rng) -> Talk {
-    let mut talk = Talk::default();
+fn long_paths(who: Who, rng: &mut Rng) -> Talk {
+    let mut talk = Talk::new(who);
     let volume = deep(rng);
     let paths = Paths::new(&volume);
     talk.about("long paths");
@@ -459,8 +470,8 @@ fn long_paths(rng: &mut Rng) -> Talk {
 }
 
 /// Files of telling sizes, read from every telling offset into every telling room.
-fn ends(rng: &mut Rng) -> Talk {
-    let mut talk = Talk::default();
+fn ends(who: Who, rng: &mut Rng) -> Talk {
+    let mut talk = Talk::new(who);
     let sizes = [&TELLING_SIZES[..], &[976, 70_272, 70_273]].concat();
     let plan = files(rng, &sizes);
     let volume = laid_out(rng, &plan);
@@ -469,8 +480,9 @@ fn ends(rng: &mut Rng) -> Talk {
     for (number, entry) in volume.entries.iter().enumerate() {
         talk.about(format!("a file of {} bytes", entry.size()));
         let (path, contents) = (paths.path(number), paths.contents(number));
-        for offset in telling_offsets(&DISK, entry.size()) {
-            let left = contents.len().saturating_sub(offset as usize);
+        let near = telling_offsets(&DISK, entry.size()).into_iter().map(|offset| offset as usize);
+        for offset in near.chain(far_offsets(&DISK, entry.size())) {
+            let left = contents.len().saturating_sub(offset);
             for room in telling_rooms(&DISK, left) {
                 if room < SHORT || rng.below(4) == 0 {
                     talk.expect_bytes(&path, offset, room, &contents);
@@ -766,8 +778,8 @@ impl Target {
 }
 
 /// Every word of every kind of block, changed with the sum mended and without.
-fn every_word(rng: &mut Rng) -> Talk {
-    let mut talk = Talk::default();
+fn every_word(who: Who, rng: &mut Rng) -> Talk {
+    let mut talk = Talk::new(who);
     let target = target(rng, 73 * 488 + 5);
     talk.image(&target.volume.image);
     let headers =
@@ -785,8 +797,8 @@ fn every_word(rng: &mut Rng) -> Talk {
 }
 
 /// Damage to each block of a file in turn, with reads of what lies before it, in it and after it.
-fn in_the_middle(rng: &mut Rng) -> Talk {
-    let mut talk = Talk::default();
+fn in_the_middle(who: Who, rng: &mut Rng) -> Talk {
+    let mut talk = Talk::new(who);
     let Target { volume, path, file, found, .. } = target(rng, 150 * 488 - 7);
     talk.image(&volume.image);
     let mut harms = Vec::new();
@@ -803,7 +815,8 @@ fn in_the_middle(rng: &mut Rng) -> Talk {
         talk.about(format!("block {key}, w{index}"));
         let value = other(rng, word(volume.block(key), index));
         let start = file.data.iter().position(|&data| data == key).unwrap_or(72) * 488;
-        let spots = [(0, 1), (0, start.min(SHORT)), (start as u32, 488), (start as u32 + 488, 700), (u32::MAX, 3)];
+        let far = (1 << 32) + start;
+        let spots = [(0, 1), (0, start.min(SHORT)), (start, 488), (start + 488, 700), (far, 488), (usize::MAX, 3)];
         talk.patched(&[put_words(&volume, key, &[(index, value)])], |talk| {
             let (offset, room) = rng.pick(&spots);
             talk.expect_refused(&path, offset, room, Refusal::at(number, place as usize));
@@ -842,8 +855,8 @@ fn steps(target: &Target) -> (Vec<Step>, usize) {
 }
 
 /// Two faults on the way to a file and through its blocks: the one that is met first is due.
-fn two_faults(rng: &mut Rng) -> Talk {
-    let mut talk = Talk::default();
+fn two_faults(who: Who, rng: &mut Rng) -> Talk {
+    let mut talk = Talk::new(who);
     let target = target(rng, 150 * 488 - 7);
     let (steps, in_lookup) = steps(&target);
     let Target { volume, path, found, .. } = target;
@@ -912,8 +925,8 @@ fn loops(talk: &mut Talk, rng: &mut Rng, what: &str, volume: &Volume, times: usi
 }
 
 /// The longest chain, and one more on it.
-fn longest_chain(rng: &mut Rng) -> Talk {
-    let mut talk = Talk::default();
+fn longest_chain(who: Who, rng: &mut Rng) -> Talk {
+    let mut talk = Talk::new(who);
     let plan = chain(rng, DISK.chain_limit());
     let volume = laid_out(rng, &plan);
     let paths = Paths::new(&volume);
@@ -948,8 +961,8 @@ fn longest_chain(rng: &mut Rng) -> Talk {
 }
 
 /// Two long chains, one in the other's last directory: the limit is for each, the count for both.
-fn two_long_chains(rng: &mut Rng) -> Talk {
-    let mut talk = Talk::default();
+fn two_long_chains(who: Who, rng: &mut Rng) -> Talk {
+    let mut talk = Talk::new(who);
     let mut plan = empty();
     (0..999).for_each(|_| _ = plan.add(rng, None, Some(7), Kind::File(0)));
     let within = Some(plan.add(rng, None, Some(7), Kind::Directory));
@@ -981,13 +994,13 @@ fn two_long_chains(rng: &mut Rng) -> Talk {
     talk
 }
 
-/// All requests of the great comparison.
-fn talks() -> Vec<Talk> {
-    let mut rng = Rng::new(143);
+/// All requests of the great comparison, as the seed draws them.
+fn talks(who: Who, seed: u64) -> Vec<Talk> {
+    let mut rng = Rng::new(seed);
     let apart = [lengths, long_paths, ends, every_word, in_the_middle, two_faults, longest_chain, two_long_chains];
-    let mut talks: Vec<Talk> = apart.iter().map(|make| make(&mut rng)).collect();
+    let mut talks: Vec<Talk> = apart.iter().map(|make| make(who, &mut rng)).collect();
     for _ in 0..2 {
-        let mut talk = Talk::default();
+        let mut talk = Talk::new(who);
         for (what, volume) in moderate(&mut rng) {
             as_is(&mut talk, &mut rng, &what, &volume, 30);
             harms(&mut talk, &mut rng, &what, &volume, 100);
@@ -996,7 +1009,7 @@ fn talks() -> Vec<Talk> {
         }
         talks.push(talk);
     }
-    let mut talk = Talk::default();
+    let mut talk = Talk::new(who);
     for (what, volume) in large(&mut rng) {
         as_is(&mut talk, &mut rng, &what, &volume, 8);
         harms(&mut talk, &mut rng, &what, &volume, 8);
@@ -1017,11 +1030,13 @@ fn are_enough(talks: &[Talk]) {
     let [finds, reads] = [sum(&|tally| tally.finds), sum(&|tally| tally.reads)];
     let [found, copied] = [sum(&|tally| tally.found), sum(&|tally| tally.copied)];
     println!("{finds} lookups, {found} found, refused by number: {of_find:?}");
-    println!("{reads} reads, {copied} copied, refused by number: {of_read:?}");
+    let far = sum(&|tally| tally.far);
+    println!("{reads} reads, {far} far, {copied} copied, refused by number: {of_read:?}");
     let [known, told] = [sum(&|tally| tally.known), sum(&|tally| tally.told)];
     println!("{known} answers known beforehand, {told} of them told by a harm");
     assert!(known >= 10_000 && told >= 1_000, "{known} known, {told} told");
     assert!(finds + reads >= 20_000, "{finds} lookups, {reads} reads");
+    assert!(far >= 1_000, "{far} reads from far offsets");
     assert!(found >= 2_000 && copied >= 2_000, "{found} found, {copied} copied");
     assert_eq!(found + of_find.values().sum::<usize>(), finds, "an answer of another number");
     assert_eq!(copied + of_read.values().sum::<usize>(), reads, "an answer of another number");
@@ -1029,16 +1044,22 @@ fn are_enough(talks: &[Talk]) {
     assert!(rare.is_empty(), "too few of {rare:?}");
 }
 
-/// All that is known beforehand is answered so; `probe` is not needed for that.
+/// All that is known beforehand is answered so; no one else is needed for that.
 #[test]
 fn answers_known_beforehand() {
-    are_enough(&talks());
+    are_enough(&talks(Who::Nobody, 143));
 }
 
-/// `probe` agrees.
+/// `probe` and the exported functions agree.
 #[test]
 fn paths_and_files_good_and_bad() {
-    let talks = talks();
+    let talks = talks(Who::Both, 143);
     are_enough(&talks);
     talks.into_iter().for_each(Talk::run);
+}
+
+/// The exported functions are fast, and are asked ten times as much.
+#[test]
+fn paths_and_files_for_the_exported_functions() {
+    with_seeds(1_400, 10, |seed| are_enough(&talks(Who::Exports, seed)));
 }

@@ -1,19 +1,21 @@
-//! Holds the program `probe` to the loader of this package: 6 takes a program file over, 7 loads it, 8 moves it.
+//! Holds the program `probe` and the exported functions to the loader of this package: 6 takes a program file over, 7
+//! loads it, 8 moves it. Each file is checked as well, by the exported function alone.
 //!
 //! Every answer but those of the worked case comes from a [`Model`] of `probe`.
 
 use std::collections::BTreeMap;
 
 use compare::bad_programs::{bad_bases, scratch, short_room, BASE_CAUSES, CAUSES};
-use compare::driver::{checksum, Batch};
+use compare::driver::checksum;
 use compare::loader::RECORD;
 use compare::model::{
-    load_body, move_body, Model, AREA_ROOM, BAD, BASES, FILE, FILE_ROOM, LOAD, MEMORY_BEFORE as MEMORY, MOST,
-    MOVE, RECORDS, TABLE_BEFORE as TABLE,
+    load_body, move_body, Model, AREA_ROOM, BAD, BASES, CHECK, FILE, FILE_ROOM, LOAD, MEMORY_BEFORE as MEMORY,
+    MOST, MOVE, RECORDS, TABLE_BEFORE as TABLE,
 };
 use compare::program::{BSS, CODE, DATA, END, HEADER, RELOCATIONS};
 use compare::programs::{bytes, file, good_bases, good_program, long_file, worked_file, Room};
 use compare::rng::Rng;
+use compare::sides::{with_seeds, Sides, Who};
 
 /// No room at all.
 const NONE: Room = Room { memory: 0, records: 0, work: 0 };
@@ -29,37 +31,46 @@ struct Tally {
     moved: usize,
     refused: BTreeMap<u32, usize>,
     bad: usize,
+    /// Checks of files, which are no calls of `probe`.
+    checks: usize,
+    checked: usize,
+    refused_checks: BTreeMap<u32, usize>,
 }
 
 impl Tally {
-    fn count(&mut self, answer: &str) {
+    fn count(&mut self, request: u32, answer: &str) {
         let mut words = answer.split(' ');
         let verb = words.next().expect("an answer");
-        self.calls += usize::from(verb != "file" && verb != "bad");
+        let is_check = request == CHECK;
+        self.checks += usize::from(is_check);
+        self.calls += usize::from(!is_check && verb != "file" && verb != "bad");
         match verb {
             "loaded" => self.loaded += 1,
             "moved" => self.moved += 1,
+            "checked" => self.checked += 1,
             "bad" => self.bad += 1,
             "refused" => {
                 let number = words.next().and_then(|word| word.parse().ok()).expect("a number");
-                *self.refused.entry(number).or_default() += 1;
+                let refused = if is_check { &mut self.refused_checks } else { &mut self.refused };
+                *refused.entry(number).or_default() += 1;
             }
             _ => {}
         }
     }
 }
 
-/// Requests for one run of `probe`, with the answers that the model gives.
+/// Requests with the answers that the model gives.
 struct Talk {
     model: Model,
-    batch: Batch,
+    sides: Sides,
     tally: Tally,
     about: String,
 }
 
 impl Talk {
-    fn new() -> Talk {
-        Talk { model: Model::default(), batch: Batch::new(), tally: Tally::default(), about: "at first".into() }
+    fn new(who: Who) -> Talk {
+        let (model, sides) = (Model::default(), Sides::new(who));
+        Talk { model, sides, tally: Tally::default(), about: "at first".into() }
     }
 
     /// Says what the next requests are about.
@@ -69,8 +80,8 @@ impl Talk {
 
     fn ask(&mut self, number: u32, body: &[u8]) -> String {
         let answer = self.model.answer(number, body);
-        self.tally.count(&answer);
-        self.batch.ask_about(&self.about, number, body, &answer);
+        self.tally.count(number, &answer);
+        self.sides.ask(&self.about, number, body, &answer);
         answer
     }
 
@@ -80,8 +91,10 @@ impl Talk {
         assert!(answer.starts_with(beginning), "{}: {answer:?}, not {beginning:?}", self.about);
     }
 
-    fn file(&mut self, bytes: &[u8]) {
+    /// A file, which is checked.
+    fn file(&mut self, bytes: &[u8]) -> String {
         self.ask(FILE, bytes);
+        self.ask(CHECK, b"")
     }
 
     fn load(&mut self, room: Room, bases: &[u32]) -> String {
@@ -101,7 +114,7 @@ impl Talk {
     }
 
     fn run(self) {
-        self.batch.compare("probe");
+        self.sides.run();
     }
 }
 
@@ -128,36 +141,36 @@ fn the_worked_case() {
     let untouched = sums(&[MEMORY; 39], &[TABLE; 12], &[0; 41]);
     let room = Room { memory: 46, records: 3, work: 41 };
 
-    let mut batch = Batch::new();
-    batch.ask(FILE, &worked_file(), "file 148");
-    batch.ask(LOAD, &load_body(room, &WORKED_BASES), &format!("loaded 2 40 {at_first}"));
+    let mut sides = Sides::new(Who::Both);
+    sides.ask("worked out", FILE, &worked_file(), "file 148");
+    sides.ask("worked out", LOAD, &load_body(room, &WORKED_BASES), &format!("loaded 2 40 {at_first}"));
     let there = move_body(room, &WORKED_BASES, &[0x4000, 0x9000]);
-    batch.ask(MOVE, &there, &format!("moved 2 40 {at_last}"));
+    sides.ask("worked out", MOVE, &there, &format!("moved 2 40 {at_last}"));
     let wrong = move_body(room, &WORKED_BASES, &[0x4000, 0x4000]);
-    batch.ask(MOVE, &wrong, &format!("refused 40 3 {at_last}"));
+    sides.ask("worked out", MOVE, &wrong, &format!("refused 40 3 {at_last}"));
     let back = move_body(room, &[0x4000, 0x9000], &WORKED_BASES);
-    batch.ask(MOVE, &back, &format!("moved 2 40 {at_first}"));
+    sides.ask("worked out", MOVE, &back, &format!("moved 2 40 {at_first}"));
     let short = load_body(Room { memory: 39, ..room }, &WORKED_BASES);
-    batch.ask(LOAD, &short, &format!("refused 41 0 {untouched}"));
-    batch.compare("probe");
+    sides.ask("worked out", LOAD, &short, &format!("refused 41 0 {untouched}"));
+    sides.run();
 }
 
 #[test]
 fn a_sum_wraps() {
     let words = [HEADER, 0, 1, 0, 0, 1, DATA, 1, u32::MAX, RELOCATIONS, 1, 0, 0, 0, END];
-    let mut batch = Batch::new();
-    batch.ask(FILE, &bytes(&words), "file 60");
+    let mut sides = Sides::new(Who::Both);
+    sides.ask("worked out", FILE, &bytes(&words), "file 60");
     let room = Room { memory: 4, records: 1, work: 4 };
     let loaded = sums(&bytes(&[3]), &[0x3EA, 0, 1, 4], &[0; 4]);
-    batch.ask(LOAD, &load_body(room, &[4]), &format!("loaded 1 4 {loaded}"));
+    sides.ask("worked out", LOAD, &load_body(room, &[4]), &format!("loaded 1 4 {loaded}"));
     let moved = sums(&bytes(&[0xFFFF_FFFB]), &[0x3EA, 0, 1, 0xFFFF_FFFC], &[0; 4]);
-    batch.ask(MOVE, &move_body(room, &[4], &[0xFFFF_FFFC]), &format!("moved 1 4 {moved}"));
-    batch.compare("probe");
+    sides.ask("worked out", MOVE, &move_body(room, &[4], &[0xFFFF_FFFC]), &format!("moved 1 4 {moved}"));
+    sides.run();
 }
 
 #[test]
 fn before_any_file_its_length_is_zero() {
-    let mut talk = Talk::new();
+    let mut talk = Talk::new(Who::Both);
     talk.about("before any load");
     talk.expect(MOVE, &move_body(NONE, &[], &[]), "refused 30 0 ");
     talk.expect(MOVE, &move_body(Room { work: 9, ..NONE }, &[4], &[8]), "refused 30 0 ");
@@ -177,7 +190,7 @@ fn before_any_file_its_length_is_zero() {
 
 #[test]
 fn files_of_every_length_up_to_the_room() {
-    let mut talk = Talk::new();
+    let mut talk = Talk::new(Who::Both);
     for length in [0, 1, 2, 3, 4, 147, 148, 149, 5_000, FILE_ROOM - 1, FILE_ROOM] {
         talk.about(format!("{length} bytes"));
         talk.expect(FILE, &vec![0; length], &format!("file {length}"));
@@ -203,7 +216,7 @@ fn files_of_every_length_up_to_the_room() {
 
 #[test]
 fn lengths_above_the_room_are_bad() {
-    let mut talk = Talk::new();
+    let mut talk = Talk::new(Who::Both);
     talk.file(&worked_file());
     talk.load(SOME, &WORKED_BASES);
     let above = [
@@ -236,7 +249,7 @@ fn lengths_above_the_room_are_bad() {
 
 #[test]
 fn a_move_has_at_most_the_room_of_the_last_load() {
-    let mut talk = Talk::new();
+    let mut talk = Talk::new(Who::Both);
     talk.file(&worked_file());
     talk.load(SOME, &WORKED_BASES);
     let there = |room| move_body(room, &WORKED_BASES, &WORKED_BASES);
@@ -266,7 +279,7 @@ fn a_move_has_at_most_the_room_of_the_last_load() {
 
 #[test]
 fn lists_of_bases_have_their_room() {
-    let mut talk = Talk::new();
+    let mut talk = Talk::new(Who::Both);
     let list = |count: usize| vec![0x40; count];
     talk.file(&worked_file());
     talk.load(SOME, &WORKED_BASES);
@@ -291,7 +304,7 @@ fn lists_of_bases_have_their_room() {
 
 #[test]
 fn the_count_of_old_bases_splits_the_lists() {
-    let mut talk = Talk::new();
+    let mut talk = Talk::new(Who::Both);
     talk.file(&worked_file());
     talk.load(SOME, &WORKED_BASES);
     let body = |count: u32, bases: &[u32]| bytes(&[&[100, 5, 100, count], bases].concat());
@@ -313,7 +326,7 @@ fn the_count_of_old_bases_splits_the_lists() {
 
 #[test]
 fn bodies_that_lack_something_are_bad() {
-    let mut talk = Talk::new();
+    let mut talk = Talk::new(Who::Both);
     talk.file(&worked_file());
     talk.load(SOME, &WORKED_BASES);
     let (load, there) = (load_body(SOME, &WORKED_BASES), move_body(SOME, &WORKED_BASES, &[0, 0x1000]));
@@ -356,10 +369,10 @@ fn input_that_ends_inside_a_request() {
         frame(MOVE, there.len(), &[]),
         frame(MOVE, 0xFFFF_FFFC, &there),
     ] {
-        let mut talk = Talk::new();
+        let mut talk = Talk::new(Who::Both);
         talk.file(&worked_file());
         talk.load(SOME, &WORKED_BASES);
-        talk.batch.break_off(&broken, BAD);
+        talk.sides.break_off(&broken, BAD);
         talk.run();
     }
 }
@@ -378,7 +391,7 @@ fn the_largest_program_that_fits() {
     let hunks = [hunk(&mut rng, CODE), hunk(&mut rng, DATA)].concat();
     let file = bytes(&[&[HEADER, 0, 2, 0, 1, words, words], &hunks[..]].concat());
     let (old, new) = ([0xFFFC_0000, 0xFFF8_0000], [0, 0x0004_0000]);
-    let mut talk = Talk::new();
+    let mut talk = Talk::new(Who::Both);
     talk.file(&file);
     talk.expect(LOAD, &load_body(MOST, &old), "loaded 2 524288 ");
     talk.expect(MOVE, &move_body(MOST, &old, &new), "moved 2 524288 ");
@@ -400,7 +413,7 @@ fn the_largest_program_that_fits() {
 fn the_largest_program_of_all() {
     let file = bytes(&[&[HEADER, 0, 64, 0, 63], &[65_536; 64][..], &[BSS, 65_536, END].repeat(64)].concat());
     let bases = |step: u32| (0..64).map(|index| index * step).collect::<Vec<u32>>();
-    let mut talk = Talk::new();
+    let mut talk = Talk::new(Who::Both);
     talk.file(&file);
     talk.expect(LOAD, &load_body(MOST, &bases(0x0004_0000)), "refused 41 0 ");
     talk.expect(MOVE, &move_body(MOST, &bases(0x0004_0000), &bases(0x0004_0004)), "refused 41 0 ");
@@ -419,7 +432,9 @@ fn bad_files(talk: &mut Talk, rng: &mut Rng) {
             let room = needed.widened(rng);
             let due = format!("refused {} {} ", bad.due.number, bad.due.place);
             talk.about(format!("{} by {}, {} bytes", cause.number, cause.what, bad.bytes.len()));
-            talk.file(&bad.bytes);
+            let checked = talk.file(&bad.bytes);
+            let loadable = format!("checked {} {}", bad.sizes.len(), needed.memory);
+            assert_eq!(checked, if cause.number == 42 { &loadable } else { due.trim_end() }, "{}", talk.about);
             talk.expect(LOAD, &load_body(room, &old), &due);
             talk.expect(MOVE, &move_body(room, &old, &new), &due);
             if cause.number != 42 {
@@ -440,7 +455,7 @@ fn good_files(talk: &mut Talk, rng: &mut Rng) {
         let lists = [(); 3].map(|()| good_bases(rng, &sizes));
         let room = Room::needed(&sizes).widened(rng);
         talk.about(format!("a good program of {} hunks", sizes.len()));
-        talk.file(&bytes);
+        assert_eq!(talk.file(&bytes), format!("checked {} {}", sizes.len(), Room::needed(&sizes).memory));
         moved_around(talk, &sizes, room, &lists);
         refused_after(talk, rng, &sizes, room, &lists);
     }
@@ -532,34 +547,57 @@ fn strange_memory(talk: &mut Talk, rng: &mut Rng) {
         talk.file(&file(&one.written()));
         talk.load(room, &at);
         talk.file(&file(&other.written()));
-        let before = talk.model.memory.clone();
+        let before = talk.model.memory.to_vec();
         talk.expect(MOVE, &move_body(others, &old, &new), "moved ");
         talk.expect(MOVE, &move_body(room, &new, &old), "moved ");
-        assert!(talk.model.memory == before, "there and back again");
+        assert!(talk.model.memory[..] == before, "there and back again");
     }
 }
 
-/// All of it together, over and over: at least 20,000 calls, each number at least 20 times.
+/// All of it together.
+fn talk(who: Who, seed: u64) -> Talk {
+    let (mut talk, mut rng) = (Talk::new(who), Rng::new(seed));
+    bad_files(&mut talk, &mut rng);
+    good_files(&mut talk, &mut rng);
+    bad_lists(&mut talk, &mut rng);
+    scratched_files(&mut talk, &mut rng);
+    strange_memory(&mut talk, &mut rng);
+    talk
+}
+
+/// Enough of everything is asked: for each talk at least 5,000 calls, each number at least 5 times.
+fn are_enough(talks: &[Talk]) {
+    let sum = |of: &dyn Fn(&Tally) -> usize| talks.iter().map(|talk| of(&talk.tally)).sum::<usize>();
+    let [calls, loaded] = [sum(&|tally| tally.calls), sum(&|tally| tally.loaded)];
+    let [moved, bad] = [sum(&|tally| tally.moved), sum(&|tally| tally.bad)];
+    let numbers = (30..43).map(|number| (number, sum(&|tally| tally.refused.get(&number).copied().unwrap_or(0))));
+    let numbers: BTreeMap<u32, usize> = numbers.collect();
+    println!("{calls} calls, {loaded} loaded, {moved} moved, {bad} bad requests, refused by number: {numbers:?}");
+    let [checks, checked] = [sum(&|tally| tally.checks), sum(&|tally| tally.checked)];
+    let of_check = |number| sum(&|tally| tally.refused_checks.get(&number).copied().unwrap_or(0));
+    let of_check: BTreeMap<u32, usize> = (30..40).map(|number| (number, of_check(number))).collect();
+    println!("{checks} checks, {checked} accepted, refused by number: {of_check:?}");
+    let least = talks.len();
+    assert!(calls >= 5_000 * least, "{calls} calls");
+    assert!(loaded >= 500 * least && moved >= 500 * least, "{loaded} loaded, {moved} moved");
+    assert!(bad >= 5 * least, "{bad} bad requests");
+    assert_eq!(loaded + moved + numbers.values().sum::<usize>(), calls, "an answer of another number");
+    assert!(checks >= 1_000 * least && checked >= 500 * least, "{checks} checks, {checked} accepted");
+    assert_eq!(checked + of_check.values().sum::<usize>(), checks, "a check of another number");
+    let rare: Vec<_> = numbers.iter().chain(&of_check).filter(|(_, &times)| times < 5 * least).collect();
+    assert!(rare.is_empty(), "too few of {rare:?}");
+}
+
+/// Over and over: at least 20,000 calls, each number at least 20 times.
 #[test]
 fn programs_good_and_bad() {
-    let mut talks = Vec::new();
-    for seed in 60..64 {
-        let (mut talk, mut rng) = (Talk::new(), Rng::new(seed));
-        bad_files(&mut talk, &mut rng);
-        good_files(&mut talk, &mut rng);
-        bad_lists(&mut talk, &mut rng);
-        scratched_files(&mut talk, &mut rng);
-        strange_memory(&mut talk, &mut rng);
-        talks.push(talk);
-    }
-    let sum = |of: &dyn Fn(&Tally) -> usize| talks.iter().map(|talk| of(&talk.tally)).sum::<usize>();
-    assert!(sum(&|tally| tally.calls) >= 20_000, "{} calls", sum(&|tally| tally.calls));
-    assert!(sum(&|tally| tally.loaded) >= 2_000, "{} loaded", sum(&|tally| tally.loaded));
-    assert!(sum(&|tally| tally.moved) >= 2_000, "{} moved", sum(&|tally| tally.moved));
-    assert!(sum(&|tally| tally.bad) >= 20, "{} bad requests", sum(&|tally| tally.bad));
-    for number in 30..43 {
-        let times = sum(&|tally| tally.refused.get(&number).copied().unwrap_or(0));
-        assert!(times >= 20, "{number} is refused {times} times");
-    }
+    let talks: Vec<Talk> = (60..64).map(|seed| talk(Who::Both, seed)).collect();
+    are_enough(&talks);
     talks.into_iter().for_each(Talk::run);
+}
+
+/// The exported functions are fast, and are asked ten times as much.
+#[test]
+fn programs_for_the_exported_functions() {
+    with_seeds(600, 40, |seed| are_enough(&[talk(Who::Exports, seed)]));
 }

@@ -2,22 +2,23 @@
  *
  *     every_call IMAGE PATH
  *
- * PATH is that of a program on the image. With any C compiler for x86-64:
+ * PATH is that of a program on the image. With any C compiler, after ./make-archive:
  *
- *     cc -I include examples/c/every_call.c target/staticlib/libjufferdeeg.a -o every_call */
+ *     cc -I include examples/c/every_call.c target/native/libjufferdeeg.a -o every_call */
 #include <stdio.h>
 #include <string.h>
 
 #include "jufferdeeg.h"
 
 #define ROOM 65536
+#define MOST JUFFERDEEG_MOST_HUNKS
 
 /* One byte more than an image, to see that a file is longer. */
 static uint8_t image[JUFFERDEEG_IMAGE_BYTES + 1];
 static uint8_t claim[JUFFERDEEG_CLAIM_BYTES];
 static uint8_t file[ROOM], memory[ROOM], fresh[ROOM], work[ROOM];
-static struct jufferdeeg_hunk table[JUFFERDEEG_MOST_HUNKS], fresh_table[JUFFERDEEG_MOST_HUNKS];
-static uint32_t here[JUFFERDEEG_MOST_HUNKS], there[JUFFERDEEG_MOST_HUNKS];
+static struct jufferdeeg_hunk table[MOST], fresh_table[MOST];
+static uint32_t here[MOST], there[MOST];
 
 static const char *yes_or_no(int is) {
     return is ? "yes" : "no";
@@ -33,63 +34,77 @@ static int all_are(const uint8_t *bytes, size_t count, uint8_t value) {
 }
 
 static void audit(const char *what, size_t image_bytes) {
-    struct jufferdeeg_audited a = jufferdeeg_audit(image, image_bytes, claim, sizeof claim);
+    struct jufferdeeg_audit_numbers a = jufferdeeg_audit(image, image_bytes, claim, sizeof claim);
     size_t claimed = 0;
     for (size_t k = 0; k < sizeof claim; k++) {
         claimed += claim[k];
     }
-    printf("audit %s: number %u, place %zu, directories %u, files %u, list blocks %u, data blocks %u, used %u, free %u; claimed %zu\n", what, a.number,
-           a.place, a.directories, a.files, a.list_blocks, a.data_blocks, a.used, a.free, claimed);
+    printf("audit %s: number %u, place %zu, ", what, a.number, a.place);
+    printf("directories %u, files %u, list blocks %u, data blocks %u, ", a.directories, a.files, a.list_blocks,
+           a.data_blocks);
+    printf("used %u, free %u; claimed %zu\n", a.used, a.free, claimed);
 }
 
 static void find(size_t image_bytes, const char *path) {
-    struct jufferdeeg_found f = jufferdeeg_find(image, image_bytes, (const uint8_t *)path, strlen(path));
-    printf("find \"%s\": number %u, place %zu, kind %X, key %u, size %u, compared %u\n", path, f.number, f.place, f.kind, f.key, f.size, f.compared);
+    struct jufferdeeg_find_numbers f = jufferdeeg_find(image, image_bytes, (const uint8_t *)path, strlen(path));
+    printf("find \"%s\": number %u, place %zu, kind %X, key %u, size %u, compared %u\n", path, f.number, f.place,
+           f.kind, f.key, f.size, f.compared);
 }
 
 /* Reads into room that is full of AA, and says whether what is after the bytes is so still. */
 static size_t read_file(size_t image_bytes, const char *path, size_t offset) {
     memset(file, 0xAA, sizeof file);
-    struct jufferdeeg_reading r = jufferdeeg_read(image, image_bytes, (const uint8_t *)path, strlen(path), offset, file, sizeof file);
-    printf("read \"%s\" from %zu: number %u, place %zu, count %zu; the rest stays: %s\n", path, offset, r.number, r.place, r.count,
-           yes_or_no(all_are(file + r.count, sizeof file - r.count, 0xAA)));
+    struct jufferdeeg_read_numbers r =
+        jufferdeeg_read(image, image_bytes, (const uint8_t *)path, strlen(path), offset, file, sizeof file);
+    printf("read \"%s\" from %zu: number %u, place %zu, count %zu; the rest stays: %s\n", path, offset, r.number,
+           r.place, r.count, yes_or_no(all_are(file + r.count, sizeof file - r.count, 0xAA)));
     return r.count;
 }
 
-static void say_program(const char *what, struct jufferdeeg_loaded l) {
-    printf("%s: number %u, place %zu, hunks %u, bytes %zu; the work area is clean: %s\n", what, l.number, l.place, l.hunks, l.bytes,
-           yes_or_no(all_are(work, sizeof work, 0)));
+/* The check of a file that was read: how many hunks it has. */
+static uint32_t check(const char *what, size_t file_bytes) {
+    struct jufferdeeg_program_numbers p = jufferdeeg_check(file, file_bytes);
+    printf("check of %s: number %u, place %zu, hunks %u, bytes %zu\n", what, p.number, p.place, p.hunks, p.bytes);
+    return p.hunks;
+}
+
+static void say_program(const char *what, struct jufferdeeg_program_numbers l) {
+    printf("%s: number %u, place %zu, hunks %u, bytes %zu; the work area is clean: %s\n", what, l.number, l.place,
+           l.hunks, l.bytes, yes_or_no(all_are(work, sizeof work, 0)));
     memset(work, 0xAA, sizeof work);
 }
 
 static void say_table(uint32_t hunks) {
     for (uint32_t i = 0; i < hunks; i++) {
-        printf("hunk %u: kind %X, place %u, size %u, base %08X\n", i, table[i].kind, table[i].place, table[i].size, table[i].base);
+        printf("hunk %u: kind %X, place %u, size %u, base %08X\n", i, table[i].kind, table[i].place, table[i].size,
+               table[i].base);
     }
 }
 
 /* Loads, moves, and holds what was moved to a load at the new bases. Then a load and a move that are refused. */
 static void load_and_move(size_t file_bytes, size_t hunks) {
-    struct jufferdeeg_loaded l;
+    struct jufferdeeg_program_numbers l;
     for (size_t i = 0; i < hunks; i++) {
         here[i] = 0x3000 + 0x4000 * (uint32_t)i;
         there[i] = 0x90000 - 0x4000 * (uint32_t)i;
     }
     memset(work, 0xAA, sizeof work);
-    l = jufferdeeg_load(file, file_bytes, here, hunks, memory, sizeof memory, table, JUFFERDEEG_MOST_HUNKS, work, sizeof work);
+    l = jufferdeeg_load(file, file_bytes, here, hunks, memory, sizeof memory, table, MOST, work, sizeof work);
     say_program("load", l);
     say_table(l.hunks);
-    l = jufferdeeg_move(file, file_bytes, here, hunks, there, hunks, memory, sizeof memory, table, JUFFERDEEG_MOST_HUNKS, work, sizeof work);
+    l = jufferdeeg_move(file, file_bytes, here, hunks, there, hunks, memory, sizeof memory, table, MOST, work,
+                        sizeof work);
     say_program("move", l);
     say_table(l.hunks);
-    l = jufferdeeg_load(file, file_bytes, there, hunks, fresh, sizeof fresh, fresh_table, JUFFERDEEG_MOST_HUNKS, work, sizeof work);
+    l = jufferdeeg_load(file, file_bytes, there, hunks, fresh, sizeof fresh, fresh_table, MOST, work, sizeof work);
     say_program("load there", l);
     printf("moved is as loaded there: memory %s, table %s\n", yes_or_no(memcmp(memory, fresh, sizeof memory) == 0),
            yes_or_no(memcmp(table, fresh_table, sizeof table) == 0));
 
-    l = jufferdeeg_load(file, file_bytes, here, hunks, memory, 4, table, JUFFERDEEG_MOST_HUNKS, work, sizeof work);
+    l = jufferdeeg_load(file, file_bytes, here, hunks, memory, 4, table, MOST, work, sizeof work);
     say_program("load into 4 bytes", l);
-    l = jufferdeeg_move(file, file_bytes, there, hunks, here, hunks - 1, memory, sizeof memory, table, JUFFERDEEG_MOST_HUNKS, work, sizeof work);
+    l = jufferdeeg_move(file, file_bytes, there, hunks, here, hunks - 1, memory, sizeof memory, table, MOST, work,
+                        sizeof work);
     say_program("move with a base missing", l);
     printf("nothing has changed: memory %s, table %s\n", yes_or_no(memcmp(memory, fresh, sizeof memory) == 0),
            yes_or_no(memcmp(table, fresh_table, sizeof table) == 0));
@@ -117,7 +132,7 @@ int main(int argc, char **argv) {
     read_file(image_bytes, "", 0);
     read_file(image_bytes, argv[2], 4);
     size_t file_bytes = read_file(image_bytes, argv[2], 0);
-    /* word 2 of a program file is the number of its hunks; the load itself sees whether that is so */
-    load_and_move(file_bytes, file[11] % (JUFFERDEEG_MOST_HUNKS + 1));
+    check("half of it", file_bytes / 8 * 4);
+    load_and_move(file_bytes, check("it", file_bytes));
     return 0;
 }

@@ -9,8 +9,7 @@ use compare::rng::Rng;
 use compare::volumes::{chain, full, mixed, Filling, Kind, Order, Plan, Style, Volume};
 use compare::words::{sum, BLOCK_BYTES};
 use compare::{audit, loader, reading};
-
-use crate::rattle;
+use jufferdeeg as rattle;
 
 const DISK: Disk = Disk::FLOPPY;
 
@@ -150,28 +149,42 @@ pub fn reads(name: &str, (image, size): (Vec<u8>, usize)) -> Case {
     Case { name: name.to_string(), sides }
 }
 
-/// Lent areas of 8 hunks with 32,768 words each.
+/// Lent areas of 8 hunks with 32,768 words each, and the table as Rattle has it and as Rust has it.
 struct Areas {
     memory: Vec<u8>,
-    table: Vec<[u32; 4]>,
+    records: Vec<rattle::Hunk>,
+    numbers: Vec<u32>,
     work: Vec<u8>,
 }
 
 impl Areas {
     fn new() -> Areas {
-        Areas { memory: vec![0x55; 1 << 20], table: vec![[0; 4]; 64], work: vec![0xAA; 1 << 20] }
+        Areas {
+            memory: vec![0x55; 1 << 20],
+            records: vec![rattle::Hunk::default(); 64],
+            numbers: vec![0; 256],
+            work: vec![0xAA; 1 << 20],
+        }
     }
 
-    fn ours(&mut self) -> rattle::Lent<'_> {
-        rattle::Lent { memory: &mut self.memory, table: &mut self.table, work: &mut self.work }
+    fn load(&mut self, file: &[u8], bases: &[u32]) -> u32 {
+        rattle::load(file, bases, &mut self.memory, &mut self.records, &mut self.work).number
+    }
+
+    fn relocate(&mut self, file: &[u8], old: &[u32], new: &[u32]) -> u32 {
+        rattle::move_program(file, old, new, &mut self.memory, &mut self.records, &mut self.work).number
     }
 
     fn theirs(&mut self) -> loader::Lent<'_> {
-        loader::Lent { memory: &mut self.memory, table: self.table.as_flattened_mut(), work: &mut self.work }
+        loader::Lent { memory: &mut self.memory, table: &mut self.numbers, work: &mut self.work }
     }
 
+    /// What Rattle left here is what Rust left there.
     fn hold(&self, other: &Areas) {
-        assert!(self.memory == other.memory && self.table == other.table && self.work == other.work);
+        let numbers = self.records.iter().flat_map(|h| [h.kind, h.place, h.size, h.base]);
+        assert!(
+            self.memory == other.memory && numbers.eq(other.numbers.iter().copied()) && self.work == other.work
+        );
     }
 }
 
@@ -180,12 +193,12 @@ pub fn loads(name: &str, file: Vec<u8>, bases: Vec<u32>) -> Case {
     let given = Rc::new((file, bases));
     let (mut ours, mut theirs) = (Areas::new(), Areas::new());
     let (file, bases) = (&given.0, &given.1);
-    assert_eq!(rattle::load(file, bases, ours.ours()).number, 0);
+    assert_eq!(ours.load(file, bases), 0);
     assert!(loader::load(file, bases, theirs.theirs()).is_ok());
     ours.hold(&theirs);
     let (first, second) = (given.clone(), given);
     let sides = vec![
-        side("Rattle", move || assert_eq!(rattle::load(&first.0, &first.1, ours.ours()).number, 0)),
+        side("Rattle", move || assert_eq!(ours.load(&first.0, &first.1), 0)),
         side("Rust", move || assert!(loader::load(&second.0, &second.1, theirs.theirs()).is_ok())),
     ];
     Case { name: name.to_string(), sides }
@@ -196,12 +209,12 @@ pub fn moves(name: &str, file: Vec<u8>, old: Vec<u32>, new: Vec<u32>) -> Case {
     let given = Rc::new((file, old, new));
     let (mut ours, mut theirs) = (Areas::new(), Areas::new());
     let (file, old, new) = (&given.0, &given.1, &given.2);
-    assert_eq!(rattle::relocate(file, old, new, ours.ours()).number, 0);
+    assert_eq!(ours.relocate(file, old, new), 0);
     assert!(loader::relocate(file, old, new, theirs.theirs()).is_ok());
     ours.hold(&theirs);
     let (first, second) = (given.clone(), given);
     let sides = vec![
-        side("Rattle", move || assert_eq!(rattle::relocate(&first.0, &first.1, &first.2, ours.ours()).number, 0)),
+        side("Rattle", move || assert_eq!(ours.relocate(&first.0, &first.1, &first.2), 0)),
         side("Rust", move || assert!(loader::relocate(&second.0, &second.1, &second.2, theirs.theirs()).is_ok())),
     ];
     Case { name: name.to_string(), sides }

@@ -2,7 +2,6 @@
 
 mod cases;
 mod plot;
-mod rattle;
 
 use std::time::Duration;
 

@@ -1,5 +1,5 @@
-//! Holds the program `probe` to this package for as long as it is let:
-//! `cargo run --release --manifest-path compare/Cargo.toml --bin fuzz -- [SEED] [SECONDS]`.
+//! Holds the program `probe` to this package for as long as it is let, or the exported functions:
+//! `cargo run --release --manifest-path compare/Cargo.toml --bin fuzz -- [exports] [SEED] [SECONDS]`.
 //!
 //! Without a seed the clock gives one; without a time it goes on until it is stopped. Round after round draws damaged
 //! volumes and damaged programs. The seed of a round is the seed at the start plus the rounds before it, so that a
@@ -12,7 +12,7 @@ use std::process::ExitCode;
 use std::time::{Duration, Instant, SystemTime, UNIX_EPOCH};
 
 use compare::driver::{answers, framed, rattle, Request};
-use compare::fuzz::{compare, differ, due, requests, round, told, Case, Difference, Tally};
+use compare::fuzz::{compare, differ, due, exported, requests, round, told, Case, Difference, Tally};
 use compare::model::{AUDIT, FIND, LOAD, MOVE, READ};
 use compare::shrink::shrink;
 
@@ -23,15 +23,21 @@ fn probe(requests: &[Request]) -> Vec<String> {
     answers(rattle("probe"), requests)
 }
 
-/// The words of the command line: a seed and a number of seconds, both or neither or the first alone.
-fn arguments() -> Option<(u64, Option<u64>)> {
-    let words: Vec<String> = std::env::args().skip(1).collect();
+/// Who is held to this package.
+type Held = fn(&[Request]) -> Vec<String>;
+
+/// The words of the command line: who is asked, a seed and a number of seconds, both or neither or the first alone.
+fn arguments() -> Option<(Held, u64, Option<u64>)> {
+    let mut words: Vec<String> = std::env::args().skip(1).collect();
+    let is_exports = words.first().is_some_and(|word| word == "exports");
+    let held = if is_exports { exported } else { probe };
+    words.drain(..usize::from(is_exports));
     let numbers: Vec<u64> = words.iter().map(|word| word.parse().ok()).collect::<Option<_>>()?;
     let clock = SystemTime::now().duration_since(UNIX_EPOCH).map_or(0, |time| time.as_secs());
     match numbers[..] {
-        [] => Some((clock, None)),
-        [seed] => Some((seed, None)),
-        [seed, seconds] => Some((seed, Some(seconds))),
+        [] => Some((held, clock, None)),
+        [seed] => Some((held, seed, None)),
+        [seed, seconds] => Some((held, seed, Some(seconds))),
         _ => None,
     }
 }
@@ -71,13 +77,13 @@ fn save(seed: u64, case: &Case, text: &str) -> std::io::Result<PathBuf> {
 }
 
 /// Makes the case of a difference small, tells it and saves it.
-fn report(seed: u64, cases: &[Case], difference: &Difference) {
+fn report(mut held: Held, seed: u64, cases: &[Case], difference: &Difference) {
     println!("round {seed}: {:?}\nmaking the case small ..", difference.lines);
     let mut small = cases[difference.case].clone();
     let mut lines = difference.lines.clone();
-    if differ(&small, &mut due, &mut probe) {
-        small = shrink(&small, &mut |case| differ(case, &mut due, &mut probe));
-        if let Err(left) = compare(std::slice::from_ref(&small), &mut due, &mut probe) {
+    if differ(&small, &mut due, &mut held) {
+        small = shrink(&small, &mut |case| differ(case, &mut due, &mut held));
+        if let Err(left) = compare(std::slice::from_ref(&small), &mut due, &mut held) {
             lines = left.lines;
         }
     } else {
@@ -92,8 +98,10 @@ fn report(seed: u64, cases: &[Case], difference: &Difference) {
 }
 
 fn main() -> ExitCode {
-    let Some((seed, seconds)) = arguments() else {
-        eprintln!("fuzz takes a SEED and a number of SECONDS, or the seed alone, or nothing");
+    let Some((mut held, seed, seconds)) = arguments() else {
+        eprintln!(
+            "fuzz takes a SEED and a number of SECONDS, or the seed alone, or nothing, after exports or alone"
+        );
         return ExitCode::FAILURE;
     };
     println!("seed {seed}");
@@ -102,10 +110,10 @@ fn main() -> ExitCode {
     while seconds.is_none_or(|seconds| start.elapsed().as_secs() < seconds) {
         let seed = seed.wrapping_add(rounds);
         let cases = round(seed);
-        match compare(&cases, &mut due, &mut probe) {
+        match compare(&cases, &mut due, &mut held) {
             Ok(more) => more.into_iter().for_each(|(kind, times)| *tally.entry(kind).or_default() += times),
             Err(difference) => {
-                report(seed, &cases, &difference);
+                report(held, seed, &cases, &difference);
                 return ExitCode::FAILURE;
             }
         }

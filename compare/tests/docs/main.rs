@@ -138,8 +138,10 @@ fn what_asks_is_listed() {
 
 #[test]
 fn a_requires_is_seen() {
-    let code = "pub fn a(n: u32)\n    requires { n }\n    ensures { n }\n{\n}\n\npub(crate) fn b()\n    requires { n }\n{\n}\n\n// pub\npub fn c()\n{\n}\n";
-    assert_eq!(asking_in(code), ["a"]);
+    let asks = "pub fn a(n: u32)\n    requires { n }\n    ensures { n }\n{\n}\n";
+    let hidden = "pub(crate) fn b()\n    requires { n }\n{\n}\n";
+    let plain = "// pub\npub fn c()\n{\n}\n";
+    assert_eq!(asking_in(&[asks, hidden, plain].join("\n")), ["a"]);
 }
 
 /// A wrong program: its crate, its name, and whether the gate tries it.
@@ -293,6 +295,29 @@ fn a_list_is_of_one_module() {
     );
     assert_eq!(last("`Refusing.refused-exactly`, `refused-1` and `refused-claims`"), Found::Missing);
     assert_eq!(last("`Refusing.refused-exactly`; `refused-claims`"), Found::As(Kind::Word));
+}
+
+/// The longest line of code, of a comment and of a page. A row of a table may be longer.
+const COLUMNS: usize = 120;
+
+fn is_long(line: &str) -> bool {
+    !line.trim_start().starts_with('|') && line.chars().count() > COLUMNS
+}
+
+#[test]
+fn lines_are_not_too_long() {
+    let kinds = [".antt", ".rt", ".rs", ".c", ".h", ".md"];
+    let files: Vec<_> =
+        library().paths.iter().filter(|path| kinds.iter().any(|kind| path.ends_with(kind))).collect();
+    assert!(files.len() >= 400, "only {} files were looked at", files.len());
+    let long = |path: &&String| {
+        let lines = page(path);
+        let long = lines.lines().enumerate().filter(|(_, line)| is_long(line));
+        long.map(|(at, _)| format!("{path}:{}", at + 1)).collect::<Vec<_>>()
+    };
+    hold_none("lines have more than 120 columns", &files.iter().flat_map(long).collect::<Vec<_>>());
+    assert!(is_long(&"x".repeat(COLUMNS + 1)) && !is_long(&"x".repeat(COLUMNS)));
+    assert!(!is_long(&format!("| {} |", "x".repeat(COLUMNS))));
 }
 
 /// The list of words that are not looked up holds no more than the pages need.

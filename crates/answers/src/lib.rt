@@ -1,4 +1,5 @@
 // What every call answers where it refuses.
+pub mod sentences;
 
 // The refusal's number, and the place that it is about: a key, a byte, a component or an entry.
 pub struct Refusal {

@@ -18,7 +18,7 @@ use Rattle.walk.specs.declared.Counts.{Counts}
 use Rattle.walk.specs.Nodes.{keyOf, walkOf}
 use Rattle.walk.specs.Reports.{Walked}
 use Rattle.walk.proofs.Passes.{key-passed}
-use Rattle.walk.proofs.Accepts.{fine-in-tree, accepted-lawful, node-reached, node-key}
+use Rattle.walk.proofs.Accepts.{passes-in-tree, accepted-lawful, node-reached, node-key}
 use Rattle.walk.proofs.Decides.{volume-decided}
 use Rattle.walk.proofs.Reports.{walked-report}
 use Rattle.audit.specs.declared.bitmap.Mapped.the-variants.{Right}
@@ -26,7 +26,7 @@ use Rattle.audit.specs.declared.audit.Report.{Report}
 use Rattle.audit.specs.declared.audit.Audited.{Audited}
 use Rattle.audit.specs.declared.audit.Audited.the-variants.{Accepted, Refused}
 use Rattle.audit.specs.Bits.{bitsOf}
-use Rattle.audit.specs.Audits.{numbersOf, reportOf, claimsOf, leaves, auditOf, Audits}
+use Rattle.audit.specs.Audits.{numbersOf, reportOf, claimsOf, claimAfter, auditOf, Audits}
 use Rattle.audit.specs.Verdicts.{freeFrom, Opened, Reported, Claimed}
 use Rattle.audit.proofs.Bitmaps.{claim-byte, right-exactly, bits-right, count-free}
 use Rattle.audit.proofs.Answers.{through, answers-exactly}
@@ -40,14 +40,14 @@ zero-byte (suc n) (suc k) = zero-byte n k
 pub audit-determined : (d : Disk) (s : List ℕ) (n : ℕ) (r r′ : Audited) (c c′ : List ℕ) → Audits d s n r c → Audits d s n r′ c′ → (numbersOf r ≡ numbersOf r′) × (r ≡ r′) × (c ≡ c′)
 audit-determined d s n r r′ c c′ a b =
     let e : r ≡ r′ = a .answer ∙ sym (b .answer) in
-    (ap numbersOf e, e, a .claim ∙ ap (λ (x : Audited). leaves d s x n) e ∙ sym (b .claim))
+    (ap numbersOf e, e, a .claim ∙ ap (λ (x : Audited). claimAfter d s x n) e ∙ sym (b .claim))
 
 module _ (d : Disk) (s : List ℕ) where
   module _ (c : List ℕ) (m : Counts) (e : walkOf d s ≡ done c m) where
     -- reached blocks lie after the boot blocks, in the volume
     used-inside : (k : ℕ) → Used d s k → (firstKey ≤ k) × (k < d .blocks)
     used-inside k u =
-        let fine = fine-in-tree d s (accepted-lawful d s .0 (subst Through (sym e) tt) .0) in
+        let fine = passes-in-tree d s (accepted-lawful d s .0 (subst Through (sym e) tt) .0) in
         let n = node-reached d s fine (u .1) in
         subst (λ (j : ℕ). (firstKey ≤ j) × (j < d .blocks)) (node-key d s fine (u .1) ∙ u .2) (key-passed d (keyOf d (n .0)) (fine (n .0) (n .1) .0))
 
@@ -94,7 +94,7 @@ module _ (d : Disk) (s : List ℕ) where
       pub accepted-claims : (p : Report) → r ≡ Accepted p → Claimed d s n claim′
       accepted-claims p q =
           let z = answers-exactly d s n (Accepted p) .0 (sym (a .answer) ∙ q) in
-          let e : claim′ ≡ z .claims ++ zeros = a .claim ∙ ap (λ (x : Audited). leaves d s x n) q ∙ ap (λ (o : Outcome Counts). claimsOf o ++ zeros) (z .walks) in
+          let e : claim′ ≡ z .claims ++ zeros = a .claim ∙ ap (λ (x : Audited). claimAfter d s x n) q ∙ ap (λ (o : Outcome Counts). claimsOf o ++ zeros) (z .walks) in
           subst (Claimed d s n) (sym e) (claimed (z .claims) (z .counts) (z .walks) (z .opened .room))
         where
           zeros : List ℕ
@@ -113,7 +113,7 @@ module _ (d : Disk) (s : List ℕ) where
                   inr (ap (λ (i : ℕ). getD (c ++ zeros) i 0) j ∙ getD-append-add c zeros (k - length c) 0 ∙ zero-byte (n - claimBytes d) (k - length c), λ h. u (used-inside c m e k h .1))
 
       pub refused-claims : (x : Refusal) → r ≡ Refused x → claim′ ≡ replicate n 0
-      refused-claims x q = a .claim ∙ ap (λ (y : Audited). leaves d s y n) q
+      refused-claims x q = a .claim ∙ ap (λ (y : Audited). claimAfter d s y n) q
 
     -- ---- what it reports
 

@@ -18,14 +18,14 @@ use Rattle.reach.specs.Walk.{done, refused, audit, free, Accepted as Through}
 use Rattle.reach.proofs.Claims.{free-all}
 use Rattle.reach.proofs.Runs.{run-end}
 use Rattle.volume.specs.declared.disk.Disk.{Disk}
-use Rattle.volume.specs.Disks.{Sized, mostBlocks, imageBytes, claimBytes, tagOf, rootOf}
+use Rattle.volume.specs.Disks.{Sized, mostBlocks, floppy, imageBytes, claimBytes, tagOf, rootOf}
 use Rattle.volume.specs.Blocks.{slots, Holds, wordOf}
 use Rattle.volume.proofs.Sizes.{range-is}
 use Rattle.walk.specs.declared.Counts.{Counts}
 use Rattle.walk.specs.Nodes.{Node, root, bitmap, leadsTo, noted, slotNodes, nothing, graph, walkOf}
 use Rattle.walk.proofs.Accepts.{accepted-lawful}
-use Rattle.audit.specs.declared.claims.Walked.{Walked}
-use Rattle.audit.specs.declared.claims.Walked.the-variants.{Done, Stopped}
+use Rattle.audit.specs.declared.walked.Walked.{Walked}
+use Rattle.audit.specs.declared.walked.Walked.the-variants.{Done, Stopped}
 use Rattle.audit.specs.declared.bitmap.Mapped.{Mapped}
 use Rattle.audit.specs.declared.bitmap.Mapped.the-variants.{Right, Wrong}
 use Rattle.audit.specs.declared.audit.Report.{Report}
@@ -33,8 +33,17 @@ use Rattle.audit.specs.declared.audit.Audited.{Audited}
 use Rattle.audit.specs.declared.audit.Audited.the-variants.{Accepted, Refused}
 use Rattle.audit.specs.Walks.{Met, Walks, Ready, total, goesOn}
 use Rattle.audit.specs.Bits.{bitsOf}
-use Rattle.audit.specs.Audits.{numbersOf, refuse, reportOf, leaves, auditOf, Within, Tagged, Audits}
+use Rattle.audit.specs.Audits.{numbersOf, refuse, reportOf, claimAfter, auditOf, Fresh, Within, Tagged, Audits}
 use Rattle.audit.proofs.Walking.{walks-none, walks-stopped, walks-then, walks-part, met-inside, met-stops, met-goes, ready-met}
+
+-- ---- a claim area of zeros, with a byte for each block
+
+module _ (d : Disk) (cl : List ℕ) (z : cl ≡ replicate (claimBytes d) 0) where
+  pub zeros-long : length cl ≡ claimBytes d
+  zeros-long = rw z (length-replicate _ 0)
+
+  pub kept-long : (cl₁ : List ℕ) → length cl₁ ≡ length cl → length cl₁ ≡ claimBytes d
+  kept-long cl₁ e = e ∙ zeros-long
 
 -- ---- the root and the bitmap block
 
@@ -48,6 +57,11 @@ module _ (d : Disk) (s cl cl₁ : List ℕ) (f : ℕ) (m : Met d s root cl f cl�
   pub root-inside : f ≡ 0 → (k : ℕ) → k ≡ rootOf d → length s ≡ imageBytes d → Holds s k
   root-inside z k e l = omega (arith, root-range z k e)
 
+  pub root-ready : f ≡ 0 → Sized d → length s ≡ imageBytes d → cl ≡ replicate (claimBytes d) 0 → length cl₁ ≡ length cl → Ready d s cl₁ nothing
+  unfolding noted
+  root-ready z h i c l =
+      ready-met d s root nothing cl cl₁ f (record { sized = h; image = i; claim = zeros-long d cl c; room = rw c (omega (arith, free-all (d .blocks))) }) m z l nothing refl
+
   module _ (z : f ≡ 0) (k bitmapKey : ℕ) (e : k ≡ rootOf d) (p : bitmapKey ≡ wordOf s k 79) (g : ℕ) (cl₂ : List ℕ) (n : Met d s (bitmap bitmapKey) cl₁ g cl₂) where
     abbrev inside : List Node
     inside = slotNodes s (rootOf d) 0 slots
@@ -59,18 +73,17 @@ module _ (d : Disk) (s cl cl₁ : List ℕ) (f : ℕ) (m : Met d s root cl f cl�
     pub bitmap-stops : (r : Walked) (cl″ : List ℕ) → (g ≡ 0 → ⊥) → r ≡ Stopped (refusal g bitmapKey) → Walks d s (root ∷ []) [] nothing cl r cl″
     bitmap-stops r cl″ t q = rooted r cl″ (walks-stopped d s _ _ [] nothing cl₁ cl″ r _ (walks-part d s (bitmap bitmapKey ∷ []) [] inside nothing cl₁ cl″ r (met-stops d s (bitmap bitmapKey) cl₁ cl₂ g n [] nothing cl″ r t q)) q)
 
-    pub root-ready : Sized d → length s ≡ imageBytes d → cl ≡ replicate (claimBytes d) 0 → length cl₁ ≡ length cl → length cl₂ ≡ length cl₁ → g ≡ 0 → Ready d s cl₂ nothing
-    unfolding noted
-    root-ready h i c l l′ y =
-        ready-met d s (bitmap bitmapKey) nothing cl₁ cl₂ g (ready-met d s root nothing cl cl₁ f (record { sized = h; image = i; claim = rw c (length-replicate _ 0); room = rw c (omega (arith, free-all (d .blocks))) }) m z l nothing refl) n y l′ nothing refl
-
-    pub root-goes : (t : ℕ) (r : Walked) (cl₃ : List ℕ) → g ≡ 0 → t ≡ rootOf d → Walks d s (slotNodes s t 0 slots) [] nothing cl₂ r cl₃ → Walks d s (root ∷ []) [] nothing cl r cl₃
+    pub root-goes : (r : Walked) (cl₃ : List ℕ) → g ≡ 0 → Walks d s (slotNodes s k 0 slots) [] nothing cl₂ r cl₃ → Walks d s (root ∷ []) [] nothing cl r cl₃
     unfolding noted leadsTo
-    root-goes t r cl₃ y u w =
+    root-goes r cl₃ y w =
         rooted r cl₃
         (walks-then d s _ inside inside [] [] nothing nothing cl₁ cl₂ cl₃ (Done nothing) r
         (walks-part d s (bitmap bitmapKey ∷ []) [] inside nothing cl₁ cl₂ (Done nothing) (met-goes d s (bitmap bitmapKey) cl₁ cl₂ g n [] nothing cl₂ (Done nothing) y (walks-none d s [] nothing cl₂)))
-        refl (sym (append-nil _)) (rw u at w))
+        refl (sym (append-nil _)) (rw e at w))
+
+pub bitmap-ready : (d : Disk) (s cl cl′ : List ℕ) (k f : ℕ) → Met d s (bitmap k) cl f cl′ → f ≡ 0 → length cl′ ≡ length cl → Ready d s cl nothing → Ready d s cl′ nothing
+unfolding noted
+bitmap-ready d s cl cl′ k f m z l r = ready-met d s (bitmap k) nothing cl cl′ f r m z l nothing refl
 
 -- ---- the walk's outcome
 
@@ -123,15 +136,18 @@ drop-zeros zero n = let e : n ≡ n - 0 = omega arith in ap (λ (j : ℕ). repli
 drop-zeros (suc k) zero = let e : 0 ≡ 0 - suc k = omega arith in ap (λ (j : ℕ). replicate j 0) e
 drop-zeros (suc k) (suc n) = let e : n - k ≡ suc n - suc k = omega arith in drop-zeros k n ∙ ap (λ (j : ℕ). replicate j 0) e
 
-module _ (d : Disk) (X : List ℕ) (n : ℕ) (e : n ≡ claimBytes d) (z : X ≡ replicate (length X) 0) where
-  pub part-zero : claimBytes d ≤ length X → take n X ≡ replicate (claimBytes d) 0
-  part-zero h = rw (e, z) (take-zeros (claimBytes d) (length X) h)
+module _ (d : Disk) (X : List ℕ) (n : ℕ) (e : n ≡ claimBytes d) (h : Fresh d X) where
+  abbrev z : X ≡ replicate (length X) 0
+  z = h .zero
 
-  pub part-long : claimBytes d ≤ length X → claimBytes d ≡ length (take n X)
-  part-long h = sym (ap length (part-zero h) ∙ length-replicate (claimBytes d) 0)
+  pub part-zero : take n X ≡ replicate (claimBytes d) 0
+  part-zero = rw (e, z) (take-zeros (claimBytes d) (length X) (h .room))
 
-  pub area-long : (cl′ : List ℕ) → claimBytes d ≤ length X → length cl′ ≡ length (take n X) → n ≤ length (cl′ ++ drop n X)
-  area-long cl′ h l = rw length-append (omega (arith, l, part-long h))
+  pub part-long : n ≡ length (take n X)
+  part-long = e ∙ sym (ap length part-zero ∙ length-replicate (claimBytes d) 0)
+
+  pub area-long : (cl′ : List ℕ) → length cl′ ≡ length (take n X) → n ≤ length (cl′ ++ drop n X)
+  area-long cl′ l = rw length-append (omega (arith, l, part-long))
 
   module _ (s : List ℕ) (r : Audited) (cl′ : List ℕ) (w : Within d s r cl′) where
     pub tagged-accepted : (p : Report) → r ≡ Accepted p → Tagged d s (length X) r (cl′ ++ drop n X)
@@ -140,19 +156,19 @@ module _ (d : Disk) (X : List ℕ) (n : ℕ) (e : n ≡ claimBytes d) (z : X ≡
         rest : drop n X ≡ replicate (length X - claimBytes d) 0
         rest = ap (drop n) z ∙ drop-zeros n (length X) ∙ ap (λ (j : ℕ). replicate (length X - j) 0) e
 
-    pub tagged-refused : (x : Refusal) (Y : List ℕ) → r ≡ Refused x → claimBytes d ≤ length X → length cl′ ≡ length (take n X) → Y ≡ replicate n 0 ++ drop n (cl′ ++ drop n X) → Tagged d s (length X) r Y
-    tagged-refused x Y q h l y = record { answer = w .answer; claim = rw q (y ∙ zeros) }
+    pub tagged-refused : (x : Refusal) (Y : List ℕ) → r ≡ Refused x → length cl′ ≡ length (take n X) → Y ≡ replicate n 0 ++ drop n (cl′ ++ drop n X) → Tagged d s (length X) r Y
+    tagged-refused x Y q l y = record { answer = w .answer; claim = rw q (y ∙ zeros) }
       where
         zeros : replicate n 0 ++ drop n (cl′ ++ drop n X) ≡ replicate (length X) 0
         zeros =
-            let f : length cl′ ≡ n = l ∙ sym (part-long h) ∙ sym e in
-            let g : n + (length X - n) ≡ length X = omega arith in
+            let f : length cl′ ≡ n = l ∙ sym part-long in
+            let g : n + (length X - n) ≡ length X = omega (arith, h .room) in
             ap (λ (a : List ℕ). replicate n 0 ++ a) (drop-at cl′ (drop n X) n f ∙ ap (drop n) z ∙ drop-zeros n (length X)) ∙ replicate-append-replicate n (length X - n) 0 ∙ ap (λ (j : ℕ). replicate j 0) g
 
 -- ---- the tests before the walk
 
 -- the answer's numbers are those of the answer
-audited : (d : Disk) (s : List ℕ) (n : ℕ) (r : Audited) (claim′ : List ℕ) → r ≡ auditOf d s n → claim′ ≡ leaves d s r n → Audits d s n r claim′
+audited : (d : Disk) (s : List ℕ) (n : ℕ) (r : Audited) (claim′ : List ℕ) → r ≡ auditOf d s n → claim′ ≡ claimAfter d s r n → Audits d s n r claim′
 audited d s n r claim′ e c = record { answer = e; numbers = ap numbersOf e; claim = c }
 
 module _ (d : Disk) (s X : List ℕ) (n b : ℕ) (r : Audited) (z : X ≡ replicate n 0) (e : b ≡ imageBytes d) where
@@ -174,5 +190,9 @@ module _ (d : Disk) (s X : List ℕ) (n b : ℕ) (r : Audited) (z : X ≡ replic
       unfolding auditOf pick
       audit-goes Y v w = audited d s n r Y (w .answer ∙ rw (eq-eqb (length s) (imageBytes d) (l ∙ e), le-ltb n (claimBytes d) (omega arith), sym u ∙ v) refl) (rw g at (w .claim))
 
-pub all-zero : (X : List ℕ) (n : ℕ) → X ≡ replicate n 0 → length X ≡ n → X ≡ replicate (length X) 0
-all-zero X n z l = rw l z
+pub on-floppy : (d : Disk) (s : List ℕ) (n : ℕ) (r : Audited) (X : List ℕ) → d ≡ floppy → Audits d s n r X → Audits floppy s n r X
+on-floppy d s n r X e h = rw e at h
+
+-- what the walk is lent: all of it was set to 0, and it is long enough
+pub is-fresh : (d : Disk) (X : List ℕ) (n a m : ℕ) → X ≡ replicate n 0 → length X ≡ n → a ≡ claimBytes d → m ≡ length X → a ≤ m → Fresh d X
+is-fresh d X n a m z l e f h = record { zero = rw l z; room = omega arith }

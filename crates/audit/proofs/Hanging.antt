@@ -1,5 +1,5 @@
 -- The walk through a directory: entries, chains and slots. Assumes nothing.
-use Prim.Native.Nat.{ℕ, zero, suc, _+_, _-_, _≤_, _<_}
+use Prim.Native.Nat.{ℕ, zero, suc, _+_, _-_, _*_, _≤_, _<_}
 use mathlib.Core.Path.{_≡_, refl, sym, _∙_}
 use mathlib.Core.Bool.{Bool, true, false}
 use mathlib.Core.List.{List, [], _∷_, _++_, append-nil}
@@ -16,7 +16,7 @@ use Rattle.reach.specs.Walk.{free}
 use Rattle.volume.specs.declared.disk.Disk.{Disk}
 use Rattle.volume.specs.Disks.{firstKey, mostBlocks, imageBytes}
 use Rattle.volume.specs.Blocks.{slots, Holds, wordOf, slotWord, directory}
-use Rattle.volume.specs.Names.{nameOf, same}
+use Rattle.volume.specs.Names.{nameOf, nameLength, longest, same}
 use Rattle.volume.specs.Law.{after, chainKey}
 use Rattle.volume.specs.Rules.{entryFault, fileFault}
 use Rattle.volume.proofs.Sizes.{range-is}
@@ -24,13 +24,16 @@ use Rattle.volume.proofs.Names.{name-short}
 use Rattle.volume.proofs.Passes.{entry-passed}
 use Rattle.walk.specs.declared.Counts.{Counts}
 use Rattle.walk.specs.Nodes.{Node, entry, chained, slotNodes, contents, leadsTo, noted, withEntry, twin, keyFault, hangsFault, faultOf}
-use Rattle.audit.specs.declared.claims.Walked.{Walked}
-use Rattle.audit.specs.declared.claims.Walked.the-variants.{Done, Stopped}
+use Rattle.audit.specs.declared.walked.Walked.{Walked}
+use Rattle.audit.specs.declared.walked.Walked.the-variants.{Done, Stopped}
 use Rattle.audit.specs.Walks.{Claims, Met, Walks, Ready, Known, Chain, EntryWalked}
 use Rattle.audit.proofs.Meeting.{met-tests}
 use Rattle.audit.proofs.Walking.{not-both, walks-none, walks-stopped, walks-then, walks-part, met-free, met-range, met-passed, met-stops, met-goes, ready-met, ready-walked}
 
 -- ---- names on a chain
+
+pub known-holds : (d : Disk) (s : List ℕ) (k : ℕ) → length s ≡ imageBytes d → Known d s k → Holds s k
+known-holds d s k l h = omega (arith, h .high)
 
 -- the key after an entry
 pub chain-next : (d : Disk) (s : List ℕ) (head i e : ℕ) → Known d s e → e ≡ chainKey s head i → wordOf s e 124 ≡ chainKey s head (i + 1)
@@ -59,30 +62,37 @@ module _ (d : Disk) (s : List ℕ) (k head : ℕ) where
   unfolding twin pick
   twin-step i e t = rw (add-one i, e) t
 
-  pub record TwinInv (place e i : ℕ) : Type 0 where
-    pub upto : i ≤ place
+  pub record TwinInv (position e i : ℕ) : Type 0 where
+    pub upto : i ≤ position
     pub here : e ≡ chainKey s head i
     pub none : twin d s k head i ≡ false
 
-  pub twin-start : (place : ℕ) → TwinInv place head 0
+  pub twin-start : (position : ℕ) → TwinInv position head 0
   unfolding twin chainKey
-  twin-start place = record { upto = omega arith; here = refl; none = refl }
+  twin-start position = record { upto = omega arith; here = refl; none = refl }
 
-  module _ (place e i : ℕ) (v : TwinInv place e i) (l : i < place) (earlier : (q : ℕ) → q < place → Known d s (chainKey s head q)) where
-    pub twin-known : Known d s e
+  module _ (position e i : ℕ) (v : TwinInv position e i) (l : i < position) (earlier : (q : ℕ) → q < position → Known d s (chainKey s head q)) where
+    twin-known : Known d s e
     twin-known = rw (v .here) (earlier i l)
 
-    pub twin-yes : (b : Bool) → b ≡ same d (nameOf s e) (nameOf s k) → b ≡ true → true ≡ twin d s k head place
-    twin-yes b q t = twin-found i place (rw (v .here) at (sym q ∙ t)) l
+    pub twin-holds : length s ≡ imageBytes d → Holds s e
+    twin-holds h = known-holds d s e h twin-known
 
-    pub twin-again : (b : Bool) (e′ : ℕ) → b ≡ same d (nameOf s e) (nameOf s k) → b ≡ false → e′ ≡ wordOf s e 124 → TwinInv place e′ (i + 1)
+    pub twin-short : nameLength s e ≤ longest
+    twin-short = twin-known .short
+
+    pub twin-yes : (b : Bool) → b ≡ same d (nameOf s e) (nameOf s k) → b ≡ true → true ≡ twin d s k head position
+    twin-yes b q t = twin-found i position (rw (v .here) at (sym q ∙ t)) l
+
+    pub twin-again : (b : Bool) (e′ : ℕ) → b ≡ same d (nameOf s e) (nameOf s k) → b ≡ false → e′ ≡ wordOf s e 124 → TwinInv position e′ (i + 1)
     twin-again b e′ q t f = record { upto = omega arith; here = f ∙ chain-next d s head i e twin-known (v .here); none = twin-step i (rw (v .here) at (sym q ∙ t)) (v .none) }
 
-  pub twin-no : (place e i : ℕ) → TwinInv place e i → place ≤ i → false ≡ twin d s k head place
-  twin-no place e i v l = let w : place ≡ i = omega (arith, v .upto) in rw w (sym (v .none))
+  pub twin-no : (position e i : ℕ) → TwinInv position e i → position ≤ i → false ≡ twin d s k head position
+  twin-no position e i v l = let w : position ≡ i = omega (arith, v .upto) in rw w (sym (v .none))
 
-pub known-holds : (d : Disk) (s : List ℕ) (k : ℕ) → length s ≡ imageBytes d → Known d s k → Holds s k
-known-holds d s k l h = omega (arith, h .high)
+-- the entries before a position, by the chain's head
+pub earlier-known : (d : Disk) (s : List ℕ) (t i p head : ℕ) → Chain d s t i p → head ≡ slotWord s t i → (q : ℕ) → q < p → Known d s (chainKey s head q)
+earlier-known d s t i p head h e q l = rw e (h .earlier q l)
 
 -- ---- the tests of an entry
 
@@ -117,8 +127,15 @@ pub met-entry : (d : Disk) (s cl cl′ : List ℕ) (r f k t i p : ℕ) → Claim
 unfolding faultOf
 met-entry d s cl cl′ r f k t i p h z e = met-tests d s (entry k t i p) cl cl′ r f h z e
 
-pub claims-low : (d : Disk) (cl cl′ : List ℕ) (k r : ℕ) → Claims d cl k r cl′ → r ≡ 0 → (firstKey ≤ k) × (k < d .blocks)
-claims-low d cl cl′ k r h z = range-is d k (must-passed _ 4 (first-zero (keyFault d k) _ (sym (h .told) ∙ z) .0))
+module _ (d : Disk) (cl cl′ : List ℕ) (k r : ℕ) (h : Claims d cl k r cl′) (z : r ≡ 0) where
+  claims-range : (firstKey ≤ k) × (k < d .blocks)
+  claims-range = range-is d k (must-passed _ 4 (first-zero (keyFault d k) _ (sym (h .told) ∙ z) .0))
+
+  pub claims-low : firstKey ≤ k
+  claims-low = claims-range .0
+
+  pub claims-high : k < d .blocks
+  claims-high = claims-range .1
 
 -- ---- an entry
 
@@ -138,6 +155,9 @@ module _ (d : Disk) (s : List ℕ) (k t i p : ℕ) (cl cl₁ : List ℕ) (f : �
         let r = met-range d s (entry k t i p) cl cl₁ f m z in
         entry-known d s k t i p (entryFault d s k t i) refl (first-zero (entryFault d s k t i) _ tested .0) (r .0) (r .1)
 
+    pub met-high : k < d .blocks
+    met-high = met-known .high
+
     -- a file's own tests are passed
     pub met-file : (b : Bool) → b ≡ directory s k → b ≡ false → fileFault d s k ≡ 0
     unfolding hangsFault pick
@@ -145,22 +165,40 @@ module _ (d : Disk) (s : List ℕ) (k t i p : ℕ) (cl cl₁ : List ℕ) (f : �
         let r = first-zero (never (twin d s k (slotWord s t i) p) 13) _ (first-zero (entryFault d s k t i) _ tested .1) .1 in
         rw (sym g ∙ h) at r
 
-    pub entry-claims : free cl ≡ suc (free cl₁)
+    entry-claims : free cl ≡ suc (free cl₁)
     entry-claims = met-free d s (entry k t i p) cl cl₁ f m z
 
-    module _ (n c : Counts) (b : Bool) (g : b ≡ directory s k) (q : c ≡ withEntry b n) where
+    -- the measure of the walk of what is in it lies below its own
+    pub entry-falls : (a : ℕ) → 2 * free cl ≡ a → 2 * free cl₁ + 1 < a
+    entry-falls a e = omega (arith, entry-claims)
+
+    pub met-holds : (n : Counts) → Ready d s cl n → Holds s k
+    met-holds n r = known-holds d s k (r .image) met-known
+
+    module _ (n c : Counts) (x b : Bool) (g : x ≡ directory s k) (y : x ≡ b) (q : c ≡ withEntry b n) where
+      abbrev kind : b ≡ directory s k
+      kind = sym y ∙ g
+
       pub entry-ready : Ready d s cl n → length cl₁ ≡ length cl → Ready d s cl₁ c
       unfolding noted
-      entry-ready r l = ready-met d s (entry k t i p) n cl cl₁ f r m z l c (q ∙ rw g refl)
+      entry-ready r l = ready-met d s (entry k t i p) n cl cl₁ f r m z l c (q ∙ rw kind refl)
 
       pub entry-goes : (r : Walked) (cl₂ : List ℕ) → Walks d s (contents d s k b) [] c cl₁ r cl₂ → EntryWalked d s k t i p n cl r cl₂
       unfolding noted leadsTo
       entry-goes r cl₂ w =
           record {
-            walks = rw (add-one p) (met-goes d s (entry k t i p) cl cl₁ f m _ n cl₂ r z (rw (← g, ← q) (walks-part d s _ [] (chained (wordOf s k 124) t i (suc p)) c cl₁ cl₂ r w)));
+            walks = rw (add-one p) (met-goes d s (entry k t i p) cl cl₁ f m _ n cl₂ r z (rw (← kind, ← q) (walks-part d s _ [] (chained (wordOf s k 124) t i (suc p)) c cl₁ cl₂ r w)));
             known = λ x e. met-known;
             less = λ x e. omega (arith, w .less x e, entry-claims);
           }
+
+-- what the code asks of it once it is walked
+module _ (d : Disk) (s : List ℕ) (k t i p : ℕ) (n : Counts) (cl : List ℕ) (r : Walked) (cl′ : List ℕ) (u : EntryWalked d s k t i p n cl r cl′) (c : Counts) (e : r ≡ Done c) where
+  pub entry-holds : Ready d s cl n → Holds s k
+  entry-holds y = known-holds d s k (y .image) (u .known c e)
+
+  pub entry-less : free cl′ < free cl
+  entry-less = u .less c e
 
 -- ---- a chain
 
@@ -191,7 +229,7 @@ module _ (d : Disk) (s : List ℕ) (t i : ℕ) where
       }
 
   module _ (n₀ : Counts) (cl₀ cl : List ℕ) (n : Counts) (k p : ℕ) (v : ChainInv n₀ cl₀ cl n k p) where
-    -- the place on a chain stays small: each entry before it has claimed a block
+    -- the position on a chain stays small: each entry before it has claimed a block
     pub chain-few : p ≤ mostBlocks
     chain-few = omega (arith, v .few, v .most)
 

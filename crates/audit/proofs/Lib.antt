@@ -4,7 +4,7 @@ pub mod Meeting
 -- stretches of the walk
 pub mod Walking
 -- the walk through a file
-pub mod Listings
+pub mod KeyBlocks
 -- the walk through a directory
 pub mod Hanging
 -- the bitmap against the claims

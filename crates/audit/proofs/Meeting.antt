@@ -1,5 +1,5 @@
 -- Claims, and blocks that are met: what each return of the code says of the walk. Assumes nothing.
-use Prim.Native.Nat.{ℕ, zero, suc, _-_, _<_}
+use Prim.Native.Nat.{ℕ, zero, suc, _<_}
 use mathlib.Core.Path.{_≡_, refl, sym, _∙_}
 use mathlib.Core.Bool.{Bool, true, false}
 use mathlib.Core.List.{List}
@@ -12,11 +12,10 @@ use Rattle.reach.proofs.Claims.{byte-any}
 use Rattle.reach.proofs.Runs.{claimed-taken}
 use Rattle.volume.specs.declared.disk.Disk.{Disk}
 use Rattle.volume.specs.Disks.{inRange, imageBytes, claimBytes, rootOf}
-use Rattle.volume.specs.Blocks.{Holds, wordOf}
-use Rattle.volume.specs.Files.{sizeOf, dataBlocks}
-use Rattle.volume.specs.Rules.{rootFault, mapFault, bitmapFault, listFault, dataFault}
+use Rattle.volume.specs.Blocks.{Holds}
+use Rattle.volume.specs.Rules.{rootFault, mapFault, bitmapFault}
 use Rattle.volume.proofs.Sizes.{range-is}
-use Rattle.walk.specs.Nodes.{Node, root, bitmap, list, datum, keyOf, keyFault, faultOf}
+use Rattle.walk.specs.Nodes.{Node, root, bitmap, keyOf, keyFault, faultOf}
 use Rattle.audit.specs.Walks.{Claims, Met}
 
 -- ---- two tests, one after the other
@@ -88,14 +87,6 @@ module _ (d : Disk) (s cl cl′ : List ℕ) (r f : ℕ) where
 
   pub met-root-claim : (k : ℕ) → k ≡ rootOf d → Claims d cl k r cl′ → (r ≡ 0 → ⊥) → Met d s root cl r cl′
   met-root-claim k e h t = met-claim d s root cl cl′ r (rw e at h) t
-
-  pub met-datum : (k h n c z w : ℕ) → Claims d cl k r cl′ → r ≡ 0 → z ≡ sizeOf s h → w ≡ wordOf s c 4 → f ≡ dataFault d s k h z n w → Met d s (datum k h n c) cl f cl′
-  unfolding faultOf
-  met-datum k h n c z w p q e e′ g = met-tests d s (datum k h n c) cl cl′ r f p q (rw (← e, ← e′) g)
-
-  pub met-list : (k h m c z n : ℕ) → Claims d cl k r cl′ → r ≡ 0 → z ≡ sizeOf s h → n ≡ dataBlocks d z → f ≡ listFault s k h (n - m) → Met d s (list k h m c) cl f cl′
-  unfolding faultOf
-  met-list k h m c z n p q e e′ g = met-tests d s (list k h m c) cl cl′ r f p q (rw (← e, ← e′) g)
 
 -- the root lies in the image where its claim passes
 pub root-holds : (d : Disk) (s cl cl′ : List ℕ) (k r : ℕ) → k ≡ rootOf d → Claims d cl k r cl′ → r ≡ 0 → length s ≡ imageBytes d → Holds s (rootOf d)

@@ -19,8 +19,8 @@ use Rattle.answers.proofs.Tests.{must-passed}
 use Rattle.answers.proofs.Clashes.{impossible}
 use Rattle.walk.specs.declared.Counts.{Counts}
 use Rattle.walk.specs.Nodes.{Node, root, bitmap, entry, list, datum, keyOf, leadsTo, noted, withEntry, graph, faultOf}
-use Rattle.audit.specs.declared.claims.Walked.{Walked}
-use Rattle.audit.specs.declared.claims.Walked.the-variants.{Done, Stopped}
+use Rattle.audit.specs.declared.walked.Walked.{Walked}
+use Rattle.audit.specs.declared.walked.Walked.the-variants.{Done, Stopped}
 use Rattle.audit.specs.Walks.{Met, total, goesOn, Walks, Ready}
 
 -- ---- answers

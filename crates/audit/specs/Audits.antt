@@ -1,6 +1,6 @@
 -- What an audit answers, and what it leaves in the claim area (docs/FORMAT.md, "Order of the walk" and "Numbers"): the image's length, the
 -- claim area, the boot tag, then the walk from the root, and the bitmap last.
-use Prim.Native.Nat.{ℕ, _+_, _-_}
+use Prim.Native.Nat.{ℕ, _+_, _-_, _≤_}
 use mathlib.Core.Path.{_≡_}
 use mathlib.Core.List.{List, [], _∷_, _++_}
 use lib.Dec.{eqb, ltb}
@@ -8,6 +8,7 @@ use lib.ListN.{length, replicate}
 use Rattle.answers.specs.Numbers as fault
 use Rattle.answers.specs.Tests.{pick}
 use Rattle.answers.specs.Refusals.{refusal}
+use Rattle.answers.specs.Answers.{AnswerNumbers, acceptedAs, refusedAs}
 use Rattle.words.specs.Word.{wordAt}
 use Rattle.reach.specs.Walk.{Outcome, done, refused}
 use Rattle.volume.specs.declared.disk.Disk.{Disk}
@@ -22,18 +23,13 @@ use Rattle.audit.specs.declared.audit.Audited.{Audited}
 use Rattle.audit.specs.declared.audit.Audited.the-variants.{Accepted, Refused}
 use Rattle.audit.specs.Bits.{bitsOf}
 
--- an answer's numbers: 0, 0 and the report where it accepts; the refusal's, and 0 for all of the report
-pub record Numbers : Type 0 where
-  pub number : ℕ
-  pub place : ℕ
-  pub report : Report
-
 abbrev pub nothingToReport : Report
 nothingToReport = record { directories = 0; files = 0; lists = 0; blocks = 0; used = 0; free = 0 }
 
-abbrev pub numbersOf : Audited → Numbers
-numbersOf (Accepted r) = record { number = 0; place = 0; report = r }
-numbersOf (Refused r) = record { number = r .number; place = r .place; report = nothingToReport }
+-- an answer's numbers; its values are the report
+abbrev pub numbersOf : Audited → AnswerNumbers Report
+numbersOf (Accepted r) = acceptedAs r
+numbersOf (Refused r) = refusedAs nothingToReport r
 
 -- the numbers of the walk's refusals
 abbrev pub walkRefusals : List ℕ
@@ -77,9 +73,9 @@ claimsOf (done claims c) = claims
 claimsOf (refused v k) = []
 
 -- accepted: the claims of the walk, and 0 after them; refused: all 0
-abbrev pub leaves : Disk → List ℕ → Audited → ℕ → List ℕ
-leaves d s (Accepted r) n = claimsOf (walkOf d s) ++ replicate (n - claimBytes d) 0
-leaves d s (Refused r) n = replicate n 0
+abbrev pub claimAfter : Disk → List ℕ → Audited → ℕ → List ℕ
+claimAfter d s (Accepted r) n = claimsOf (walkOf d s) ++ replicate (n - claimBytes d) 0
+claimAfter d s (Refused r) n = replicate n 0
 
 -- ---- the promises
 
@@ -88,13 +84,18 @@ pub record Within (d : Disk) (s : List ℕ) (r : Audited) (claim′ : List ℕ) 
   pub answer : r ≡ walked d s (walkOf d s)
   pub claims : (p : Report) → r ≡ Accepted p → claim′ ≡ claimsOf (walkOf d s)
 
+-- a claim area that is all 0, and has room for a byte for each block
+pub record Fresh (d : Disk) (claim : List ℕ) : Type 0 where
+  pub zero : claim ≡ replicate (length claim) 0
+  pub room : claimBytes d ≤ length claim
+
 -- of these in a claim area of n bytes
 pub record Tagged (d : Disk) (s : List ℕ) (n : ℕ) (r : Audited) (claim′ : List ℕ) : Type 0 where
   pub answer : r ≡ walked d s (walkOf d s)
-  pub claim : claim′ ≡ leaves d s r n
+  pub claim : claim′ ≡ claimAfter d s r n
 
 -- of an audit, whose answer is said also by its numbers
 pub record Audits (d : Disk) (s : List ℕ) (n : ℕ) (r : Audited) (claim′ : List ℕ) : Type 0 where
   pub answer : r ≡ auditOf d s n
   pub numbers : numbersOf r ≡ numbersOf (auditOf d s n)
-  pub claim : claim′ ≡ leaves d s r n
+  pub claim : claim′ ≡ claimAfter d s r n

@@ -7,15 +7,15 @@ use Rattle.answers.specs.Tests.{first}
 use Rattle.reach.specs.Walk.{Outcome, refused, claimed, free, verdict, run}
 use Rattle.volume.specs.declared.disk.Disk.{Disk}
 use Rattle.volume.specs.Disks.{Sized, firstKey, imageBytes, claimBytes}
-use Rattle.volume.specs.Blocks.{slots, wordOf, slotWord, keyWord}
+use Rattle.volume.specs.Blocks.{slots, wordOf, slotWord}
 use Rattle.volume.specs.Names.{nameLength, longest}
 use Rattle.walk.specs.declared.Counts.{Counts}
 use Rattle.volume.specs.Law.{chainKey}
-use Rattle.walk.specs.Nodes.{Node, entry, list, keyOf, keyFault, keyNodes, chained, graph}
-use Rattle.walk.specs.declared.Lister.{Lister}
-use Rattle.walk.specs.Listings.{keysIn, nextList, Listed}
-use Rattle.audit.specs.declared.claims.Walked.{Walked}
-use Rattle.audit.specs.declared.claims.Walked.the-variants.{Done, Stopped}
+use Rattle.walk.specs.Nodes.{Node, entry, keyOf, keyFault, keyBlockNodes, chained, graph}
+use Rattle.walk.specs.declared.file.KeyBlock.{KeyBlock}
+use Rattle.walk.specs.KeyBlocks.{nextOf, listNode, linkTo, InImage, NextReady}
+use Rattle.audit.specs.declared.walked.Walked.{Walked}
+use Rattle.audit.specs.declared.walked.Walked.the-variants.{Done, Stopped}
 
 -- a key is claimed, or refused
 pub record Claims (d : Disk) (cl : List ℕ) (k r : ℕ) (cl′ : List ℕ) : Type 0 where
@@ -51,15 +51,16 @@ pub record Ready (d : Disk) (s cl : List ℕ) (n : Counts) : Type 0 where
 
 -- ---- files
 
--- its data blocks are walked
-pub record KeysWalked (d : Disk) (s : List ℕ) (b : Lister) (n : Counts) (cl : List ℕ) (r : Walked) (cl′ : List ℕ) : Type 0 where
-  pub walks : Walks d s (keyNodes s (b .header) (b .key) (b .done) (b .last) 0 (keysIn d s b)) [] n cl r cl′
-  pub keys : (c : Counts) → r ≡ Done c → (i : ℕ) → i < keysIn d s b → keyWord s (b .key) i < d .blocks
+-- the data blocks of a block that lists keys are walked, up to the link to the next
+pub record KeysWalked (d : Disk) (s : List ℕ) (b : KeyBlock) (n : Counts) (cl : List ℕ) (r : Walked) (cl′ : List ℕ) : Type 0 where
+  pub walks : Walks d s (keyBlockNodes d s (b .header) (b .key) (b .done) (b .last)) (linkTo (nextOf s b)) n cl r cl′
+  pub next : (c : Counts) → r ≡ Done c → NextReady d s (nextOf s b)
 
--- a list block is walked, up to the link to the next
-pub record ListWalked (d : Disk) (s : List ℕ) (b : Lister) (n : Counts) (cl : List ℕ) (r : Walked) (cl′ : List ℕ) : Type 0 where
-  pub walks : Walks d s (list (b .key) (b .header) (b .done) (b .last) ∷ []) (nextList s (b .header) (b .key) (b .done)) n cl r cl′
-  pub known : (c : Counts) → r ≡ Done c → Listed d s (b .header) (b .key) (b .done)
+-- a list block is walked, and so are its data blocks
+pub record ListWalked (d : Disk) (s : List ℕ) (b : KeyBlock) (n : Counts) (cl : List ℕ) (r : Walked) (cl′ : List ℕ) : Type 0 where
+  pub walks : Walks d s (listNode b ∷ []) (linkTo (nextOf s b)) n cl r cl′
+  pub image : (c : Counts) → r ≡ Done c → InImage s b
+  pub next : (c : Counts) → r ≡ Done c → NextReady d s (nextOf s b)
   pub less : (c : Counts) → r ≡ Done c → free cl′ < free cl
 
 -- ---- directories

@@ -1,11 +1,8 @@
 // The audit of a disk's image.
 use crate::bitmap::Mapped;
 use crate::bitmap::check_bits;
-use crate::claims::Walked;
-use crate::claims::meet_bitmap;
-use crate::claims::meet_root;
-use crate::claims::stopped;
-use crate::directories::walk_directory;
+use crate::top::walk_volume;
+use crate::walked::Walked;
 use answers::Fault;
 use answers::Refusal;
 use volume::block::Block;
@@ -15,13 +12,11 @@ use walk::Counts;
 use words::clear;
 use words::wipe;
 ghost use mathlib.Core.Path.{_≡_};
-ghost use mathlib.Core.List.{[], _∷_};
 ghost use Prim.Native.Nat.{_+_, _≤_};
 ghost use lib.ListN.{length, replicate};
 ghost use Rattle.volume.specs.Disks.{Sized, mostBlocks, floppy, imageBytes, claimBytes};
-ghost use Rattle.walk.specs.Nodes.{root, nothing};
-ghost use Rattle.audit.specs.Walks.{total, Walks};
-ghost use Rattle.audit.specs.Audits.{refuse, reportOf, Within, Tagged, Audits};
+ghost use Rattle.audit.specs.Walks.{total};
+ghost use Rattle.audit.specs.Audits.{refuse, reportOf, Fresh, Within, Tagged, Audits};
 
 // How much there is of what: directories without the root, files, list blocks, data blocks; then all blocks in use, and those that are free.
 pub struct Report {
@@ -61,29 +56,6 @@ fn reported(c: Counts, free: u32) -> Report
     }
 }
 
-// The walk from the root, with nothing claimed yet.
-fn walk_volume(disk: Disk, image: &[u8], claim: &mut [u8]) -> Walked
-    requires { ⌜ (Sized disk) × (length (now image) ≡ imageBytes disk) × (now claim ≡ replicate (claimBytes disk) 0) ⌝ }
-    ensures { λ r. ⌜ Walks disk (now (image .entry)) (root ∷ []) [] nothing (now (claim .entry)) r (now (claim .exit)) ⌝ }
-{
-    let f = meet_root(disk, image, claim);
-    if f != 0 {
-        return stopped(f, disk.root());
-    }
-    let page = word_of(image, disk.root(), Block::MAP_KEY);
-    let g = meet_bitmap(disk, image, claim, page);
-    if g != 0 {
-        return stopped(g, page);
-    }
-    let none = Counts {
-        directories: 0,
-        files: 0,
-        lists: 0,
-        blocks: 0,
-    };
-    walk_directory(disk, image, claim, disk.root(), none)
-}
-
 // The walk and the bitmap; the claim area has a byte for each block, all 0.
 fn audit_within(disk: Disk, image: &[u8], claim: &mut [u8]) -> Audited
     requires { ⌜ (Sized disk) × (length (now image) ≡ imageBytes disk) × (now claim ≡ replicate (claimBytes disk) 0) ⌝ }
@@ -93,8 +65,8 @@ fn audit_within(disk: Disk, image: &[u8], claim: &mut [u8]) -> Audited
     match w {
         Walked::Stopped(r) => Audited::Refused(r),
         Walked::Done(c) => {
-            let page = word_of(image, disk.root(), Block::MAP_KEY);
-            let m = check_bits(disk, image, page, claim);
+            let bitmap = word_of(image, disk.root(), Block::MAP_KEY);
+            let m = check_bits(disk, image, bitmap, claim);
             match m {
                 Mapped::Right(free) => Audited::Accepted(reported(c, free)),
                 Mapped::Wrong(key) => refused(Fault::WRONG_BIT, key),
@@ -105,7 +77,7 @@ fn audit_within(disk: Disk, image: &[u8], claim: &mut [u8]) -> Audited
 
 // The same in a longer area, which is all 0 and comes back so where it refuses.
 fn audit_tagged(disk: Disk, image: &[u8], area: &mut [u8]) -> Audited
-    requires { ⌜ (Sized disk) × (length (now image) ≡ imageBytes disk) × (now area ≡ replicate (length (now area)) 0) × (claimBytes disk ≤ length (now area)) ⌝ }
+    requires { ⌜ (Sized disk) × (length (now image) ≡ imageBytes disk) × (Fresh disk (now area)) ⌝ }
     ensures { λ r. ⌜ Tagged disk (now (image .entry)) (length (now (area .entry))) r (now (area .exit)) ⌝ }
 {
     let n = disk.claim_bytes();

@@ -34,15 +34,15 @@ fn counted(n: u32, free: bool) -> u32
     n
 }
 
-// Every bit of the bitmap block `page`, upward.
-pub(crate) fn check_bits(disk: Disk, image: &[u8], page: u32, claim: &[u8]) -> Mapped
-    requires { ⌜ (Sized disk) × (length (now image) ≡ imageBytes disk) × (length (now claim) ≡ claimBytes disk) × (page < disk .blocks) ⌝ }
-    ensures { λ r. ⌜ r ≡ bitsOf disk (now (image .entry)) page (now (claim .entry)) ⌝ }
+// Every bit of the bitmap block `bitmap`, upward.
+pub(crate) fn check_bits(disk: Disk, image: &[u8], bitmap: u32, claim: &[u8]) -> Mapped
+    requires { ⌜ (Sized disk) × (length (now image) ≡ imageBytes disk) × (length (now claim) ≡ claimBytes disk) × (bitmap < disk .blocks) ⌝ }
+    ensures { λ r. ⌜ r ≡ bitsOf disk (now (image .entry)) bitmap (now (claim .entry)) ⌝ }
 {
     let mut free: u32 = 0;
     let mut key = Disk::FIRST_KEY;
     while key < disk.blocks {
-        let bit = is_free(image, page, key);
+        let bit = is_free(image, bitmap, key);
         if bit_wrong(bit, claim[key as usize]) {
             return Mapped::Wrong(key);
         }

@@ -1,8 +1,8 @@
 // The walk through a directory, slot by slot and along each chain; what is in an entry is walked before its link is followed.
-use crate::claims::Walked;
 use crate::claims::claim_key;
-use crate::claims::stopped;
 use crate::files::walk_file;
+use crate::walked::Walked;
+use crate::walked::stopped;
 use answers::Fault;
 use volume::block::Block;
 use volume::block::word_of;
@@ -33,14 +33,14 @@ fn next_entry(image: &[u8], key: u32) -> u32
     word_of(image, key, Block::NEXT)
 }
 
-// Whether one of the first `place` entries of the chain from `head` has the name of an entry.
-fn is_twin(disk: Disk, image: &[u8], key: u32, head: u32, place: u32) -> bool
-    requires { ⌜ (length (now image) ≡ imageBytes disk) × (Known disk (now image) key) × ((q : ℕ) → q < place → Known disk (now image) (chainKey (now image) head q)) ⌝ }
-    ensures { λ r. ⌜ r ≡ twin disk (now (image .entry)) key head place ⌝ }
+// Whether one of the first `position` entries of the chain from `head` has the name of an entry.
+fn is_twin(disk: Disk, image: &[u8], key: u32, head: u32, position: u32) -> bool
+    requires { ⌜ (length (now image) ≡ imageBytes disk) × (Known disk (now image) key) × ((q : ℕ) → q < position → Known disk (now image) (chainKey (now image) head q)) ⌝ }
+    ensures { λ r. ⌜ r ≡ twin disk (now (image .entry)) key head position ⌝ }
 {
     let mut e = head;
     let mut i: u32 = 0;
-    while i < place {
+    while i < position {
         if same_names(disk, image, e, key) {
             return true;
         }
@@ -50,17 +50,17 @@ fn is_twin(disk: Disk, image: &[u8], key: u32, head: u32, place: u32) -> bool
     false
 }
 
-// The tests of an entry at a place of a chain.
-fn hangs_fault(disk: Disk, image: &[u8], key: u32, directory: u32, slot: u32, place: u32) -> u32
-    requires { ⌜ (Sized disk) × (length (now image) ≡ imageBytes disk) × (firstKey ≤ key) × (key < disk .blocks) × (Chain disk (now image) directory slot place) ⌝ }
-    ensures { λ r. ⌜ r ≡ hangsFault disk (now (image .entry)) key directory slot place ⌝ }
+// The tests of an entry at a position of a chain.
+fn hangs_fault(disk: Disk, image: &[u8], key: u32, directory: u32, slot: u32, position: u32) -> u32
+    requires { ⌜ (Sized disk) × (length (now image) ≡ imageBytes disk) × (firstKey ≤ key) × (key < disk .blocks) × (Chain disk (now image) directory slot position) ⌝ }
+    ensures { λ r. ⌜ r ≡ hangsFault disk (now (image .entry)) key directory slot position ⌝ }
 {
     let f = entry_fault(disk, image, key, directory, slot);
     if f != 0 {
         return f;
     }
     let head = word_of(image, directory, Block::FIRST_SLOT + slot as usize);
-    if is_twin(disk, image, key, head, place) {
+    if is_twin(disk, image, key, head, position) {
         return Fault::DOUBLE_NAME;
     }
     if is_directory(image, key) {
@@ -77,17 +77,17 @@ fn meet_entry(
     key: u32,
     directory: u32,
     slot: u32,
-    place: u32,
+    position: u32,
     c: Counts,
 ) -> u32
-    requires { ⌜ (Ready disk (now image) (now claim) c) × (Chain disk (now image) directory slot place) ⌝ }
-    ensures { λ r. ⌜ Met disk (now (image .entry)) (entry key directory slot place) (now (claim .entry)) r (now (claim .exit)) ⌝ }
+    requires { ⌜ (Ready disk (now image) (now claim) c) × (Chain disk (now image) directory slot position) ⌝ }
+    ensures { λ r. ⌜ Met disk (now (image .entry)) (entry key directory slot position) (now (claim .entry)) r (now (claim .exit)) ⌝ }
 {
     let f = claim_key(disk, claim, key);
     if f != 0 {
         return f;
     }
-    hangs_fault(disk, image, key, directory, slot, place)
+    hangs_fault(disk, image, key, directory, slot, position)
 }
 
 // One directory more.
@@ -116,7 +116,7 @@ fn with_file(c: Counts) -> Counts
     }
 }
 
-// An entry at a place of the chain of a slot: its tests, then what is in it.
+// An entry at a position of the chain of a slot: its tests, then what is in it.
 fn walk_entry(
     disk: Disk,
     image: &[u8],
@@ -124,13 +124,13 @@ fn walk_entry(
     key: u32,
     directory: u32,
     slot: u32,
-    place: u32,
+    position: u32,
     n: Counts,
 ) -> Walked
-    requires { ⌜ (Ready disk (now image) (now claim) n) × (Chain disk (now image) directory slot place) ⌝ }
-    ensures { λ r. ⌜ EntryWalked disk (now (image .entry)) key directory slot place n (now (claim .entry)) r (now (claim .exit)) ⌝ }
+    requires { ⌜ (Ready disk (now image) (now claim) n) × (Chain disk (now image) directory slot position) ⌝ }
+    ensures { λ r. ⌜ EntryWalked disk (now (image .entry)) key directory slot position n (now (claim .entry)) r (now (claim .exit)) ⌝ }
 {
-    let f = meet_entry(disk, image, claim, key, directory, slot, place, n);
+    let f = meet_entry(disk, image, claim, key, directory, slot, position, n);
     if f != 0 {
         return stopped(f, key);
     }
@@ -155,15 +155,15 @@ pub(crate) fn walk_directory(
     let mut slot: u32 = 0;
     'slots: while slot < SLOTS {
         let mut entry = word_of(image, key, Block::FIRST_SLOT + slot as usize);
-        let mut place: u32 = 0;
+        let mut position: u32 = 0;
         'chain: while entry != 0 {
-            let w = walk_entry(disk, image, claim, entry, key, slot, place, m);
+            let w = walk_entry(disk, image, claim, entry, key, slot, position, m);
             let Walked::Done(c) = w else {
                 return w;
             };
             m = c;
             entry = next_entry(image, entry);
-            place += 1;
+            position += 1;
         }
         slot += 1;
     }

@@ -1,47 +1,44 @@
 // The walk through a file: the data blocks of its header, then each list block with its own.
-use crate::claims::Walked;
 use crate::claims::claim_key;
-use crate::claims::stopped;
-use volume::block::Block;
-use volume::block::word_of;
+use crate::walked::Walked;
+use crate::walked::stopped;
 use volume::disk::Disk;
-use volume::file::data_fault;
 use volume::file::key_of;
-use volume::file::keys_here;
-use volume::file::list_fault;
 use walk::Counts;
-use walk::Lister;
+use walk::file::KeyBlock;
+use walk::file::data_tests;
+use walk::file::header_block;
+use walk::file::key_count;
+use walk::file::list_tests;
+use walk::file::next_list;
 ghost use mathlib.Core.Path.{_≡_};
 ghost use mathlib.Core.List.{[]};
 ghost use Prim.Native.Nat.{_+_, _≤_, _<_};
-ghost use Rattle.volume.specs.Disks.{fileLimit};
-ghost use Rattle.volume.specs.Files.{sizeOf, blocksOf};
+ghost use Rattle.volume.specs.Files.{blocksOf};
 ghost use Rattle.volume.specs.Rules.{fileFault};
-ghost use Rattle.walk.specs.Nodes.{list, datum, listed, withBlock, withList};
-ghost use Rattle.walk.specs.Listings.{Listing};
+ghost use Rattle.walk.specs.Nodes.{datum, keyBlockNodes, withBlock, withList};
+ghost use Rattle.walk.specs.KeyBlocks.{listNode, InFile, KeysReady};
 ghost use Rattle.audit.specs.Walks.{Met, Ready, Walks, KeysWalked, ListWalked};
 
-// Data block n of a file, after the block `last`: its claim and its tests.
+// Data block n of b's file, after the block `last`: its claim and its tests.
 fn meet_data(
     disk: Disk,
     image: &[u8],
     claim: &mut [u8],
+    b: KeyBlock,
     key: u32,
-    header: u32,
     n: u32,
     last: u32,
     c: Counts,
 ) -> u32
-    requires { ⌜ (Ready disk (now image) (now claim) c) × (header < disk .blocks) × (last < disk .blocks) × (sizeOf (now image) header ≤ fileLimit disk) × (1 ≤ n) × (n ≤ blocksOf disk (now image) header) ⌝ }
-    ensures { λ r. ⌜ Met disk (now (image .entry)) (datum key header n last) (now (claim .entry)) r (now (claim .exit)) ⌝ }
+    requires { ⌜ (Ready disk (now image) (now claim) c) × (InFile disk (now image) b) × (last < disk .blocks) × (1 ≤ n) × (n ≤ blocksOf disk (now image) (b .header)) ⌝ }
+    ensures { λ r. ⌜ Met disk (now (image .entry)) (datum key (b .header) n last) (now (claim .entry)) r (now (claim .exit)) ⌝ }
 {
     let f = claim_key(disk, claim, key);
     if f != 0 {
         return f;
     }
-    let size = word_of(image, header, Block::SIZE);
-    let named = word_of(image, last, Block::FOLLOWING);
-    data_fault(disk, image, key, header, size, n, named)
+    data_tests(disk, image, b, key, n, last)
 }
 
 // One data block more.
@@ -58,18 +55,17 @@ fn with_block(c: Counts) -> Counts
 }
 
 // The data blocks that one block lists.
-fn walk_keys(disk: Disk, image: &[u8], claim: &mut [u8], b: Lister, n: Counts) -> Walked
-    requires { ⌜ (Ready disk (now image) (now claim) n) × (Listing disk (now image) b) ⌝ }
+fn walk_keys(disk: Disk, image: &[u8], claim: &mut [u8], b: KeyBlock, n: Counts) -> Walked
+    requires { ⌜ (Ready disk (now image) (now claim) n) × (KeysReady disk (now image) b) ⌝ }
     ensures { λ r. ⌜ KeysWalked disk (now (image .entry)) b n (now (claim .entry)) r (now (claim .exit)) ⌝ }
 {
-    let size = word_of(image, b.header, Block::SIZE);
-    let count = keys_here(disk.data_blocks(size) - b.done);
+    let count = key_count(disk, b);
     let mut c = n;
     let mut last = b.last;
     let mut i: u32 = 0;
     while i < count {
         let key = key_of(image, b.key, i as usize);
-        let f = meet_data(disk, image, claim, key, b.header, b.done + i + 1, last, c);
+        let f = meet_data(disk, image, claim, b, key, b.done + i + 1, last, c);
         if f != 0 {
             return stopped(f, key);
         }
@@ -81,16 +77,15 @@ fn walk_keys(disk: Disk, image: &[u8], claim: &mut [u8], b: Lister, n: Counts) -
 }
 
 // A list block: its claim and its tests.
-fn meet_list(disk: Disk, image: &[u8], claim: &mut [u8], b: Lister, c: Counts) -> u32
-    requires { ⌜ (Ready disk (now image) (now claim) c) × (b .header < disk .blocks) × (sizeOf (now image) (b .header) ≤ fileLimit disk) × (b .done ≤ blocksOf disk (now image) (b .header)) ⌝ }
-    ensures { λ r. ⌜ Met disk (now (image .entry)) (list (b .key) (b .header) (b .done) (b .last)) (now (claim .entry)) r (now (claim .exit)) ⌝ }
+fn meet_list(disk: Disk, image: &[u8], claim: &mut [u8], b: KeyBlock, c: Counts) -> u32
+    requires { ⌜ (Ready disk (now image) (now claim) c) × (InFile disk (now image) b) ⌝ }
+    ensures { λ r. ⌜ Met disk (now (image .entry)) (listNode b) (now (claim .entry)) r (now (claim .exit)) ⌝ }
 {
     let f = claim_key(disk, claim, b.key);
     if f != 0 {
         return f;
     }
-    let size = word_of(image, b.header, Block::SIZE);
-    list_fault(image, b.key, b.header, disk.data_blocks(size) - b.done)
+    list_tests(disk, image, b)
 }
 
 // One list block more.
@@ -107,8 +102,8 @@ fn with_list(c: Counts) -> Counts
 }
 
 // A list block and what it lists, up to its link.
-fn walk_list(disk: Disk, image: &[u8], claim: &mut [u8], b: Lister, n: Counts) -> Walked
-    requires { ⌜ (Ready disk (now image) (now claim) n) × (b .header < disk .blocks) × (b .last < disk .blocks) × (sizeOf (now image) (b .header) ≤ fileLimit disk) × (b .done ≤ blocksOf disk (now image) (b .header)) ⌝ }
+fn walk_list(disk: Disk, image: &[u8], claim: &mut [u8], b: KeyBlock, n: Counts) -> Walked
+    requires { ⌜ (Ready disk (now image) (now claim) n) × (InFile disk (now image) b) ⌝ }
     ensures { λ r. ⌜ ListWalked disk (now (image .entry)) b n (now (claim .entry)) r (now (claim .exit)) ⌝ }
 {
     let f = meet_list(disk, image, claim, b, n);
@@ -127,37 +122,22 @@ pub(crate) fn walk_file(
     n: Counts,
 ) -> Walked
     requires { ⌜ (Ready disk (now image) (now claim) n) × (header < disk .blocks) × (fileFault disk (now image) header ≡ 0) ⌝ }
-    ensures { λ r. ⌜ Walks disk (now (image .entry)) (listed disk (now (image .entry)) header header 0 header) [] n (now (claim .entry)) r (now (claim .exit)) ⌝ }
+    ensures { λ r. ⌜ Walks disk (now (image .entry)) (keyBlockNodes disk (now (image .entry)) header header 0 header) [] n (now (claim .entry)) r (now (claim .exit)) ⌝ }
 {
-    let first = Lister {
-        header: header,
-        key: header,
-        done: 0,
-        last: header,
-    };
+    let first = header_block(image, header);
     let w = walk_keys(disk, image, claim, first, n);
     let Walked::Done(c) = w else {
         return w;
     };
     let mut m = c;
-    let mut lister = header;
-    let mut done: u32 = 0;
-    let mut next = word_of(image, header, Block::LIST);
-    while next != 0 {
-        let b = Lister {
-            header: header,
-            key: next,
-            done: done + Block::SLOTS as u32,
-            last: key_of(image, lister, Block::SLOTS - 1),
-        };
+    let mut b = next_list(image, first);
+    while b.key != 0 {
         let v = walk_list(disk, image, claim, b, m);
         let Walked::Done(e) = v else {
             return v;
         };
         m = e;
-        lister = next;
-        done += Block::SLOTS as u32;
-        next = word_of(image, lister, Block::LIST);
+        b = next_list(image, b);
     }
     Walked::Done(m)
 }

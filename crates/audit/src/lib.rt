@@ -4,3 +4,5 @@ mod bitmap;
 mod claims;
 mod directories;
 mod files;
+mod top;
+mod walked;

@@ -49,7 +49,7 @@ pub length-filled : (ns : List ℕ) (n : ℕ) (t : List Hunk) → n ≤ length t
 length-filled ns n t h =
     length-append (recordsFrom ns 0 n) (drop n t) ∙ omega (arith, length-from ns 0 n, length-drop n t)
 
--- ---- what stands at each place
+-- ---- what stands at each number
 
 from-at : (ns : List ℕ) (k n i : ℕ) (s : List Hunk) (d : Hunk) → i < n → getD (recordsFrom ns k n ++ s) i d ≡ recordAt ns (k + i)
 unfolding recordsFrom

@@ -11,7 +11,7 @@ use Rattle.program.specs.Header.{totalOf}
 use Rattle.program.specs.Check.{numbersOf}
 use Rattle.loader.specs.declared.calls.Outcome.{Outcome}
 use Rattle.loader.specs.Table.{recordsOf}
-use Rattle.loader.specs.Calls.{handed, LoadsCore, MovesCore}
+use Rattle.loader.specs.Parts.{handed, LoadsCore, MovesCore}
 use Rattle.loader.proofs.Answering.{load-facts, move-facts}
 use Rattle.hunks.specs.declared.Hunk.{Hunk}
 use Rattle.hunks.specs.declared.Counted.{Counted}
@@ -38,7 +38,7 @@ load-hands file bases m w records o c m1 w1 l e =
     rw e
     (record {
       core = l;
-      room = counts-by (o .answer) (countedOf o) records refl refl (λ t n x. let f = load-facts file bases (length m) records (length w) t n (o .answer) (l .answer) x in (omega (arith, f .file-good .hunks, f .records), omega (arith, f .file-good .hunks, f .file-good .sound .few)));
+      room = counts-by (o .answer) (countedOf o) records refl refl (λ t n x. let f = load-facts file bases (length m) records (length w) t n (o .answer) (l .answer) x in (omega (arith, f .file-accepted .hunks, f .records), omega (arith, f .file-accepted .hunks, f .file-accepted .header .few)));
     })
 
 pub move-hands : (file old new m w : List ℕ) (records : ℕ) (o : Outcome) (c : Counted) (m1 w1 : List ℕ) → MovesCore file old new m w records o m1 w1 → c ≡ countedOf o → HandsMove file old new m w records c m1 w1
@@ -46,7 +46,7 @@ move-hands file old new m w records o c m1 w1 l e =
     rw e
     (record {
       core = l;
-      room = counts-by (o .answer) (countedOf o) records refl refl (λ t n x. let f = move-facts file old new (length m) records (length w) t n (o .answer) (l .answer) x .load in (omega (arith, f .file-good .hunks, f .records), omega (arith, f .file-good .hunks, f .file-good .sound .few)));
+      room = counts-by (o .answer) (countedOf o) records refl refl (λ t n x. let f = move-facts file old new (length m) records (length w) t n (o .answer) (l .answer) x .load in (omega (arith, f .file-accepted .hunks, f .records), omega (arith, f .file-accepted .hunks, f .file-accepted .header .few)));
     })
 
 -- the first records are those of the file's hunks
@@ -67,7 +67,7 @@ module _ (file bases m : List ℕ) (t : List Hunk) (w : List ℕ) (c : Counted) 
         answer = h .core .answer;
         numbers = ap numbersOf (h .core .answer);
         loaded = h .core .loaded;
-        recorded = e ∙ filled-by (c .answer) file bases (c .numbers) (c .count) t (h .room .counts) (h .core .numbers) (λ x n q. load-facts file bases (length m) (length t) (length w) x n (c .answer) (h .core .answer) q .file-good .hunks);
+        recorded = e ∙ filled-by (c .answer) file bases (c .numbers) (c .count) t (h .room .counts) (h .core .numbers) (λ x n q. load-facts file bases (length m) (length t) (length w) x n (c .answer) (h .core .answer) q .file-accepted .hunks);
         clean = h .core .clean;
       }
 
@@ -81,6 +81,6 @@ module _ (file old new m : List ℕ) (t : List Hunk) (w : List ℕ) (c : Counted
         answer = h .core .answer;
         numbers = ap numbersOf (h .core .answer);
         shifted = h .core .shifted;
-        recorded = e ∙ filled-by (c .answer) file new (c .numbers) (c .count) t (h .room .counts) (h .core .numbers) (λ x n q. move-facts file old new (length m) (length t) (length w) x n (c .answer) (h .core .answer) q .load .file-good .hunks);
+        recorded = e ∙ filled-by (c .answer) file new (c .numbers) (c .count) t (h .room .counts) (h .core .numbers) (λ x n q. move-facts file old new (length m) (length t) (length w) x n (c .answer) (h .core .answer) q .load .file-accepted .hunks);
         clean = h .core .clean;
       }

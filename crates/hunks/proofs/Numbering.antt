@@ -9,7 +9,7 @@ use Rattle.program.specs.declared.check.Answer.{Answer}
 use Rattle.program.specs.declared.check.Answer.the-variants.{Accepted, Refused}
 use Rattle.program.specs.Header.{totalOf}
 use Rattle.program.specs.Check.{numbersOf}
-use Rattle.program.specs.Sane.{Sound}
+use Rattle.program.specs.Cursors.{HeaderFits}
 use Rattle.loader.specs.Table.{recordsOf, tableOf}
 use Rattle.loader.specs.Calls.{loadAnswer, moveAnswer, effect}
 use Rattle.loader.specs.Calls as numbers
@@ -61,7 +61,7 @@ numbers-from ns i (suc n) h =
     ∙ ap (λ k. take k (drop (4 * i) ns)) (sym (four-more n))
 
 -- Filled with a file's records, a table's numbers are the loader's.
-pub numbers-table : (file bases : List ℕ) (t : List Hunk) → Sound file → numbersIn (hunksOf file bases t) ≡ tableOf file bases (numbersIn t)
+pub numbers-table : (file bases : List ℕ) (t : List Hunk) → HeaderFits file → numbersIn (hunksOf file bases t) ≡ tableOf file bases (numbersIn t)
 numbers-table file bases t s =
     let l = length-records file bases s in
     numbers-append (recordsFrom (recordsOf file bases) 0 (totalOf file)) (drop (totalOf file) t)
@@ -87,7 +87,7 @@ same-table (g ∷ s) (h ∷ t) e =
 
 -- ---- a load and a move, over the numbers of their tables
 
-as-numbers : (a : Answer) (file bases : List ℕ) (t t1 : List Hunk) → t1 ≡ kept a (hunksOf file bases t) t → ((x n : ℕ) → a ≡ Accepted x n → Sound file) → numbersIn t1 ≡ effect a (tableOf file bases (numbersIn t)) (numbersIn t)
+as-numbers : (a : Answer) (file bases : List ℕ) (t t1 : List Hunk) → t1 ≡ kept a (hunksOf file bases t) t → ((x n : ℕ) → a ≡ Accepted x n → HeaderFits file) → numbersIn t1 ≡ effect a (tableOf file bases (numbersIn t)) (numbersIn t)
 as-numbers (Accepted x n) file bases t t1 e f = ap numbersIn e ∙ numbers-table file bases t (f x n refl)
 as-numbers (Refused r) file bases t t1 e f = ap numbersIn e
 
@@ -98,7 +98,7 @@ load-numbers file bases m t w r m1 t1 w1 l =
       answer = e;
       numbers = ap numbersOf e;
       loaded = l .loaded;
-      recorded = as-numbers r file bases t t1 (l .recorded) (λ x n e. load-facts file bases (length m) (length t) (length w) x n r (l .answer) e .file-good .sound);
+      recorded = as-numbers r file bases t t1 (l .recorded) (λ x n e. load-facts file bases (length m) (length t) (length w) x n r (l .answer) e .file-accepted .header);
       clean = l .clean;
     }
 
@@ -109,6 +109,6 @@ move-numbers file old new m t w r m1 t1 w1 l =
       answer = e;
       numbers = ap numbersOf e;
       shifted = l .shifted;
-      recorded = as-numbers r file new t t1 (l .recorded) (λ x n e. move-facts file old new (length m) (length t) (length w) x n r (l .answer) e .load .file-good .sound);
+      recorded = as-numbers r file new t t1 (l .recorded) (λ x n e. move-facts file old new (length m) (length t) (length w) x n r (l .answer) e .load .file-accepted .header);
       clean = l .clean;
     }

@@ -40,11 +40,11 @@ unfolding pageRecords
 length-page p i [] bases = refl
 length-page p i (h ∷ hs) bases = ap suc (length-page (p + 4 * h .size) (i + 1) hs bases)
 
-module _ (file : List ℕ) (hs : List page.Hunk) (pr : Program hs) (even : length file % 4 ≡ 0) (e : wordsAt file 0 (length file / 4) ≡ written hs) where
+module _ (file : List ℕ) (hs : List page.Hunk) (pr : Program hs) (whole : length file % 4 ≡ 0) (e : wordsAt file 0 (length file / 4) ≡ written hs) where
   -- Of a file that is hunks, written out, the table gets one record a hunk; further records stay.
-  pub page-table : (bases : List ℕ) (t : List Hunk) → hunksOf file bases t ≡ pageRecords 0 0 hs bases ++ drop (length hs) t
+  pub page-table : (bases : List ℕ) (t : List Hunk) → hunksOf file bases t ≡ pageRecords 0 0 hs bases ++ drop (length (pageRecords 0 0 hs bases)) t
   page-table bases t =
       let ns : List ℕ = recordNumbers 0 0 hs bases in
       let l : length ns ≡ 4 * length hs = sym (ap length (page-numbers 0 0 hs bases)) ∙ length-numbers (pageRecords 0 0 hs bases) ∙ ap (λ k. 4 * k) (length-page 0 0 hs bases) in
       let q : recordsFrom ns 0 (length hs) ≡ pageRecords 0 0 hs bases = same-table _ _ (numbers-from ns 0 (length hs) (omega (arith, l)) ∙ take-all (4 * length hs) ns (omega (arith, l)) ∙ sym (page-numbers 0 0 hs bases)) in
-      ap₂ (λ ms k. filled ms k t) (page-records file hs pr even e bases) (is-total file hs pr even e) ∙ ap (λ s. s ++ drop (length hs) t) q
+      ap₂ (λ ms k. filled ms k t) (page-records file hs pr whole e bases) (is-total file hs pr whole e) ∙ ap (λ s. s ++ drop (length hs) t) q ∙ ap (λ k. pageRecords 0 0 hs bases ++ drop k t) (sym (length-page 0 0 hs bases))

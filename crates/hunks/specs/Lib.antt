@@ -7,5 +7,3 @@ pub mod Calls
 pub mod Pages
 -- what the parts of the code hand on
 pub mod Parts
--- what the laws of moving speak of
-pub mod Moving

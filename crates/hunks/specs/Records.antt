@@ -1,4 +1,5 @@
--- The hunk table as structs: the record of each hunk, in their order, and after them what stood there (docs/FORMAT.md, "The program file").
+-- The hunk table as structs: the record of each hunk, in their order, and after them what stood there
+-- (docs/FORMAT.md, "The program file").
 use Prim.Native.Nat.{ℕ, zero, suc, _+_, _*_}
 use mathlib.Core.List.{List, [], _∷_, _++_}
 use lib.ListN.{getD, drop}

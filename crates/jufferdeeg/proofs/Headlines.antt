@@ -5,7 +5,7 @@ use mathlib.Core.Path.{_≡_, sym, _∙_}
 use mathlib.Core.Logic.{_≢_, _⊎_, _↔_}
 use mathlib.Core.Bool.{false}
 use mathlib.Core.List.{List, [], _∷_, _++_}
-use lib.ListN.{length, getD, drop, replicate}
+use lib.ListN.{length, getD, take, drop, replicate}
 use Rattle.answers.specs.Members.{_∈_}
 use Rattle.answers.specs.Refusals.{refusal}
 use Rattle.answers.specs.declared.Refusal.{Refusal}
@@ -56,21 +56,21 @@ use Rattle.reading.proofs.OnTrees as reads
 use Rattle.program.specs.declared.check.Answer.{Answer}
 use Rattle.program.specs.declared.check.Answer.the-variants.{Accepted, Refused}
 use Rattle.program.specs.Page as paper
-use Rattle.program.specs.Check.{checkRefusals, checkOf, numbersOf, Checks}
+use Rattle.program.specs.Check.{checkRefusals, checkOf, numbersOf}
 use Rattle.program.specs.Verdicts as programs
 use Rattle.program.proofs.Unique as unique
 use Rattle.program.proofs.Pages as pages
 use Rattle.program.proofs.Refusing as faults
 use Rattle.loader.specs.Calls.{callRefusals, loadAnswer, moveAnswer}
 use Rattle.loader.specs.Memory.{amountOf, moved}
-use Rattle.loader.specs.Pages.{imageOf, fileTargets, Named, Adds, Outside, placedHunks}
+use Rattle.loader.specs.Pages.{imageOf, fileTargets, Named, Adds, Outside, withHunks, LoadedPage, MovedPage}
 use Rattle.loader.specs.Verdicts.{Takes, CallWhy}
 use Rattle.loader.proofs.OneHunk as targets
 use Rattle.loader.proofs.PageVerdicts as verdicts
 use Rattle.hunks.specs.declared.Hunk.{Hunk}
 use Rattle.hunks.specs.Calls.{Loads, Moves}
-use Rattle.hunks.specs.Moving.{SameRoom, LoadsAt}
-use Rattle.hunks.specs.Pages.{LoadedPage, MovedPage}
+use Rattle.loader.specs.Moving.{SameRoom, LoadsAt}
+use Rattle.hunks.specs.Pages.{pageRecords}
 use Rattle.hunks.proofs.PageCalls as calls
 use Rattle.hunks.proofs.Moving as moving
 use Rattle.hunks.proofs.Deciding as deciding
@@ -79,9 +79,11 @@ use Rattle.jufferdeeg.specs.declared.volumes.FindNumbers.{FindNumbers}
 use Rattle.jufferdeeg.specs.declared.volumes.ReadNumbers.{ReadNumbers}
 use Rattle.jufferdeeg.specs.declared.programs.ProgramNumbers.{ProgramNumbers}
 use Rattle.jufferdeeg.specs.Volumes.{findOnFloppy, AuditsFloppy, ReadsFloppy}
-use Rattle.jufferdeeg.specs.Programs.{LoadsNumbers, MovesNumbers}
+use Rattle.jufferdeeg.specs.Programs.{checkNumbers, LoadsNumbers, MovesNumbers}
+use Rattle.jufferdeeg.specs.Reasons.{sentenceOf, Reasons}
 use Rattle.jufferdeeg.proofs.Seen as seen
 use Rattle.jufferdeeg.proofs.SeenMoving as seen-moving
+use Rattle.jufferdeeg.proofs.Spoken as spoken
 
 -- ---- the audit of an image s with a claim area of n bytes
 
@@ -171,7 +173,7 @@ module _ (d : Disk) (s : List ℕ) where
   compared-most t name p f = counting.first-few d s t name p f
 
   -- the tests of a file's blocks pass if and only if it is whole: as the law says, with all of its blocks
-  pub tested-exactly : (h : ℕ) → (blocksFault d s h ≡ Passed) ↔ outcomes.Whole d s h
+  pub tested-exactly : (h : ℕ) → (blocksFault d s h ≡ Passed) ↔ outcomes.FileWhole d s h
   tested-exactly h = passing.tested-exactly d s h
 
   -- in a tree every reached entry lies below the root by the names of directories; it is found by its path, and a file is read whole
@@ -231,10 +233,10 @@ module _ (file : List ℕ) where
 -- an accepted load or move, in the terms of the page
 module _ (file m : List ℕ) (t : List Hunk) (w : List ℕ) (x n : ℕ) (m1 : List ℕ) (t1 : List Hunk) (w1 : List ℕ) where
   -- the file holds hunks, and memory and table are theirs
-  pub load-page : (bases : List ℕ) → Loads file bases m t w (Accepted x n) m1 t1 w1 → (hs : List paper.Hunk) × paper.Holds file hs × LoadedPage hs bases m t x n m1 t1
+  pub load-page : (bases : List ℕ) → Loads file bases m t w (Accepted x n) m1 t1 w1 → (hs : List paper.Hunk) × paper.Holds file hs × LoadedPage (pageRecords 0 0) hs bases m t x n m1 t1
   load-page = calls.load-page file m t w x n m1 t1 w1
 
-  pub move-page : (old new : List ℕ) → Moves file old new m t w (Accepted x n) m1 t1 w1 → (hs : List paper.Hunk) × paper.Holds file hs × MovedPage hs old new m t x n m1 t1
+  pub move-page : (old new : List ℕ) → Moves file old new m t w (Accepted x n) m1 t1 w1 → (hs : List paper.Hunk) × paper.Holds file hs × MovedPage (pageRecords 0 0) hs old new m t x n m1 t1
   move-page = calls.move-page file m t w x n m1 t1 w1
 
   -- a load adds the base of its hunk to each target's stored word; a move adds new minus old base to what stood there
@@ -245,7 +247,7 @@ module _ (file m : List ℕ) (t : List Hunk) (w : List ℕ) (x n : ℕ) (m1 : Li
   move-words = calls.move-words file m t w x n m1 t1 w1
 
   -- outside the targets a load leaves the hunks' bytes, and after them what stood there; a move leaves every byte as it was
-  pub load-others : (bases : List ℕ) → Loads file bases m t w (Accepted x n) m1 t1 w1 → (hs : List paper.Hunk) → paper.Holds file hs → (k : ℕ) → Outside k (fileTargets hs) → getD m1 k 0 ≡ getD (placedHunks hs m) k 0
+  pub load-others : (bases : List ℕ) → Loads file bases m t w (Accepted x n) m1 t1 w1 → (hs : List paper.Hunk) → paper.Holds file hs → (k : ℕ) → Outside k (fileTargets hs) → getD m1 k 0 ≡ getD (withHunks hs m) k 0
   load-others = calls.load-others file m t w x n m1 t1 w1
 
   pub move-others-stay : (old new : List ℕ) → Moves file old new m t w (Accepted x n) m1 t1 w1 → (hs : List paper.Hunk) → paper.Holds file hs → (length m1 ≡ length m) × ((k : ℕ) → Outside k (fileTargets hs) → getD m1 k 0 ≡ getD m k 0)
@@ -258,17 +260,17 @@ module _ (file m : List ℕ) (t : List Hunk) (w : List ℕ) where
   load-move A B x n y k = moving.load-move file m t w x n A B y k
 
   -- A to B to C is A to C, on memory with any contents
-  pub move-move : (A B C : List ℕ) (x n y k z j : ℕ) → LoadsAt file A m t w x n → LoadsAt file B m t w y k → LoadsAt file C m t w z j
+  pub move-move : (A B C : List ℕ) (x n y k z j : ℕ) → LoadsAt file A m (length t) w x n → LoadsAt file B m (length t) w y k → LoadsAt file C m (length t) w z j
       → (m′ : List ℕ) (t′ : List Hunk) (w′ w″ w‴ m1 : List ℕ) (t1 : List Hunk) (w1 m2 : List ℕ) (t2 : List Hunk) (w2 m3 : List ℕ) (t3 : List Hunk) (w3 : List ℕ) (r1 r2 r3 : Answer) → SameRoom m t w m′ t′ w′ → length w″ ≡ length w → length w‴ ≡ length w
       → Moves file A B m′ t′ w′ r1 m1 t1 w1 → Moves file B C m1 t1 w″ r2 m2 t2 w2 → Moves file A C m′ t′ w‴ r3 m3 t3 w3 → (r1 ≡ Accepted x n) × (r2 ≡ Accepted x n) × (r3 ≡ Accepted x n) × (m2 ≡ m3) × (t2 ≡ t3) × (w2 ≡ w3)
   move-move A B C x n y k z j a b c = moving.move-move file m t w x n A a B C y k z j b c
 
   -- A to A changes no byte of memory
-  pub move-stays : (A : List ℕ) (x n : ℕ) → LoadsAt file A m t w x n → (m′ : List ℕ) (t′ : List Hunk) (w′ m1 : List ℕ) (t1 : List Hunk) (w1 : List ℕ) (r : Answer) → Bytes m′ → SameRoom m t w m′ t′ w′ → Moves file A A m′ t′ w′ r m1 t1 w1 → (r ≡ Accepted x n) × (m1 ≡ m′)
+  pub move-stays : (A : List ℕ) (x n : ℕ) → LoadsAt file A m (length t) w x n → (m′ : List ℕ) (t′ : List Hunk) (w′ m1 : List ℕ) (t1 : List Hunk) (w1 : List ℕ) (r : Answer) → Bytes m′ → SameRoom m t w m′ t′ w′ → Moves file A A m′ t′ w′ r m1 t1 w1 → (r ≡ Accepted x n) × (m1 ≡ m′)
   move-stays A x n a = moving.move-stays file m t w x n A a
 
   -- A to B and back brings every byte back
-  pub move-back : (A B : List ℕ) (x n y k : ℕ) → LoadsAt file A m t w x n → LoadsAt file B m t w y k
+  pub move-back : (A B : List ℕ) (x n y k : ℕ) → LoadsAt file A m (length t) w x n → LoadsAt file B m (length t) w y k
       → (m′ : List ℕ) (t′ : List Hunk) (w′ w″ m1 : List ℕ) (t1 : List Hunk) (w1 m2 : List ℕ) (t2 : List Hunk) (w2 : List ℕ) (r1 r2 : Answer) → Bytes m′ → SameRoom m t w m′ t′ w′ → length w″ ≡ length w
       → Moves file A B m′ t′ w′ r1 m1 t1 w1 → Moves file B A m1 t1 w″ r2 m2 t2 w2 → (r1 ≡ Accepted x n) × (r2 ≡ Accepted x n) × (m2 ≡ m′)
   move-back A B x n y k a b = moving.move-back file m t w x n A a B y k b
@@ -342,20 +344,33 @@ module _ (s path : List ℕ) (o : ℕ) (output : List ℕ) (r : ReadNumbers) (ou
   pub read-refused : r .number ≢ 0 → (output′ ≡ output) × (r .count ≡ 0)
   read-refused = seen.read-refused s path o output r output′ a
 
--- the check of a program file, which load and move begin with
-module _ (file : List ℕ) (r : Answer) (a : Checks file r) where
-  -- the number is 0 if and only if the file holds hunks
-  pub check-zero : (numbersOf r .number ≡ 0) ↔ ((hs : List paper.Hunk) × paper.Holds file hs)
+module _ (file : List ℕ) (r : ProgramNumbers) (a : r ≡ checkNumbers file) where
+  -- a check: the number is 0 if and only if the file holds hunks, so many that take so many bytes
+  pub check-zero : (r .number ≡ 0)
+      ↔ ((hs : List paper.Hunk) × paper.Holds file hs × (r .hunks ≡ length hs) × (r .bytes ≡ 4 * paper.total hs))
   check-zero = seen.check-zero file r a
 
-  -- else it is one of these
-  pub check-number : numbersOf r .number ∈ (0 ∷ checkRefusals)
+  -- another number v is given at place k if and only if `Says` holds of them
+  pub check-refused-at : (v k : ℕ) → v ≢ 0
+      → ((r .number ≡ v) × (r .place ≡ k)) ↔ programs.Says file (refusal v k)
+  check-refused-at = seen.check-refused-at file r a
+
+  -- a number other than 0 is one of these; it comes with no hunks and no bytes
+  pub check-number : r .number ∈ (0 ∷ checkRefusals)
   check-number = seen.check-number file r a
+
+  pub check-refused : r .number ≢ 0 → (r .hunks ≡ 0) × (r .bytes ≡ 0)
+  check-refused = seen.check-refused file r a
 
 module _ (file m : List ℕ) (t : List Hunk) (w : List ℕ) (r : ProgramNumbers) (m′ : List ℕ) (t′ : List Hunk) (w′ : List ℕ) where
   -- a load: the number is 0 if and only if the file holds hunks and `Takes` holds of them, with their number and bytes
   pub load-zero : (bases : List ℕ) → LoadsNumbers file bases m t w r m′ t′ w′ → (r .number ≡ 0) ↔ ((hs : List paper.Hunk) × paper.Holds file hs × Takes hs (bases ∷ []) (length m) (length t) (length w) (r .hunks) (r .bytes))
   load-zero = seen.load-zero file m t w r m′ t′ w′
+
+  -- its hunks and bytes are then those that the check gives
+  pub load-checked : (bases : List ℕ) → LoadsNumbers file bases m t w r m′ t′ w′ → r .number ≡ 0
+      → r ≡ checkNumbers file
+  load-checked = seen.load-checked file m t w r m′ t′ w′
 
   -- another number v is given at place k if and only if `CallWhy` holds of them
   pub load-refused-at : (bases : List ℕ) → LoadsNumbers file bases m t w r m′ t′ w′ → (v k : ℕ) → v ≢ 0 → ((r .number ≡ v) × (r .place ≡ k)) ↔ CallWhy file (bases ∷ []) (length m) (length t) (length w) (refusal v k)
@@ -371,6 +386,10 @@ module _ (file m : List ℕ) (t : List Hunk) (w : List ℕ) (r : ProgramNumbers)
   -- a move: likewise
   pub move-zero : (old new : List ℕ) → MovesNumbers file old new m t w r m′ t′ w′ → (r .number ≡ 0) ↔ ((hs : List paper.Hunk) × paper.Holds file hs × Takes hs (old ∷ new ∷ []) (length m) (length t) (length w) (r .hunks) (r .bytes))
   move-zero = seen.move-zero file m t w r m′ t′ w′
+
+  pub move-checked : (old new : List ℕ) → MovesNumbers file old new m t w r m′ t′ w′ → r .number ≡ 0
+      → r ≡ checkNumbers file
+  move-checked = seen.move-checked file m t w r m′ t′ w′
 
   pub move-refused-at : (old new : List ℕ) → MovesNumbers file old new m t w r m′ t′ w′ → (v k : ℕ) → v ≢ 0 → ((r .number ≡ v) × (r .place ≡ k)) ↔ CallWhy file (old ∷ new ∷ []) (length m) (length t) (length w) (refusal v k)
   move-refused-at = seen.move-refused-at file m t w r m′ t′ w′
@@ -408,3 +427,29 @@ module _ (file m : List ℕ) (t : List Hunk) (w : List ℕ) where
   pub seen-move-loads : (A B : List ℕ) (rA rB r : ProgramNumbers) (mA : List ℕ) (tA : List Hunk) (wA mB : List ℕ) (tB : List Hunk) (wB m′ : List ℕ) (t′ : List Hunk) (w′ m1 : List ℕ) (t1 : List Hunk) (w1 : List ℕ) → SameRoom m t w m′ t′ w′
       → LoadsNumbers file A m t w rA mA tA wA → LoadsNumbers file B m t w rB mB tB wB → MovesNumbers file A B m′ t′ w′ r m1 t1 w1 → (r .number ≡ 0) ↔ ((rA .number ≡ 0) × (rB .number ≡ 0))
   seen-move-loads = seen-moving.move-loads file m t w
+
+-- the sentence of a number: none is longer than 128 bytes
+pub sentence-most : (n : ℕ) → length (sentenceOf n) ≤ 128
+sentence-most = spoken.sentence-most
+
+-- where it fits, it stands in the output whole, and what follows it stays
+module _ (n : ℕ) (output : List ℕ) (r : ℕ) (output′ : List ℕ) (a : Reasons n output r output′) where
+  pub reason-whole : r ≤ length output → (take r output′ ≡ sentenceOf n) × (drop r output′ ≡ drop r output)
+  reason-whole = spoken.reason-whole n output r output′ a
+
+-- each refusal of each call has one
+module _ (v : ℕ) where
+  pub audit-spoken : v ∈ audit.auditRefusals → 0 < length (sentenceOf v)
+  audit-spoken = spoken.audit-spoken v
+
+  pub find-spoken : v ∈ lookup.findRefusals → 0 < length (sentenceOf v)
+  find-spoken = spoken.find-spoken v
+
+  pub read-spoken : v ∈ read.readRefusals → 0 < length (sentenceOf v)
+  read-spoken = spoken.read-spoken v
+
+  pub check-spoken : v ∈ checkRefusals → 0 < length (sentenceOf v)
+  check-spoken = spoken.check-spoken v
+
+  pub call-spoken : v ∈ callRefusals → 0 < length (sentenceOf v)
+  call-spoken = spoken.call-spoken v

@@ -4,4 +4,5 @@ pub mod Deciding
 pub mod Headlines
 pub mod Seen
 pub mod SeenMoving
+pub mod Spoken
 pub mod Walking

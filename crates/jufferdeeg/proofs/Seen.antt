@@ -1,6 +1,6 @@
 -- What a C program sees: when the number of an exported call is 0, which numbers there are else, when each of them is given at which place, and what
 -- a refused call leaves. Assumes nothing.
-use Prim.Native.Nat.{ℕ, _≤_}
+use Prim.Native.Nat.{ℕ, _*_, _≤_}
 use mathlib.Core.Path.{_≡_, refl, sym, ap, ap₂, _∙_}
 use mathlib.Core.Logic.{_≢_, _↔_, _⊎_, inl, inr}
 use mathlib.Core.List.{List, [], _∷_}
@@ -37,12 +37,15 @@ use Rattle.reading.proofs.AsNumbers as read-numbers
 use Rattle.program.specs.declared.check.Answer.{Answer}
 use Rattle.program.specs.declared.check.Answer.the-variants.{Accepted, Refused}
 use Rattle.program.specs.Page as paper
-use Rattle.program.specs.Check.{numbersOf, checkRefusals, Checks}
-use Rattle.program.proofs.Pages.{page}
+use Rattle.program.specs.Check.{numbersOf, checkRefusals, checkOf, Checks}
+use Rattle.program.specs.Verdicts.{Says as Faults}
+use Rattle.program.proofs.Pages.{page-accepted, page}
+use Rattle.program.proofs.Refusing.{refused-exactly}
 use Rattle.program.proofs.AsNumbers as check-numbers
 use Rattle.loader.specs.Memory.{loadOf, moveOf}
 use Rattle.loader.specs.Calls.{callRefusals, effect}
 use Rattle.loader.specs.Verdicts.{Accepts, Takes, CallWhy}
+use Rattle.loader.proofs.Deciding.{load-exactly, move-exactly}
 use Rattle.loader.proofs.PageVerdicts as verdicts
 use Rattle.hunks.specs.declared.Hunk.{Hunk}
 use Rattle.hunks.specs.Records.{hunksOf}
@@ -53,7 +56,7 @@ use Rattle.jufferdeeg.specs.declared.volumes.FindNumbers.{FindNumbers}
 use Rattle.jufferdeeg.specs.declared.volumes.ReadNumbers.{ReadNumbers}
 use Rattle.jufferdeeg.specs.declared.programs.ProgramNumbers.{ProgramNumbers}
 use Rattle.jufferdeeg.specs.Volumes.{auditNumbers, findNumbers, readNumbers, findOnFloppy, AuditsFloppy, ReadsFloppy}
-use Rattle.jufferdeeg.specs.Programs.{programNumbers, loadsAs, movesAs, LoadsNumbers, MovesNumbers}
+use Rattle.jufferdeeg.specs.Programs.{programNumbers, checkNumbers, loadsAs, movesAs, LoadsNumbers, MovesNumbers}
 
 -- one condition for another, and that for a third
 chain : {A B C : Type 0} → A ↔ B → B ↔ C → A ↔ C
@@ -104,7 +107,7 @@ module _ (s : List ℕ) (n : ℕ) (r : AuditNumbers) (claim′ : List ℕ) (a : 
   pub audit-refused : r .number ≢ 0 → (claim′ ≡ replicate n 0) × (r .directories ≡ 0) × (r .files ≡ 0) × (r .«list_blocks» ≡ 0) × (r .«data_blocks» ≡ 0) × (r .used ≡ 0) × (r .free ≡ 0)
   audit-refused z = go (audit.auditOf floppy s n) refl (a .call .claim)
     where
-      go : (x : Audited) → audit.auditOf floppy s n ≡ x → claim′ ≡ audit.leaves floppy s x n → (claim′ ≡ replicate n 0) × (r .directories ≡ 0) × (r .files ≡ 0) × (r .«list_blocks» ≡ 0) × (r .«data_blocks» ≡ 0) × (r .used ≡ 0) × (r .free ≡ 0)
+      go : (x : Audited) → audit.auditOf floppy s n ≡ x → claim′ ≡ audit.claimAfter floppy s x n → (claim′ ≡ replicate n 0) × (r .directories ≡ 0) × (r .files ≡ 0) × (r .«list_blocks» ≡ 0) × (r .«data_blocks» ≡ 0) × (r .used ≡ 0) × (r .free ≡ 0)
       go (audited.Accepted p) e c = absurd (z (audit-accepts .1 (p, e)))
       go (audited.Refused f) e c = let q = a .answer ∙ ap auditNumbers e in (c, rw q refl, rw q refl, rw q refl, rw q refl, rw q refl, rw q refl)
 
@@ -209,7 +212,7 @@ module _ (s path : List ℕ) (o : ℕ) (output : List ℕ) (r : ReadNumbers) (ou
   pub read-refused : r .number ≢ 0 → (output′ ≡ output) × (r .count ≡ 0)
   read-refused z = go (read.readOf floppy s path o (length output)) refl (a .call .left)
     where
-      go : (x : Reading) → read.readOf floppy s path o (length output) ≡ x → output′ ≡ read.leaves floppy s path o output x → (output′ ≡ output) × (r .count ≡ 0)
+      go : (x : Reading) → read.readOf floppy s path o (length output) ≡ x → output′ ≡ read.outputAfter floppy s path o output x → (output′ ≡ output) × (r .count ≡ 0)
       go (reading.Bytes n) e c = absurd (z (read-answers .1 (n, e)))
       go (reading.Refused f) e c = let q = a .answer ∙ ap readNumbers e in (c, rw q refl)
 
@@ -232,14 +235,45 @@ program-says x v k z = (there x, λ e. rw e (refl, refl))
 accepted-values : (x : Answer) (r : ProgramNumbers) → r ≡ programNumbers x → Accepts x → x ≡ Accepted (r .hunks) (r .bytes)
 accepted-values x r e (t, n, q) = let p = e ∙ ap programNumbers q in rw p q
 
-module _ (file : List ℕ) (r : Answer) (a : Checks file r) where
-  -- the check's number is 0 if and only if the file holds hunks
-  pub check-zero : (numbersOf r .number ≡ 0) ↔ ((hs : List paper.Hunk) × paper.Holds file hs)
-  check-zero = chain (check-numbers.zero-exactly file r a) (rw (a .answer) (page file))
+-- the file holds hunks, and these are their number and the bytes that they take
+abbrev pub HoldsAs : List ℕ → ProgramNumbers → Type 0
+HoldsAs file r =
+    (hs : List paper.Hunk) × paper.Holds file hs × (r .hunks ≡ length hs) × (r .bytes ≡ 4 * paper.total hs)
 
-  -- it is 0 or one of these
-  pub check-number : numbersOf r .number ∈ (0 ∷ checkRefusals)
-  check-number = program-number checkRefusals r (check-numbers.number-listed file r a)
+module _ (file : List ℕ) (r : ProgramNumbers) (a : r ≡ checkNumbers file) where
+  checks : Checks file (checkOf file)
+  checks = record { answer = refl; numbers = refl }
+
+  -- the number is 0 if and only if the check accepts
+  check-accepts : (r .number ≡ 0) ↔ Accepts (checkOf file)
+  check-accepts = rw a (check-numbers.zero-exactly file _ checks)
+
+  -- the number is 0 if and only if the file holds hunks, so many that take so many bytes
+  pub check-zero : (r .number ≡ 0) ↔ HoldsAs file r
+  check-zero = (λ z. there (page file .0 (check-accepts .0 z)), back)
+    where
+      there : (hs : List paper.Hunk) × paper.Holds file hs → HoldsAs file r
+      there (hs, h) = let q = a ∙ ap programNumbers (page-accepted file hs h) in (hs, h, rw q refl, rw q refl)
+
+      back : HoldsAs file r → r .number ≡ 0
+      back (hs, h, t, n) = check-accepts .1 (page file .1 (hs, h))
+
+  -- another number v is given at place k if and only if `Says` holds of them
+  pub check-refused-at : (v k : ℕ) → v ≢ 0 → ((r .number ≡ v) × (r .place ≡ k)) ↔ Faults file (refusal v k)
+  check-refused-at v k z =
+      rw a (chain (program-says (checkOf file) v k z) (refused-exactly file (refusal v k)))
+
+  -- the number is 0 or one of these
+  pub check-number : r .number ∈ (0 ∷ checkRefusals)
+  check-number = rw a (program-number checkRefusals (checkOf file) (check-numbers.number-listed file _ checks))
+
+  -- a refused check gives no values
+  pub check-refused : r .number ≢ 0 → (r .hunks ≡ 0) × (r .bytes ≡ 0)
+  check-refused z = go (checkOf file) refl
+    where
+      go : (x : Answer) → checkOf file ≡ x → (r .hunks ≡ 0) × (r .bytes ≡ 0)
+      go (Accepted t n) e = absurd (z (check-accepts .1 (t, n, e)))
+      go (Refused f) e = rw (a ∙ ap programNumbers e) (refl, refl)
 
 -- what is refused has no values, and what it was lent stays
 refused-keeps : (x : Answer) (r : ProgramNumbers) (m n m′ : List ℕ) (t u t′ : List Hunk) → r ≡ programNumbers x → r .number ≢ 0 → m′ ≡ effect x n m → t′ ≡ kept x u t → (m′ ≡ m) × (t′ ≡ t) × (r .hunks ≡ 0) × (r .bytes ≡ 0)
@@ -257,6 +291,13 @@ module _ (file m : List ℕ) (t : List Hunk) (w : List ℕ) (r : ProgramNumbers)
     load-zero =
         let v = verdicts.load-accepted file bases (length m) (length t) (length w) (r .hunks) (r .bytes) in
         (λ z. v .0 (accepted-values _ r (a .answer) (load-accepts .0 z)), λ h. load-accepts .1 (_, _, v .1 h))
+
+    -- its hunks and bytes are those that the check gives
+    pub load-checked : r .number ≡ 0 → r ≡ checkNumbers file
+    load-checked z =
+        let x = load-accepts .0 z in
+        let l = load-exactly file (length m) (length t) (length w) (x .0) (x .1) bases .0 (x .2) in
+        a .answer ∙ ap programNumbers (x .2 ∙ sym (l .0))
 
     -- another number v is given at place k if and only if `CallWhy` holds of them
     pub load-refused-at : (v k : ℕ) → v ≢ 0 → ((r .number ≡ v) × (r .place ≡ k)) ↔ CallWhy file (bases ∷ []) (length m) (length t) (length w) (refusal v k)
@@ -281,6 +322,14 @@ module _ (file m : List ℕ) (t : List Hunk) (w : List ℕ) (r : ProgramNumbers)
     move-zero =
         let v = verdicts.move-accepted file old new (length m) (length t) (length w) (r .hunks) (r .bytes) in
         (λ z. v .0 (accepted-values _ r (a .answer) (move-accepts .0 z)), λ h. move-accepts .1 (_, _, v .1 h))
+
+    -- its hunks and bytes are those that the check gives
+    pub move-checked : r .number ≡ 0 → r ≡ checkNumbers file
+    move-checked z =
+        let x = move-accepts .0 z in
+        let l = move-exactly file (length m) (length t) (length w) (x .0) (x .1) old new .0 (x .2) .0 in
+        let k = load-exactly file (length m) (length t) (length w) (x .0) (x .1) old .0 l in
+        a .answer ∙ ap programNumbers (x .2 ∙ sym (k .0))
 
     -- another number v is given at place k if and only if `CallWhy` holds of them
     pub move-refused-at : (v k : ℕ) → v ≢ 0 → ((r .number ≡ v) × (r .place ≡ k)) ↔ CallWhy file (old ∷ new ∷ []) (length m) (length t) (length w) (refusal v k)

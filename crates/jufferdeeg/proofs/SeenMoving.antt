@@ -13,7 +13,7 @@ use Rattle.loader.proofs.BadBases.{fault-passed}
 use Rattle.loader.proofs.Deciding.{load-exactly, move-exactly}
 use Rattle.hunks.specs.declared.Hunk.{Hunk}
 use Rattle.hunks.specs.Calls.{Loads}
-use Rattle.hunks.specs.Moving.{SameRoom}
+use Rattle.loader.specs.Moving.{SameRoom}
 use Rattle.hunks.proofs.Moving as moving
 use Rattle.jufferdeeg.specs.declared.programs.ProgramNumbers.{ProgramNumbers}
 use Rattle.jufferdeeg.specs.Programs.{programNumbers, loadsAs, movesAs, LoadsNumbers, MovesNumbers}

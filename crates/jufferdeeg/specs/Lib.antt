@@ -1,5 +1,9 @@
 -- What the contracts of `jufferdeeg` cite: the answers as structs of numbers, each by the definition that gives an answer's numbers.
 -- audit, find and read
 pub mod Volumes
--- load and move
+-- check, load and move
 pub mod Programs
+-- numbers of a constant of code
+pub mod Constants
+-- the sentence of a refusal
+pub mod Reasons

@@ -1,10 +1,10 @@
--- The answers of load and move as C meets them: a struct of the answer's numbers, by `numbersOf`.
+-- The answers of check, load and move as C meets them: a struct of the answer's numbers, by `numbersOf`.
 use Prim.Native.Nat.{ℕ}
 use mathlib.Core.Path.{_≡_}
 use mathlib.Core.List.{List}
 use lib.ListN.{length}
 use Rattle.program.specs.declared.check.Answer.{Answer}
-use Rattle.program.specs.Check.{numbersOf}
+use Rattle.program.specs.Check.{numbersOf, checkOf}
 use Rattle.loader.specs.Calls.{loadAnswer, moveAnswer}
 use Rattle.hunks.specs.declared.Hunk.{Hunk}
 use Rattle.hunks.specs.Calls.{Loads, Moves}
@@ -12,9 +12,12 @@ use Rattle.jufferdeeg.specs.declared.programs.ProgramNumbers.{ProgramNum
 
 abbrev pub programNumbers : Answer → ProgramNumbers
 programNumbers a =
-    let n = numbersOf a in record { number = n .number; place = n .place; hunks = n .hunks; bytes = n .bytes }
+    let n = numbersOf a in record { number = n .number; place = n .place; hunks = n .values .hunks; bytes = n .values .bytes }
 
 -- ---- the promises: those of the call that it makes, and its answer's numbers
+
+abbrev pub checkNumbers : List ℕ → ProgramNumbers
+checkNumbers file = programNumbers (checkOf file)
 
 module _ (file memory : List ℕ) (table : List Hunk) (work : List ℕ) where
   abbrev pub loadsAs : List ℕ → Answer

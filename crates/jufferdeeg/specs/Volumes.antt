@@ -17,16 +17,16 @@ use Rattle.jufferdeeg.specs.declared.volumes.ReadNumbers.{ReadNumbers}
 abbrev pub auditNumbers : Audited → AuditNumbers
 auditNumbers a =
     let n = audit.numbersOf a in
-    record { number = n .number; place = n .place; directories = n .report .directories; files = n .report .files; «list_blocks» = n .report .lists; «data_blocks» = n .report .blocks; used = n .report .used; free = n .report .free }
+    record { number = n .number; place = n .place; directories = n .values .directories; files = n .values .files; «list_blocks» = n .values .lists; «data_blocks» = n .values .blocks; used = n .values .used; free = n .values .free }
 
 abbrev pub findNumbers : Found → FindNumbers
 findNumbers a =
     let n = lookup.numbersOf a in
-    record { number = n .number; place = n .place; kind = n .kind; key = n .key; size = n .size; compared = n .compared }
+    record { number = n .number; place = n .place; kind = n .values .kind; key = n .values .key; size = n .values .size; compared = n .values .compared }
 
 abbrev pub readNumbers : Reading → ReadNumbers
 readNumbers a =
-    let n = read.numbersOf a in record { number = n .number; place = n .place; count = n .count }
+    let n = read.numbersOf a in record { number = n .number; place = n .place; count = n .values }
 
 -- ---- the promises: those of the call that it makes, and its answer's numbers
 

@@ -1,10 +1,10 @@
-// Load and move, for C and Rust.
+// Check, load and move, for C and Rust.
 use hunks::Hunk;
 use program::check::Answer;
 ghost use mathlib.Core.Path.{_≡_};
-ghost use Rattle.jufferdeeg.specs.Programs.{programNumbers, LoadsNumbers, MovesNumbers};
+ghost use Rattle.jufferdeeg.specs.Programs.{programNumbers, checkNumbers, LoadsNumbers, MovesNumbers};
 
-// The answer of a load or a move: how many hunks, and the loaded bytes.
+// The answer of a check, a load or a move: how many hunks, and the loaded bytes.
 #[repr(C)]
 pub struct ProgramNumbers {
     pub number: u32,
@@ -30,6 +30,14 @@ pub fn program_numbers(a: Answer) -> ProgramNumbers
             bytes: 0,
         },
     }
+}
+
+// Checks a program file: the hunks and the bytes of memory that a load of it takes.
+#[no_mangle]
+pub extern "C" fn jufferdeeg_check(file: &[u8]) -> ProgramNumbers
+    ensures { λ r. ⌜ r ≡ checkNumbers (now (file .entry)) ⌝ }
+{
+    program_numbers(program::check::check(file))
 }
 
 // Loads a program at the given bases.

@@ -13,7 +13,7 @@ const SUM: usize = 5;
 pub fn put(image: &mut [u8; IMAGE], key: u32, w: usize, value: u32)
     requires { ⌜ (key < 8) × (w < 128) ⌝ }
 {
-    words::put_word(image, Block::place(key, w), value);
+    words::put_word(image, Block::byte(key, w), value);
 }
 
 // Mends the sum of a block.

@@ -71,7 +71,7 @@ fn bit(key: u32)
     say::text(b"bit");
     say::number(key);
     say::count(b.word);
-    say::number(b.place);
+    say::number(b.number);
     say::end();
 }
 
@@ -202,7 +202,7 @@ pub fn disk() {
     say::end();
     limits();
     say::text(b"place 880 w127");
-    say::count(Block::place(880, 127));
+    say::count(Block::byte(880, 127));
     say::text(b"\ntag");
     say::word(disk.tag());
     say::end();

@@ -9,6 +9,7 @@ use lib.Dec.{eqb}
 use lib.ListN.{length, set, length-set}
 use types.Run.{OneOf}
 use denote.Enum.Declared.{tagOf}
+use Rattle.program.specs.Types as type
 use Rattle.words.specs.Word.{setWord, addAt}
 use Rattle.words.specs.Shift.{Target, shiftAll}
 use Rattle.words.proofs.Words.{length-setWord, length-addAt}
@@ -24,12 +25,38 @@ use Rattle.program.specs.declared.reader.Next.the-variants.{On}
 use Rattle.program.specs.Header.{totalOf, sizeOf}
 use Rattle.program.specs.Reader.{turn, stepOf}
 use Rattle.program.specs.Acts.{asks, actOf, pass}
-use Rattle.program.specs.Sane.{Sound, Sane, ModeFits, placeOf}
-use Rattle.program.specs.Runs.{Calm}
+use Rattle.program.specs.Cursors.{HeaderFits, CursorFits, ModeFits, placeOf}
+use Rattle.program.specs.Runs.{QuietOrStore}
 use Rattle.program.proofs.Modes.{none}
-use Rattle.program.proofs.Sanes.{offset-in}
-use Rattle.loader.specs.Memory.{loadedOf, ActFits, place1, placed, target1, targets, shift1, amountOf}
-use Rattle.loader.specs.Table.{entry1}
+use Rattle.program.proofs.CursorsFit.{offset-in}
+use Rattle.program.proofs.Walks.{Reads}
+use Rattle.program.proofs.Passes.{Passing}
+use Rattle.loader.specs.Memory.{loadedOf, storeOne, targetOne, targets, shiftOne, amountOf}
+use Rattle.loader.specs.Parts.{ActFits}
+use Rattle.loader.specs.Table.{recordOne}
+
+-- ---- the acts by their tags, in the order of `Act`; a `match` tells that an act has none but some of them
+
+abbrev tagQuiet : ℕ
+tagQuiet = 0
+
+abbrev tagBody : ℕ
+tagBody = 1
+
+abbrev tagStore : ℕ
+tagStore = 2
+
+abbrev pub tagAdd : ℕ
+tagAdd = 3
+
+abbrev notBody : List ℕ
+notBody = tagQuiet ∷ tagStore ∷ tagAdd ∷ []
+
+abbrev notStore : List ℕ
+notStore = tagQuiet ∷ tagBody ∷ tagAdd ∷ []
+
+abbrev pub notAdd : List ℕ
+notAdd = tagQuiet ∷ tagBody ∷ tagStore ∷ []
 
 -- ---- what a word asks for lies inside
 
@@ -50,16 +77,16 @@ opened : (size : ℕ → ℕ) (i : ℕ) → placeOf size (suc i) ≡ placeOf siz
 unfolding placeOf
 opened size i = refl
 
-module _ (file : List ℕ) (c : Cursor) (at w : ℕ) (d : Cursor) (s : Sane file c) where
+module _ (file : List ℕ) (c : Cursor) (at w : ℕ) (d : Cursor) (s : CursorFits file c) where
   inside : c .hunk < totalOf file → c .place + 4 * sizeOf file (c .hunk) ≤ loadedOf file
-  inside h = omega (arith, s .placed, place-up (sizeOf file) (suc (c .hunk)) (totalOf file) h, opened (sizeOf file) (c .hunk))
+  inside h = omega (arith, s .place, place-up (sizeOf file) (suc (c .hunk)) (totalOf file) h, opened (sizeOf file) (c .hunk))
 
   low : c .place < 4294967296
-  low = omega (arith, s .low, s .hunks, s .sound .few)
+  low = omega (arith, s .low, s .hunks, s .header .few)
 
   fits-in : (m : Mode) → ModeFits (totalOf file) (c .hunk) (c .stored) m → turn (totalOf file) (sizeOf file) c w m ≡ On d → ActFits (loadedOf file) (totalOf file) (asks c at w m)
   unfolding pick
-  fits-in mode.Begin h e = go (eqb w 0x3E8)
+  fits-in mode.Begin h e = go (eqb w type.name)
     where
       go : (b : Bool) → ActFits (loadedOf file) (totalOf file) (pick b Quiet (Body (c .hunk) (c .place) w))
       go true = tt
@@ -87,114 +114,160 @@ more-room m n t u (Body x p z) h k f = (omega (arith, f .0), f .1)
 more-room m n t u (Store p w) h k f = omega arith
 more-room m n t u (Add p z b) h k f = (omega (arith, f .0), omega (arith, f .1))
 
-pub fits : (file : List ℕ) (c : Cursor) (at w : ℕ) (r : Next) (d : Cursor) (a : Act) (n t : ℕ) → Sane file c → r ≡ stepOf (totalOf file) (sizeOf file) c w → r ≡ On d → a ≡ actOf c at w → loadedOf file ≤ n → totalOf file ≤ t → ActFits n t a
+fits : (file : List ℕ) (c : Cursor) (at w : ℕ) (r : Next) (d : Cursor) (a : Act) (n t : ℕ) → CursorFits file c → r ≡ stepOf (totalOf file) (sizeOf file) c w → r ≡ On d → a ≡ actOf c at w → loadedOf file ≤ n → totalOf file ≤ t → ActFits n t a
 fits file c at w r d a n t s q e x h k = more-room (loadedOf file) n (totalOf file) t a h k (rw x (act-fits file c at w d s (sym q ∙ e)))
 
-place-low : (file : List ℕ) → Sound file → (i : ℕ) → i ≤ totalOf file → placeOf (sizeOf file) i ≤ i * 262144
+-- the same in the loop of a pass, as its code asks it
+module _ (file : List ℕ) (c : Cursor) (at w : ℕ) (r : Next) (d : Cursor) (a : Act) (i : Reads file c at) (q : r ≡ stepOf (totalOf file) (sizeOf file) c w) (e : r ≡ On d) (x : a ≡ actOf c at w) where
+  pub reads-fits : (n t : ℕ) → loadedOf file ≤ n → totalOf file ≤ t → ActFits n t a
+  reads-fits n t = fits file c at w r d a n t (i .fits) q e x
+
+pub act-room : (g : List ℕ → Act → List ℕ) (file m₀ m : List ℕ) (c : Cursor) (at w : ℕ) (r : Next) (d : Cursor) (a : Act) (t : ℕ) → Passing g file m₀ m c at → r ≡ stepOf (totalOf file) (sizeOf file) c w → r ≡ On d → a ≡ actOf c at w → loadedOf file ≤ length m₀ → totalOf file ≤ t → ActFits (length m) t a
+act-room g file m₀ m c at w r d a t i q e x h k = reads-fits file c at w r d a (i .reads) q e x (length m) t (omega (arith, i .long)) k
+
+place-low : (file : List ℕ) → HeaderFits file → (i : ℕ) → i ≤ totalOf file → placeOf (sizeOf file) i ≤ i * 262144
 unfolding placeOf
 place-low file s zero h = omega arith
 place-low file s (suc i) h = omega (arith, place-low file s i (omega arith), s .small i (omega arith))
 
-pub loaded-low : (file : List ℕ) → Sound file → loadedOf file ≤ 4294967296
+loaded-low : (file : List ℕ) → HeaderFits file → loadedOf file ≤ 4294967296
 loaded-low file s = omega (arith, place-low file s (totalOf file) (omega arith), s .few)
 
-pub cursor-low : (file : List ℕ) (c : Cursor) → Sane file c → c .place ≤ 4294967296
-cursor-low file c s = omega (arith, s .low, s .hunks, s .sound .few)
+pub record-fits : (file : List ℕ) (c : Cursor) (at w : ℕ) (r : Next) (d : Cursor) (a : Act) → Reads file c at → r ≡ stepOf (totalOf file) (sizeOf file) c w → r ≡ On d → a ≡ actOf c at w → HeaderFits file → ActFits 4294967296 (totalOf file) a
+record-fits file c at w r d a i q e x s = reads-fits file c at w r d a i q e x 4294967296 (totalOf file) (loaded-low file s) (omega arith)
+
+pub cursor-low : (file : List ℕ) (c : Cursor) → CursorFits file c → c .place ≤ 4294967296
+cursor-low file c s = omega (arith, s .low, s .hunks, s .header .few)
 
 -- ---- storing
 
-module _ (n t : ℕ) (a : Act) (f : ActFits n t a) where
-  pub store-room : (p w : ℕ) → a ≡ Store p w → p + 4 ≤ n
-  store-room p w e = subst (ActFits n t) e f
+pub store-room : (n t : ℕ) (a : Act) (p w : ℕ) → ActFits n t a → a ≡ Store p w → p + 4 ≤ n
+store-room n t a p w f e = subst (ActFits n t) e f
 
-  pub add-room : (p k b : ℕ) → a ≡ Add p k b → (p + 4 ≤ n) × (k < t)
-  add-room p k b e = subst (ActFits n t) e f
+pub store-done : (m r : List ℕ) (a : Act) (p w : ℕ) → a ≡ Store p w → r ≡ setWord m p w → r ≡ storeOne m a
+store-done m r a p w e h = h ∙ sym (ap (storeOne m) e)
 
-  pub body-room : (h p k : ℕ) → a ≡ Body h p k → (h < t) × (p < 4294967296)
-  body-room h p k e = subst (ActFits n t) e f
-
-pub store-done : (m r : List ℕ) (a : Act) (p w : ℕ) → a ≡ Store p w → r ≡ setWord m p w → r ≡ place1 m a
-store-done m r a p w e h = h ∙ sym (ap (place1 m) e)
-
-pub store-rest : (m : List ℕ) (a : Act) → OneOf (0 ∷ 1 ∷ 3 ∷ []) (tagOf the-type a) → m ≡ place1 m a
+pub store-rest : (m : List ℕ) (a : Act) → OneOf notStore (tagOf the-type a) → m ≡ storeOne m a
 unfolding pick
 store-rest m Quiet h = refl
 store-rest m (Body x p k) h = refl
-store-rest m (Store p w) h = absurd (none (0 ∷ 1 ∷ 3 ∷ []) 2 tt h)
+store-rest m (Store p w) h = absurd (none notStore tagStore tt h)
 store-rest m (Add p k b) h = refl
 
-pub length-place1 : (m n : List ℕ) (a : Act) → n ≡ place1 m a → length n ≡ length m
-length-place1 m n Quiet e = ap length e
-length-place1 m n (Body x p k) e = ap length e
-length-place1 m n (Store p w) e = ap length e ∙ length-setWord m p w
-length-place1 m n (Add p k b) e = ap length e
+pub length-storeOne : (m : List ℕ) (a : Act) → length (storeOne m a) ≡ length m
+length-storeOne m Quiet = refl
+length-storeOne m (Body x p k) = refl
+length-storeOne m (Store p w) = length-setWord m p w
+length-storeOne m (Add p k b) = refl
 
 -- ---- adding
 
-pub add-done : (m r : List ℕ) (f : ℕ → ℕ) (a : Act) (p k b : ℕ) → a ≡ Add p k b → r ≡ addAt m p (f k) → r ≡ shift1 m f a
-add-done m r f a p k b e h = h ∙ sym (ap (shift1 m f) e)
+module _ (n t : ℕ) (a : Act) (p k b : ℕ) (f : ActFits n t a) (e : a ≡ Add p k b) where
+  add-fits : (p + 4 ≤ n) × (k < t)
+  add-fits = subst (ActFits n t) e f
 
-pub add-rest : (m : List ℕ) (f : ℕ → ℕ) (a : Act) → OneOf (0 ∷ 1 ∷ 2 ∷ []) (tagOf the-type a) → m ≡ shift1 m f a
+  pub add-room : p + 4 ≤ n
+  add-room = add-fits .0
+
+  pub add-named : k < t
+  add-named = add-fits .1
+
+pub add-done : (m r : List ℕ) (f : ℕ → ℕ) (a : Act) (p k b : ℕ) → a ≡ Add p k b → r ≡ addAt m p (f k) → r ≡ shiftOne m f a
+add-done m r f a p k b e h = h ∙ sym (ap (shiftOne m f) e)
+
+pub add-rest : (m : List ℕ) (f : ℕ → ℕ) (a : Act) → OneOf notAdd (tagOf the-type a) → m ≡ shiftOne m f a
 unfolding pick
 add-rest m f Quiet h = refl
 add-rest m f (Body x p k) h = refl
 add-rest m f (Store p w) h = refl
-add-rest m f (Add p k b) h = absurd (none (0 ∷ 1 ∷ 2 ∷ []) 3 tt h)
+add-rest m f (Add p k b) h = absurd (none notAdd tagAdd tt h)
 
-pub length-shift1 : (m n : List ℕ) (f : ℕ → ℕ) (a : Act) → n ≡ shift1 m f a → length n ≡ length m
-length-shift1 m n f Quiet e = ap length e
-length-shift1 m n f (Body x p k) e = ap length e
-length-shift1 m n f (Store p w) e = ap length e
-length-shift1 m n f (Add p k b) e = ap length e ∙ length-addAt m p (f k)
+pub length-shiftOne : (f : ℕ → ℕ) (m : List ℕ) (a : Act) → length (shiftOne m f a) ≡ length m
+length-shiftOne f m Quiet = refl
+length-shiftOne f m (Body x p k) = refl
+length-shiftOne f m (Store p w) = refl
+length-shiftOne f m (Add p k b) = length-addAt m p (f k)
 
 -- a pass that adds is relocation over the targets
-shift-target : (m : List ℕ) (f : ℕ → ℕ) (a : Act) (ts : List Target) → shiftAll (shift1 m f a) ts f ≡ shiftAll m (target1 a ts) f
+shift-target : (m : List ℕ) (f : ℕ → ℕ) (a : Act) (ts : List Target) → shiftAll (shiftOne m f a) ts f ≡ shiftAll m (targetOne a ts) f
 unfolding shiftAll
 shift-target m f Quiet ts = refl
 shift-target m f (Body x p k) ts = refl
 shift-target m f (Store p w) ts = refl
 shift-target m f (Add p k b) ts = refl
 
-pub pass-shift : (f : ℕ → ℕ) (m : List ℕ) (us : List Act) → pass (λ x a. shift1 x f a) m us ≡ shiftAll m (targets us) f
+pass-shift : (f : ℕ → ℕ) (m : List ℕ) (us : List Act) → pass (λ x a. shiftOne x f a) m us ≡ shiftAll m (targets us) f
 unfolding pass targets shiftAll
 pass-shift f m [] = refl
-pass-shift f m (a ∷ us) = pass-shift f (shift1 m f a) us ∙ shift-target m f a (targets us)
+pass-shift f m (a ∷ us) = pass-shift f (shiftOne m f a) us ∙ shift-target m f a (targets us)
+
+pub shift-pass : (f : ℕ → ℕ) (m n : List ℕ) (us : List Act) → n ≡ pass (λ x a. shiftOne x f a) m us → n ≡ shiftAll m (targets us) f
+shift-pass f m n us e = e ∙ pass-shift f m us
 
 -- ---- recording
 
-pub entry-done : (file bases t r : List ℕ) (a : Act) (h p k s b : ℕ) → a ≡ Body h p k → s ≡ sizeOf file h → b ≡ amountOf bases h → r ≡ set (set (set (set t (4 * h) k) (4 * h + 1) p) (4 * h + 2) s) (4 * h + 3) b → r ≡ entry1 file bases t a
-entry-done file bases t r a h p k s b e q y x = x ∙ rw (e, q, y)
+module _ (file : List ℕ) (n : ℕ) (a : Act) (h p k : ℕ) (f : ActFits n (totalOf file) a) (e : a ≡ Body h p k) where
+  body-fits : (h < totalOf file) × (p < 4294967296)
+  body-fits = subst (ActFits n (totalOf file)) e f
 
-pub entry-rest : (file bases t : List ℕ) (a : Act) → OneOf (0 ∷ 2 ∷ 3 ∷ []) (tagOf the-type a) → t ≡ entry1 file bases t a
+  pub place-fits : p < 4294967296
+  place-fits = body-fits .1
+
+  pub size-there : HeaderFits file → 24 + 4 * h ≤ length file
+  size-there s = omega (arith, body-fits .0, s .long)
+
+  pub base-there : (bases : List ℕ) → totalOf file ≤ length bases → h < length bases
+  base-there bases l = omega (arith, body-fits .0)
+
+  -- the record's four numbers have room, each after those before it are written
+  module _ (table : List ℕ) (l : 4 * totalOf file ≤ length table) where
+    pub kind-there : 4 * h < length table
+    kind-there = omega (arith, body-fits .0)
+
+    module _ (i v : ℕ) where
+      pub place-there : 4 * h + 1 < length (set table i v)
+      place-there = simp length-set (omega (arith, body-fits .0))
+
+      module _ (j w : ℕ) where
+        pub words-there : 4 * h + 2 < length (set (set table i v) j w)
+        words-there = simp length-set (omega (arith, body-fits .0))
+
+        pub address-there : (k x : ℕ) → 4 * h + 3 < length (set (set (set table i v) j w) k x)
+        address-there k x = simp length-set (omega (arith, body-fits .0))
+
+pub record-done : (file bases t r : List ℕ) (a : Act) (h p k s : ℕ) → a ≡ Body h p k → s ≡ sizeOf file h → r ≡ set (set (set (set t (4 * h) k) (4 * h + 1) p) (4 * h + 2) s) (4 * h + 3) (amountOf bases h) → r ≡ recordOne file bases t a
+record-done file bases t r a h p k s e q x = x ∙ rw (e, q)
+
+pub record-rest : (file bases t : List ℕ) (a : Act) → OneOf notBody (tagOf the-type a) → t ≡ recordOne file bases t a
 unfolding pick
-entry-rest file bases t Quiet h = refl
-entry-rest file bases t (Body x p k) h = absurd (none (0 ∷ 2 ∷ 3 ∷ []) 1 tt h)
-entry-rest file bases t (Store p w) h = refl
-entry-rest file bases t (Add p k b) h = refl
+record-rest file bases t Quiet h = refl
+record-rest file bases t (Body x p k) h = absurd (none notBody tagBody tt h)
+record-rest file bases t (Store p w) h = refl
+record-rest file bases t (Add p k b) h = refl
 
-pub length-entry : (file bases t r : List ℕ) (a : Act) → r ≡ entry1 file bases t a → length r ≡ length t
-length-entry file bases t r Quiet e = ap length e
-length-entry file bases t r (Body h p k) e = ap length e ∙ simp length-set
-length-entry file bases t r (Store p w) e = ap length e
-length-entry file bases t r (Add p k b) e = ap length e
+pub length-recordOne : (file bases t : List ℕ) (a : Act) → length (recordOne file bases t a) ≡ length t
+length-recordOne file bases t Quiet = refl
+length-recordOne file bases t (Body h p k) = simp length-set
+length-recordOne file bases t (Store p w) = refl
+length-recordOne file bases t (Add p k b) = refl
 
 -- ---- passes that make nothing of stored words, and of words that ask for nothing
 
-pub calm-shift : (f : ℕ → ℕ) (m : List ℕ) (a : Act) → Calm a → shift1 m f a ≡ m
-calm-shift f m Quiet h = refl
-calm-shift f m (Body i p k) h = refl
-calm-shift f m (Store p w) h = refl
-calm-shift f m (Add p k b) h = absurd h
+pub quiet-shift : (f : ℕ → ℕ) (m : List ℕ) (a : Act) → QuietOrStore a → shiftOne m f a ≡ m
+quiet-shift f m Quiet h = refl
+quiet-shift f m (Body i p k) h = refl
+quiet-shift f m (Store p w) h = refl
+quiet-shift f m (Add p k b) h = absurd h
 
-pub calm-entry : (file bases t : List ℕ) (a : Act) → Calm a → entry1 file bases t a ≡ t
-calm-entry file bases t Quiet h = refl
-calm-entry file bases t (Body i p k) h = absurd h
-calm-entry file bases t (Store p w) h = refl
-calm-entry file bases t (Add p k b) h = refl
+pub quiet-record : (file bases t : List ℕ) (a : Act) → QuietOrStore a → recordOne file bases t a ≡ t
+quiet-record file bases t Quiet h = refl
+quiet-record file bases t (Body i p k) h = absurd h
+quiet-record file bases t (Store p w) h = refl
+quiet-record file bases t (Add p k b) h = refl
 
-pub calm-target : (a : Act) (us : List Act) → Calm a → targets (a ∷ us) ≡ targets us
+pub quiet-target : (a : Act) (us : List Act) → QuietOrStore a → targets (a ∷ us) ≡ targets us
 unfolding targets
-calm-target Quiet us h = refl
-calm-target (Body i p k) us h = refl
-calm-target (Store p w) us h = refl
-calm-target (Add p k b) us h = absurd h
+quiet-target Quiet us h = refl
+quiet-target (Body i p k) us h = refl
+quiet-target (Store p w) us h = refl
+quiet-target (Add p k b) us h = absurd h

@@ -7,6 +7,8 @@ use native.Mathlib.Omega.{arith}
 use lib.ListN.{length, getD, replicate, take, drop}
 use lib.Dec.{ltb, eqb}
 use borrow.Author.Tests.{ltb-false, eqb-true}
+use Rattle.answers.specs.Numbers as fault
+use Rattle.program.specs.Types as type
 use Rattle.answers.specs.Tests.{pick}
 use Rattle.answers.proofs.Tests.{pick-passed}
 use Rattle.answers.specs.Refusals.{refusal}
@@ -24,49 +26,50 @@ use Rattle.program.specs.declared.reader.Next.the-variants.{On, Bad}
 use Rattle.program.specs.Header.{totalOf, sizeOf, startAt, heads}
 use Rattle.program.specs.Reader.{start, stepOf}
 use Rattle.program.specs.Check.{endedOf, next, walk, wordsFrom, and, checkOf}
-use Rattle.program.specs.Sane.{Sane, ModeFits, placeOf}
+use Rattle.program.specs.Cursors.{HeaderFits, CursorFits, ModeFits, placeOf}
 use Rattle.program.proofs.Answers.{not-accepted}
-use Rattle.program.proofs.Heads.{sound-header}
-use Rattle.program.proofs.Sanes.{step-sane, start-sane}
+use Rattle.program.proofs.Heads.{header-fits}
+use Rattle.program.proofs.CursorsFit.{step-fits, start-fits}
 use Rattle.loader.specs.declared.calls.Outcome.{Outcome}
-use Rattle.loader.specs.Memory.{loadedOf, placed}
+use Rattle.loader.specs.Memory.{loadedOf}
 use Rattle.loader.specs.Bases.{basesFrom, basesFault}
 use Rattle.loader.specs.Near.{clashOf}
-use Rattle.loader.specs.Calls.{roomFault, also, lastTests, loadAnswer, moveAnswer, Fills, filledBy, filled, Good}
+use Rattle.loader.specs.Calls.{roomFault, also, lastTests, loadAnswer, moveAnswer}
+use Rattle.loader.specs.Parts.{Fills, filledBy, filled, AcceptedFile}
 
 same-numbers : (a b t n : ℕ) → Accepted a b ≡ Accepted t n → (a ≡ t) × (b ≡ n)
 same-numbers a b t n h = ((cc), (cc))
 
 -- ---- an accepted walk ends after the last hunk
 
-record Whole (file : List ℕ) (t n : ℕ) : Type 0 where
+record OfAllHunks (file : List ℕ) (t n : ℕ) : Type 0 where
   hunks : t ≡ totalOf file
   bytes : n ≡ loadedOf file
 
 module _ (file : List ℕ) (t n : ℕ) where
-  ended-whole : (c : Cursor) (m : Mode) → c .place ≡ placeOf (sizeOf file) (c .hunk) → ModeFits (totalOf file) (c .hunk) (c .stored) m → endedOf (length file) c m ≡ Accepted t n → Whole file t n
-  ended-whole c mode.End p h e =
+  ended-all : (c : Cursor) (m : Mode) → c .place ≡ placeOf (sizeOf file) (c .hunk) → ModeFits (totalOf file) (c .hunk) (c .stored) m → endedOf (length file) c m ≡ Accepted t n → OfAllHunks file t n
+  ended-all c mode.End p h e =
       let q = same-numbers (c .hunk) (c .place) t n e in
       record { hunks = sym (q .0) ∙ h; bytes = sym (q .1) ∙ p ∙ ap (placeOf (sizeOf file)) h }
-  ended-whole c mode.Begin p h e = not-accepted e
-  ended-whole c mode.NameLength p h e = not-accepted e
-  ended-whole c mode.Body p h e = not-accepted e
-  ended-whole c (mode.Length k) p h e = not-accepted e
-  ended-whole c (mode.Stored i) p h e = not-accepted e
-  ended-whole c mode.Part p h e = not-accepted e
-  ended-whole c mode.Count p h e = not-accepted e
-  ended-whole c (mode.Number x) p h e = not-accepted e
-  ended-whole c (mode.Offset x y) p h e = not-accepted e
-  ended-whole c mode.Symbol p h e = not-accepted e
-  ended-whole c mode.DebugLength p h e = not-accepted e
-  ended-whole c (mode.Skip x a) p h e = not-accepted e
+  ended-all c mode.Begin p h e = not-accepted e
+  ended-all c mode.NameLength p h e = not-accepted e
+  ended-all c mode.Body p h e = not-accepted e
+  ended-all c (mode.Length k) p h e = not-accepted e
+  ended-all c (mode.Stored i) p h e = not-accepted e
+  ended-all c mode.Part p h e = not-accepted e
+  ended-all c mode.Count p h e = not-accepted e
+  ended-all c (mode.Number x) p h e = not-accepted e
+  ended-all c (mode.Offset x y) p h e = not-accepted e
+  ended-all c mode.Symbol p h e = not-accepted e
+  ended-all c mode.DebugLength p h e = not-accepted e
+  ended-all c (mode.Skip x a) p h e = not-accepted e
 
-  walk-whole : (at : ℕ) (c : Cursor) (ws : List ℕ) → Sane file c → walk (totalOf file) (sizeOf file) (length file) at c ws ≡ Accepted t n → Whole file t n
+  walk-all : (at : ℕ) (c : Cursor) (ws : List ℕ) → CursorFits file c → walk (totalOf file) (sizeOf file) (length file) at c ws ≡ Accepted t n → OfAllHunks file t n
   unfolding walk
-  walk-whole at c [] s e = ended-whole c (c .mode) (s .placed) (s .mode) e
-  walk-whole at c (w ∷ ws) s e = go (stepOf (totalOf file) (sizeOf file) c w) refl e (λ d x y. walk-whole (at + 4) d ws (step-sane file c w d s x) y)
+  walk-all at c [] s e = ended-all c (c .mode) (s .place) (s .mode) e
+  walk-all at c (w ∷ ws) s e = go (stepOf (totalOf file) (sizeOf file) c w) refl e (λ d x y. walk-all (at + 4) d ws (step-fits file c w d s x) y)
     where
-      go : (r : Next) → stepOf (totalOf file) (sizeOf file) c w ≡ r → next r at (λ d. walk (totalOf file) (sizeOf file) (length file) (at + 4) d ws) ≡ Accepted t n → ((d : Cursor) → stepOf (totalOf file) (sizeOf file) c w ≡ On d → walk (totalOf file) (sizeOf file) (length file) (at + 4) d ws ≡ Accepted t n → Whole file t n) → Whole file t n
+      go : (r : Next) → stepOf (totalOf file) (sizeOf file) c w ≡ r → next r at (λ d. walk (totalOf file) (sizeOf file) (length file) (at + 4) d ws) ≡ Accepted t n → ((d : Cursor) → stepOf (totalOf file) (sizeOf file) c w ≡ On d → walk (totalOf file) (sizeOf file) (length file) (at + 4) d ws ≡ Accepted t n → OfAllHunks file t n) → OfAllHunks file t n
       go (On d) x y f = f d x y
       go (Bad v) x y f = not-accepted y
 
@@ -84,15 +87,15 @@ module _ (file : List ℕ) (t n : ℕ) where
   and-so Passed a h = (refl, h)
   and-so (Failed r) a h = not-accepted h
 
-  pub checked : checkOf file ≡ Accepted t n → Good file t n
+  pub checked : checkOf file ≡ Accepted t n → AcceptedFile file t n
   unfolding checkOf
   checked h =
-      let a = pick-so (eqb (length file % 4) 0) (refusal 30 0) _ (pick-not (eqb (length file) 0) (refusal 30 0) _ h) in
+      let a = pick-so (eqb (length file % 4) 0) (refusal fault.fileLength 0) _ (pick-not (eqb (length file) 0) (refusal fault.fileLength 0) _ h) in
       let b = and-so (heads file 0 5) _ (a .1) in
       let c = and-so (heads file 5 (totalOf file)) _ (b .1) in
-      let s = sound-header file (b .0) (c .0) in
-      let w = walk-whole (startAt file) start (wordsFrom file (startAt file)) (start-sane file s) (c .1) in
-      record { sound = s; even = eqb-true _ _ (a .0); hunks = w .hunks; bytes = w .bytes }
+      let s = header-fits file (b .0) (c .0) in
+      let w = walk-all (startAt file) start (wordsFrom file (startAt file)) (start-fits file s) (c .1) in
+      record { header = s; whole = eqb-true _ _ (a .0); hunks = w .hunks; bytes = w .bytes }
 
 -- ---- further tests
 
@@ -100,6 +103,22 @@ pub also-so : (a : Answer) (h : Tested) (t n : ℕ) → also a h ≡ Accepted t 
 also-so (Accepted a b) Passed t n e = (e, refl)
 also-so (Accepted a b) (Failed r) t n e = not-accepted e
 also-so (Refused r) h t n e = not-accepted e
+
+-- what a check and further tests accept is a file as an accepted one is
+pub also-checked : (file : List ℕ) (v a : Answer) (h : Tested) → v ≡ checkOf file → a ≡ also v h → (t n : ℕ) → a ≡ Accepted t n → AcceptedFile file t n
+also-checked file v a h ev ea t n e = checked file t n (sym ev ∙ also-so v h t n (sym ea ∙ e) .0)
+
+pub also-twice : (file : List ℕ) (v a b : Answer) (h k : Tested) → v ≡ checkOf file → a ≡ also v h → b ≡ also a k → (t n : ℕ) → b ≡ Accepted t n → AcceptedFile file t n
+also-twice file v a b h k ev ea eb t n e = also-checked file v a h ev ea t n (also-so a k t n (sym eb ∙ e) .0)
+
+pub checked-header : (file : List ℕ) (v : Answer) (t n : ℕ) → v ≡ checkOf file → v ≡ Accepted t n → HeaderFits file
+checked-header file v t n ev e = checked file t n (sym ev ∙ e) .header
+
+pub checked-long : (file : List ℕ) (v : Answer) (t n : ℕ) → v ≡ checkOf file → v ≡ Accepted t n → 12 ≤ length file
+checked-long file v t n ev e = omega (arith, checked-header file v t n ev e .long)
+
+pub checked-few : (file : List ℕ) (v : Answer) (t n h : ℕ) → v ≡ checkOf file → v ≡ Accepted t n → h ≡ totalOf file → h ≤ 64
+checked-few file v t n h ev e eh = omega (arith, checked-header file v t n ev e .few)
 
 pub also-both : (a : Answer) (h : Tested) (t n : ℕ) → a ≡ Accepted t n → h ≡ Passed → also a h ≡ Accepted t n
 also-both a h t n e f = rw (e, f)
@@ -109,36 +128,43 @@ also-failed a h t n r x y = rw (x, y)
 
 pub room-passed : (t n m tb w : ℕ) → roomFault t n m tb w ≡ Passed → (n ≤ m) × (t ≤ tb) × (n ≤ w)
 room-passed t n m tb w h =
-    let a = pick-passed (ltb m n) (refusal 41 0) _ h in
-    let b = pick-passed (ltb tb t) (refusal 41 0) _ (a .1) in
-    let c = pick-passed (ltb w n) (refusal 41 0) _ (b .1) in
+    let a = pick-passed (ltb m n) (refusal fault.shortRoom 0) _ h in
+    let b = pick-passed (ltb tb t) (refusal fault.shortRoom 0) _ (a .1) in
+    let c = pick-passed (ltb w n) (refusal fault.shortRoom 0) _ (b .1) in
     (ltb-false m n (a .0), ltb-false tb t (b .0), ltb-false w n (c .0))
 
 pub bases-passed : (file bases : List ℕ) (from : ℕ) → basesFault file bases from ≡ Passed → length bases ≡ totalOf file
 unfolding basesFault pick
 bases-passed file bases from h = go (eqb (length bases) (totalOf file)) refl h
   where
-    go : (b : Bool) → eqb (length bases) (totalOf file) ≡ b → pick b (basesFrom file bases from 0 (totalOf file)) (Failed (refusal 40 from)) ≡ Passed → length bases ≡ totalOf file
+    go : (b : Bool) → eqb (length bases) (totalOf file) ≡ b → pick b (basesFrom file bases from 0 (totalOf file)) (Failed (refusal fault.badBase from)) ≡ Passed → length bases ≡ totalOf file
     go true e q = eqb-true _ _ e
     go false e q = impossible cc
 
 -- ---- room and near targets, in code
 
-module _ (file : List ℕ) (a : Answer) (t n m tb w : ℕ) (ea : a ≡ Accepted t n) (g : Good file t n) (h : Tested) (eh : h ≡ roomFault t n m tb w) where
-  room-same : h ≡ roomFault (totalOf file) (loadedOf file) m tb w
-  room-same = eh ∙ ap (λ x. roomFault x n m tb w) (g .hunks) ∙ ap (λ x. roomFault (totalOf file) x m tb w) (g .bytes)
+module _ (file : List ℕ) (a : Answer) (t n : ℕ) (g : (i j : ℕ) → a ≡ Accepted i j → AcceptedFile file i j) (ea : a ≡ Accepted t n) where
+  pub last-header : HeaderFits file
+  last-header = g t n ea .header
 
-  both : (k : Tested) → h ≡ k → lastTests file a m tb w ≡ also (also (Accepted t n) k) (clashOf file)
-  both k x = ap (λ z. also z (clashOf file)) (ap (λ u. also u (roomFault (totalOf file) (loadedOf file) m tb w)) ea ∙ ap (also (Accepted t n)) (sym room-same ∙ x))
+  pub last-whole : length file % 4 ≡ 0
+  last-whole = g t n ea .whole
 
-  pub last-room : (f : Refusal) (r : Answer) → h ≡ Failed f → r ≡ also (Accepted t n) h → r ≡ lastTests file a m tb w
-  last-room f r x y = y ∙ ap (also (Accepted t n)) x ∙ sym (both (Failed f) x)
+  module _ (m tb w : ℕ) (h : Tested) (eh : h ≡ roomFault t n m tb w) where
+    room-same : h ≡ roomFault (totalOf file) (loadedOf file) m tb w
+    room-same = eh ∙ ap (λ x. roomFault x n m tb w) (g t n ea .hunks) ∙ ap (λ x. roomFault (totalOf file) x m tb w) (g t n ea .bytes)
 
-  pub last-fits : h ≡ Passed → loadedOf file ≤ w
-  last-fits x = omega (arith, room-passed t n m tb w (sym eh ∙ x) .2, g .bytes)
+    both : (k : Tested) → h ≡ k → lastTests file a m tb w ≡ also (also (Accepted t n) k) (clashOf file)
+    both k x = ap (λ z. also z (clashOf file)) (ap (λ u. also u (roomFault (totalOf file) (loadedOf file) m tb w)) ea ∙ ap (also (Accepted t n)) (sym room-same ∙ x))
 
-  pub last-clash : (k : Tested) (r : Answer) → h ≡ Passed → k ≡ clashOf file → r ≡ also (Accepted t n) k → r ≡ lastTests file a m tb w
-  last-clash k r x y z = z ∙ ap (also (Accepted t n)) y ∙ sym (both Passed x)
+    pub last-room : (f : Refusal) (r : Answer) → h ≡ Failed f → r ≡ also (Accepted t n) h → r ≡ lastTests file a m tb w
+    last-room f r x y = y ∙ ap (also (Accepted t n)) x ∙ sym (both (Failed f) x)
+
+    pub last-fits : h ≡ Passed → loadedOf file ≤ w
+    last-fits x = omega (arith, room-passed t n m tb w (sym eh ∙ x) .2, g t n ea .bytes)
+
+    pub last-clash : (k : Tested) (r : Answer) → h ≡ Passed → k ≡ clashOf file → r ≡ also (Accepted t n) k → r ≡ lastTests file a m tb w
+    last-clash k r x y z = z ∙ ap (also (Accepted t n)) y ∙ sym (both Passed x)
 
 -- ---- the answers, in code
 
@@ -163,7 +189,7 @@ module _ (file old new : List ℕ) (m tb w : ℕ) (v : Answer) (ev : v ≡ check
 -- ---- what an accepted call has
 
 pub record LoadFacts (file bases : List ℕ) (m tb w t n : ℕ) : Type 0 where
-  pub file-good : Good file t n
+  pub file-accepted : AcceptedFile file t n
   pub bases-good : basesFault file bases 0 ≡ Passed
   pub count : length bases ≡ totalOf file
   pub fits : loadedOf file ≤ m
@@ -177,7 +203,7 @@ load-with file bases m tb w t n v f h =
     let b = also-so _ (roomFault (totalOf file) (loadedOf file) m tb w) t n (a .0) in
     let c = f (b .0) in
     let r = room-passed _ _ m tb w (b .1) in
-    record { file-good = checked file t n (c .0); bases-good = c .1; count = bases-passed file bases 0 (c .1); fits = r .0; records = r .1; works = r .2; apart = a .1 }
+    record { file-accepted = checked file t n (c .0); bases-good = c .1; count = bases-passed file bases 0 (c .1); fits = r .0; records = r .1; works = r .2; apart = a .1 }
 
 pub load-facts : (file bases : List ℕ) (m tb w t n : ℕ) (r : Answer) → r ≡ loadAnswer file bases m tb w → r ≡ Accepted t n → LoadFacts file bases m tb w t n
 unfolding loadAnswer
@@ -213,8 +239,14 @@ all-zero w n e k = ap (λ (l : List ℕ). getD l k 0) e ∙ getD-zeros n k
 -- ---- the table is filled
 
 module _ (o : Outcome) (room t n : ℕ) (p : Fills o room) (e : o .answer ≡ Accepted t n) where
-  pub fill-room : (4 * t ≤ length (o .records)) × (4 * t ≤ room)
-  fill-room = let f : (t ≤ 64) × (4 * t ≤ room) = rw e at (p .fills) in (omega (arith, f .0, p .whole), f .1)
+  fills : (t ≤ type.mostHunks) × (4 * t ≤ room)
+  fills = rw e at (p .fills)
+
+  pub fill-from : 4 * t ≤ length (o .records)
+  fill-from = omega (arith, fills .0, p .whole)
+
+  pub fill-to : 4 * t ≤ room
+  fill-to = fills .1
 
 pub fill-done : (o : Outcome) (table r : List ℕ) (t n : ℕ) → o .answer ≡ Accepted t n → r ≡ take (4 * t) (o .records) ++ drop (4 * t) table → r ≡ filled o table
 fill-done o table r t n e h = h ∙ sym (ap (λ a. filledBy a (o .records) table) e)

@@ -9,6 +9,7 @@ use native.Mathlib.Decide.{decLt}
 use lib.Dec.{ltb, eqb}
 use lib.ListN.{length, List·getD-eq-default}
 use borrow.Author.Tests.{ltb-true, ltb-false, eqb-true, eqb-false, lt-ltb, eq-eqb, ne-eqb}
+use Rattle.answers.specs.Numbers as fault
 use Rattle.answers.specs.Tests.{pick}
 use Rattle.answers.specs.Refusals.{refusal}
 use Rattle.answers.specs.declared.Refusal.{Refusal}
@@ -28,20 +29,20 @@ use Rattle.loader.proofs.Picks.{or-left, or-right, pick-else, pick-fail
 -- as it is tested: the list has another length; else entry i is bad, and none before it
 abbrev pub BasesWhy : List ℕ → List ℕ → ℕ → Refusal → Type 0
 BasesWhy file bases from f =
-    ((f ≡ refusal 40 from) × (length bases ≢ totalOf file))
-    ⊎ ((length bases ≡ totalOf file) × ((i : ℕ) × (i < totalOf file) × (f ≡ refusal 40 (from + i)) × (entryBad file bases i ≡ true) × ((j : ℕ) → j < i → entryBad file bases j ≡ false)))
+    ((f ≡ refusal fault.badBase from) × (length bases ≢ totalOf file))
+    ⊎ ((length bases ≡ totalOf file) × ((i : ℕ) × (i < totalOf file) × (f ≡ refusal fault.badBase (from + i)) × (entryBad file bases i ≡ true) × ((j : ℕ) → j < i → entryBad file bases j ≡ false)))
 
 module _ (file bases : List ℕ) (from : ℕ) where
   -- the first bad one of n entries from i on is k
   abbrev Found : ℕ → ℕ → Refusal → Type 0
-  Found i n f = (k : ℕ) × (i ≤ k) × (k < i + n) × (f ≡ refusal 40 (from + k)) × (entryBad file bases k ≡ true) × ((j : ℕ) → i ≤ j → j < k → entryBad file bases j ≡ false)
+  Found i n f = (k : ℕ) × (i ≤ k) × (k < i + n) × (f ≡ refusal fault.badBase (from + k)) × (entryBad file bases k ≡ true) × ((j : ℕ) → i ≤ j → j < k → entryBad file bases j ≡ false)
 
   from-why : (i n : ℕ) (f : Refusal) → basesFrom file bases from i n ≡ Failed f → Found i n f
   unfolding basesFrom
   from-why i zero f h = not-failed h
-  from-why i (suc n) f h = go (pick-failed (entryBad file bases i) (refusal 40 (from + i)) (basesFrom file bases from (i + 1) n) f h) (from-why (i + 1) n f)
+  from-why i (suc n) f h = go (pick-failed (entryBad file bases i) (refusal fault.badBase (from + i)) (basesFrom file bases from (i + 1) n) f h) (from-why (i + 1) n f)
     where
-      go : ((entryBad file bases i ≡ true) × (f ≡ refusal 40 (from + i))) ⊎ ((entryBad file bases i ≡ false) × (basesFrom file bases from (i + 1) n ≡ Failed f)) → (basesFrom file bases from (i + 1) n ≡ Failed f → Found (i + 1) n f) → Found i (suc n) f
+      go : ((entryBad file bases i ≡ true) × (f ≡ refusal fault.badBase (from + i))) ⊎ ((entryBad file bases i ≡ false) × (basesFrom file bases from (i + 1) n ≡ Failed f)) → (basesFrom file bases from (i + 1) n ≡ Failed f → Found (i + 1) n f) → Found i (suc n) f
       go (inl x) g = (i, omega arith, omega arith, x .1, x .0, λ j a b. absurd (omega arith))
       go (inr x) g =
           let r = g (x .1) in
@@ -51,21 +52,21 @@ module _ (file bases : List ℕ) (from : ℕ) where
           below j a (yes l) k = k l
           below j a (no l) k = let e : i ≡ j = omega arith in subst (λ (z : ℕ). entryBad file bases z ≡ false) e (x .0)
 
-  from-then : (i n k : ℕ) → i ≤ k → k < i + n → entryBad file bases k ≡ true → ((j : ℕ) → i ≤ j → j < k → entryBad file bases j ≡ false) → basesFrom file bases from i n ≡ Failed (refusal 40 (from + k))
+  from-then : (i n k : ℕ) → i ≤ k → k < i + n → entryBad file bases k ≡ true → ((j : ℕ) → i ≤ j → j < k → entryBad file bases j ≡ false) → basesFrom file bases from i n ≡ Failed (refusal fault.badBase (from + k))
   unfolding basesFrom
   from-then i zero k a b t g = absurd (omega arith)
   from-then i (suc n) k a b t g = go (decLt i k) (λ l. from-then (i + 1) n k (omega arith) (omega arith) t (λ j x y. g j (omega arith) y))
     where
-      go : Dec (i < k) → (i < k → basesFrom file bases from (i + 1) n ≡ Failed (refusal 40 (from + k))) → pick (entryBad file bases i) (Failed (refusal 40 (from + i))) (basesFrom file bases from (i + 1) n) ≡ Failed (refusal 40 (from + k))
+      go : Dec (i < k) → (i < k → basesFrom file bases from (i + 1) n ≡ Failed (refusal fault.badBase (from + k))) → pick (entryBad file bases i) (Failed (refusal fault.badBase (from + i))) (basesFrom file bases from (i + 1) n) ≡ Failed (refusal fault.badBase (from + k))
       go (yes l) r = pick-goes _ _ _ _ (g i (omega arith) l) (r l)
-      go (no l) r = let e : k ≡ i = omega arith in pick-fails _ _ _ (subst (λ (z : ℕ). entryBad file bases z ≡ true) e t) ∙ ap (λ (z : ℕ). Failed (refusal 40 (from + z))) (sym e)
+      go (no l) r = let e : k ≡ i = omega arith in pick-fails _ _ _ (subst (λ (z : ℕ). entryBad file bases z ≡ true) e t) ∙ ap (λ (z : ℕ). Failed (refusal fault.badBase (from + z))) (sym e)
 
 module _ (file bases : List ℕ) (from : ℕ) (f : Refusal) where
   bases-there : basesFault file bases from ≡ Failed f → BasesWhy file bases from f
   unfolding basesFault
-  bases-there h = go (pick-else (eqb (length bases) (totalOf file)) (basesFrom file bases from 0 (totalOf file)) (refusal 40 from) f h)
+  bases-there h = go (pick-else (eqb (length bases) (totalOf file)) (basesFrom file bases from 0 (totalOf file)) (refusal fault.badBase from) f h)
     where
-      go : ((eqb (length bases) (totalOf file) ≡ true) × (basesFrom file bases from 0 (totalOf file) ≡ Failed f)) ⊎ ((eqb (length bases) (totalOf file) ≡ false) × (f ≡ refusal 40 from)) → BasesWhy file bases from f
+      go : ((eqb (length bases) (totalOf file) ≡ true) × (basesFrom file bases from 0 (totalOf file) ≡ Failed f)) ⊎ ((eqb (length bases) (totalOf file) ≡ false) × (f ≡ refusal fault.badBase from)) → BasesWhy file bases from f
       go (inl x) =
           let r = from-why file bases from 0 (totalOf file) f (x .1) in
           inr (eqb-true _ _ (x .0), (r .0, omega (arith, r .2), r .3, r .4, λ j b. r .5 j (omega arith) b))
@@ -176,27 +177,27 @@ module _ (file bases : List ℕ) where
   entry-why i = (entry-there i, entry-back i)
 
   -- an entry that is not bad is good
-  fine-good : (i : ℕ) → entryBad file bases i ≡ false → GoodEntry (sizeOf file) bases i
-  fine-good i h =
+  passes-good : (i : ℕ) → entryBad file bases i ≡ false → GoodEntry (sizeOf file) bases i
+  passes-good i h =
       record {
-        multiple = even (eqb (amountOf bases i % 4) 0) refl;
+        multiple = multiple (eqb (amountOf bases i % 4) 0) refl;
         below = low (decLt (2 ^ 32) (amountOf bases i + 4 * sizeOf file i));
-        alone = λ j l s. fine (inr (inr (j, l, s)));
+        alone = λ j l s. not-bad (inr (inr (j, l, s)));
       }
     where
-      fine : BadEntry (sizeOf file) bases i → ⊥
-      fine w = no-bool (sym h ∙ entry-back i w)
+      not-bad : BadEntry (sizeOf file) bases i → ⊥
+      not-bad w = no-bool (sym h ∙ entry-back i w)
 
-      even : (b : Bool) → eqb (amountOf bases i % 4) 0 ≡ b → amountOf bases i % 4 ≡ 0
-      even true e = eqb-true _ _ e
-      even false e = absurd (fine (inl (eqb-false _ _ e)))
+      multiple : (b : Bool) → eqb (amountOf bases i % 4) 0 ≡ b → amountOf bases i % 4 ≡ 0
+      multiple true e = eqb-true _ _ e
+      multiple false e = absurd (not-bad (inl (eqb-false _ _ e)))
 
       low : Dec (2 ^ 32 < amountOf bases i + 4 * sizeOf file i) → amountOf bases i + 4 * sizeOf file i ≤ 2 ^ 32
-      low (yes a) = absurd (fine (inr (inl a)))
+      low (yes a) = absurd (not-bad (inr (inl a)))
       low (no a) = omega arith
 
-  good-fine : (i : ℕ) → GoodEntry (sizeOf file) bases i → entryBad file bases i ≡ false
-  good-fine i g = go (entryBad file bases i) (entry-there i)
+  good-passes : (i : ℕ) → GoodEntry (sizeOf file) bases i → entryBad file bases i ≡ false
+  good-passes i g = go (entryBad file bases i) (entry-there i)
     where
       none : BadEntry (sizeOf file) bases i → ⊥
       none (inl x) = x (g .multiple)
@@ -208,7 +209,7 @@ module _ (file bases : List ℕ) where
       go false f = refl
 
   pub entry-good : (i : ℕ) → (entryBad file bases i ≡ false) ↔ GoodEntry (sizeOf file) bases i
-  entry-good i = (fine-good i, good-fine i)
+  entry-good i = (passes-good i, good-passes i)
 
 -- ---- a list passes if and only if its count is right and no entry is bad, wherever it counts from
 
@@ -217,7 +218,7 @@ module _ (file bases : List ℕ) (from : ℕ) where
   unfolding basesFrom
   from-passed i zero h k a b = absurd (omega arith)
   from-passed i (suc n) h k a b =
-      let p = pick-passed (entryBad file bases i) (refusal 40 (from + i)) (basesFrom file bases from (i + 1) n) h in
+      let p = pick-passed (entryBad file bases i) (refusal fault.badBase (from + i)) (basesFrom file bases from (i + 1) n) h in
       go (decLt i k) (p .0) (λ l. from-passed (i + 1) n (p .1) k (omega arith) (omega arith))
     where
       go : Dec (i < k) → entryBad file bases i ≡ false → (i < k → entryBad file bases k ≡ false) → entryBad file bases k ≡ false
@@ -236,7 +237,7 @@ module _ (file bases : List ℕ) (from : ℕ) where
     λ h. rw (eq-eqb _ _ (h .0)) (from-good 0 (totalOf file) (λ k a b. h .1 k (omega arith))),
   )
     where
-      go : (b : Bool) → eqb (length bases) (totalOf file) ≡ b → pick b (basesFrom file bases from 0 (totalOf file)) (Failed (refusal 40 from)) ≡ Passed → (length bases ≡ totalOf file) × ((k : ℕ) → k < totalOf file → entryBad file bases k ≡ false)
+      go : (b : Bool) → eqb (length bases) (totalOf file) ≡ b → pick b (basesFrom file bases from 0 (totalOf file)) (Failed (refusal fault.badBase from)) ≡ Passed → (length bases ≡ totalOf file) × ((k : ℕ) → k < totalOf file → entryBad file bases k ≡ false)
       go true e q = (eqb-true _ _ e, λ k l. from-passed 0 (totalOf file) q k (omega arith) (omega arith))
       go false e q = impossible cc
 

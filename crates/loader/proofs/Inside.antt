@@ -15,11 +15,12 @@ use Rattle.program.specs.Header.{totalOf, sizeOf, startAt}
 use Rattle.program.specs.Reader.{start, stepOf}
 use Rattle.program.specs.Check.{wordsFrom}
 use Rattle.program.specs.Acts.{actOf, then, acts, actsOf, pass}
-use Rattle.program.specs.Sane.{Sound, Sane}
-use Rattle.program.proofs.Sanes.{step-sane, start-sane}
-use Rattle.loader.specs.Memory.{loadedOf, ActFits, place1, placed, targets, targetsOf, bodiesOf}
-use Rattle.loader.specs.Table.{entry1, listed}
-use Rattle.loader.proofs.Acts.{act-fits, length-place1, length-entry}
+use Rattle.program.specs.Cursors.{HeaderFits, CursorFits}
+use Rattle.program.proofs.CursorsFit.{step-fits, start-fits}
+use Rattle.loader.specs.Memory.{loadedOf, storeOne, withStored, targets, targetsOf, bodiesOf}
+use Rattle.loader.specs.Parts.{ActFits}
+use Rattle.loader.specs.Table.{recordOne, withRecords}
+use Rattle.loader.proofs.Acts.{act-fits, length-storeOne, length-recordOne}
 
 -- every act lies within n bytes and t hunks
 abbrev pub Inside : ℕ → ℕ → List Act → Type 0
@@ -27,17 +28,17 @@ Inside n t [] = Unit
 Inside n t (a ∷ us) = ActFits n t a × Inside n t us
 
 module _ (file : List ℕ) where
-  inside : (at : ℕ) (c : Cursor) (ws : List ℕ) → Sane file c → Inside (loadedOf file) (totalOf file) (acts (totalOf file) (sizeOf file) at c ws)
+  inside : (at : ℕ) (c : Cursor) (ws : List ℕ) → CursorFits file c → Inside (loadedOf file) (totalOf file) (acts (totalOf file) (sizeOf file) at c ws)
   unfolding acts
   inside at c [] s = tt
-  inside at c (w ∷ ws) s = go (stepOf (totalOf file) (sizeOf file) c w) refl (λ d e. inside (at + 4) d ws (step-sane file c w d s e))
+  inside at c (w ∷ ws) s = go (stepOf (totalOf file) (sizeOf file) c w) refl (λ d e. inside (at + 4) d ws (step-fits file c w d s e))
     where
       go : (r : Next) → stepOf (totalOf file) (sizeOf file) c w ≡ r → ((d : Cursor) → stepOf (totalOf file) (sizeOf file) c w ≡ On d → Inside (loadedOf file) (totalOf file) (acts (totalOf file) (sizeOf file) (at + 4) d ws)) → Inside (loadedOf file) (totalOf file) (then r (actOf c at w) (λ d. acts (totalOf file) (sizeOf file) (at + 4) d ws))
       go (On d) e f = (act-fits file c at w d s e, f d e)
       go (Bad v) e f = tt
 
-  pub all-inside : Sound file → Inside (loadedOf file) (totalOf file) (actsOf file)
-  all-inside s = inside (startAt file) start (wordsFrom file (startAt file)) (start-sane file s)
+  pub all-inside : HeaderFits file → Inside (loadedOf file) (totalOf file) (actsOf file)
+  all-inside s = inside (startAt file) start (wordsFrom file (startAt file)) (start-fits file s)
 
 module _ (n t : ℕ) where
   within-acts : (us : List Act) → Inside n t us → Within n (targets us)
@@ -56,10 +57,10 @@ module _ (n t : ℕ) where
   keyed-acts (Store p w ∷ us) i = keyed-acts us (i .1)
   keyed-acts (Add p k b ∷ us) i = (i .0 .1, keyed-acts us (i .1))
 
-pub within-targets : (file : List ℕ) → Sound file → Within (loadedOf file) (targetsOf file)
+pub within-targets : (file : List ℕ) → HeaderFits file → Within (loadedOf file) (targetsOf file)
 within-targets file s = within-acts (loadedOf file) (totalOf file) (actsOf file) (all-inside file s)
 
-pub keyed-targets : (file : List ℕ) → Sound file → Keyed (totalOf file) (targetsOf file)
+pub keyed-targets : (file : List ℕ) → HeaderFits file → Keyed (totalOf file) (targetsOf file)
 keyed-targets file s = keyed-acts (loadedOf file) (totalOf file) (actsOf file) (all-inside file s)
 
 pub within-more : (n m : ℕ) (ts : List Target) → n ≤ m → Within n ts → Within m ts
@@ -68,18 +69,18 @@ within-more n m (t ∷ ts) h w = (omega (arith, w .0), within-more n m ts h (w .
 
 -- ---- lengths
 
-pub length-placed : (m : List ℕ) (us : List Act) → length (placed m us) ≡ length m
+pub length-withStored : (m : List ℕ) (us : List Act) → length (withStored m us) ≡ length m
 unfolding pass
-length-placed m [] = refl
-length-placed m (a ∷ us) = length-placed (place1 m a) us ∙ length-place1 m _ a refl
+length-withStored m [] = refl
+length-withStored m (a ∷ us) = length-withStored (storeOne m a) us ∙ length-storeOne m a
 
-pub length-listed : (file bases t : List ℕ) (us : List Act) → length (listed file bases t us) ≡ length t
+pub length-withRecords : (file bases t : List ℕ) (us : List Act) → length (withRecords file bases t us) ≡ length t
 unfolding pass
-length-listed file bases t [] = refl
-length-listed file bases t (a ∷ us) = length-listed file bases (entry1 file bases t a) us ∙ length-entry file bases t _ a refl
+length-withRecords file bases t [] = refl
+length-withRecords file bases t (a ∷ us) = length-withRecords file bases (recordOne file bases t a) us ∙ length-recordOne file bases t a
 
 pub length-bodies : (file m : List ℕ) → loadedOf file ≤ length m → length (bodiesOf file m) ≡ length m
 length-bodies file m h =
-    length-placed _ (actsOf file)
+    length-withStored _ (actsOf file)
     ∙ length-append (replicate (loadedOf file) 0) (drop (loadedOf file) m)
     ∙ omega (arith, length-replicate {A = ℕ} (loadedOf file) 0, length-drop (loadedOf file) m)

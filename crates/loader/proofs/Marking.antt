@@ -11,6 +11,8 @@ use lib.Dec.{ltb, eqb}
 use borrow.Author.Tests.{ltb-true, ltb-false}
 use types.Run.{OneOf}
 use denote.Enum.Declared.{tagOf}
+use Rattle.program.specs.Types as type
+use Rattle.answers.specs.Numbers as fault
 use Rattle.words.specs.Word.{wordAt, setWord}
 use Rattle.words.proofs.Words.{length-setWord, split, setWord-0, setWord-1, setWord-2, setWord-3, setWord-below, setWord-above}
 use Rattle.answers.specs.Tests.{pick}
@@ -27,32 +29,33 @@ use Rattle.program.specs.declared.reader.Next.the-variants.{On, Bad}
 use Rattle.program.specs.Header.{totalOf, sizeOf}
 use Rattle.program.specs.Reader.{start, stepOf}
 use Rattle.program.specs.Acts.{asks, actOf, actsFrom}
-use Rattle.program.specs.Sane.{Sound}
+use Rattle.program.specs.Cursors.{HeaderFits}
 use Rattle.program.specs.Runs.{Leads}
 use Rattle.program.proofs.Modes.{none}
 use Rattle.program.proofs.Walks.{Reads, reads-start, reads-on}
 use Rattle.program.proofs.Passes.{acts-on, acts-bad, acts-end}
 use Rattle.program.proofs.Runs.{leads-reads, leads-acts}
-use Rattle.loader.specs.Memory.{ActFits, targets}
-use Rattle.loader.specs.Near.{near, nearAny, clash, clashOf, marks1, Marks}
-use Rattle.loader.proofs.Acts.{calm-target}
+use Rattle.loader.specs.Memory.{loadedOf, targets}
+use Rattle.loader.specs.Near.{near, nearAny, clash, clashOf}
+use Rattle.loader.specs.Parts.{ActFits, marksOne, Marks}
+use Rattle.loader.proofs.Acts.{tagAdd, notAdd, quiet-target, reads-fits}
 
 -- ---- one act
 
-pub mark-rest : (m : List ℕ) (a : Act) → OneOf (0 ∷ 1 ∷ 2 ∷ []) (tagOf the-type a) → Marks m a false m
+pub mark-rest : (m : List ℕ) (a : Act) → OneOf notAdd (tagOf the-type a) → Marks m a false m
 unfolding pick
 mark-rest m Quiet h = record { marks = (refl, refl) }
 mark-rest m (Body x p k) h = record { marks = (refl, refl) }
 mark-rest m (Store p w) h = record { marks = (refl, refl) }
-mark-rest m (Add p k b) h = absurd (none (0 ∷ 1 ∷ 2 ∷ []) 3 tt h)
+mark-rest m (Add p k b) h = absurd (none notAdd tagAdd tt h)
 
 pub mark-met : (m : List ℕ) (a : Act) (p k b w : ℕ) → a ≡ Add p k b → w ≡ wordAt m p → (w ≡ 0 → ⊥) → Marks m a true m
-mark-met m a p k b w e q h = record { marks = subst (λ (x : Act). marks1 m x true m) (sym e) ((λ z. h (q ∙ z)), refl) }
+mark-met m a p k b w e q h = record { marks = subst (λ (x : Act). marksOne m x true m) (sym e) ((λ z. h (q ∙ z)), refl) }
 
 pub mark-new : (m n : List ℕ) (a : Act) (p k b w : ℕ) → a ≡ Add p k b → w ≡ wordAt m p → w ≡ 0 → n ≡ setWord m p 0x01010101 → Marks m a false n
-mark-new m n a p k b w e q h s = record { marks = subst (λ (x : Act). marks1 m x false n) (sym e) (sym q ∙ h, s) }
+mark-new m n a p k b w e q h s = record { marks = subst (λ (x : Act). marksOne m x false n) (sym e) (sym q ∙ h, s) }
 
-pub length-mark : (m n : List ℕ) (a : Act) (r : Bool) → Marks m a r n → length n ≡ length m
+length-mark : (m n : List ℕ) (a : Act) (r : Bool) → Marks m a r n → length n ≡ length m
 length-mark m n Quiet r h = ap length (h .marks .1)
 length-mark m n (Body x p k) r h = ap length (h .marks .1)
 length-mark m n (Store p w) r h = ap length (h .marks .1)
@@ -179,20 +182,36 @@ module _ (work seen : List ℕ) (m : Marked work seen) (p : ℕ) (fits : p + 4 �
 
 -- ---- the loop
 
-pub record Clashes (file work : List ℕ) (c : Cursor) (at : ℕ) : Type 0 where
+pub record Clashes (file work₀ work : List ℕ) (c : Cursor) (at : ℕ) : Type 0 where
   pub reads : Reads file c at
   pub seen : List ℕ
   pub marked : Marked work seen
   pub left : clashOf file ≡ clash seen (targets (actsFrom file at c))
+  pub long : length work ≡ length work₀
+  pub room : loadedOf file ≤ length work₀
 
-pub clash-start : (file work : List ℕ) (c : Cursor) (at t : ℕ) → Sound file → c ≡ start → t ≡ totalOf file → at ≡ 20 + 4 * t → ((k : ℕ) → getD work k 0 ≡ 0) → Clashes file work c at
-clash-start file work c at t s e k h z =
-    record { reads = reads-start file c at t s e k h; seen = []; marked = record { set1 = λ k l s. absurd s; set0 = λ k o. z k }; left = rw (e, h, k) }
+pub clash-start : (file work : List ℕ) (c : Cursor) (at t : ℕ) → HeaderFits file → length file % 4 ≡ 0 → c ≡ start → t ≡ totalOf file → at ≡ 20 + 4 * t → loadedOf file ≤ length work → ((k : ℕ) → getD work k 0 ≡ 0) → Clashes file work work c at
+clash-start file work c at t s v e k h m z =
+    record {
+      reads = reads-start file c at t s v e k h;
+      seen = [];
+      marked = record { set1 = λ k l s. absurd s; set0 = λ k o. z k };
+      left = rw (e, h, k);
+      long = refl;
+      room = m;
+    }
 
 -- words that ask for no target leave the rest as it is
-pub clash-past : (file work : List ℕ) {c d : Cursor} {at to : ℕ} → length file % 4 ≡ 0 → Clashes file work c at → Leads file c at d to → Clashes file work d to
-clash-past file work h i k =
-    record { reads = leads-reads file h k (i .reads); seen = i .seen; marked = i .marked; left = i .left ∙ ap (clash (i .seen)) (leads-acts targets file calm-target h k (i .reads)) }
+clash-past : (file work₀ work : List ℕ) {c d : Cursor} {at to : ℕ} → Clashes file work₀ work c at → Leads file c at d to → Clashes file work₀ work d to
+clash-past file work₀ work i k =
+    record {
+      reads = leads-reads file k (i .reads);
+      seen = i .seen;
+      marked = i .marked;
+      left = i .left ∙ ap (clash (i .seen)) (leads-acts targets file quiet-target k (i .reads));
+      long = i .long;
+      room = i .room;
+    }
 
 -- an offset names its own byte
 abbrev byteOf : Act → ℕ → ℕ
@@ -203,7 +222,7 @@ byteOf (Add p k b) at = b
 
 own-byte : (c : Cursor) (at w : ℕ) (m : Mode) → byteOf (asks c at w m) at ≡ at
 unfolding pick
-own-byte c at w mode.Begin = go (eqb w 0x3E8)
+own-byte c at w mode.Begin = go (eqb w type.name)
   where
     go : (b : Bool) → byteOf (pick b Quiet (Body (c .hunk) (c .place) w)) at ≡ at
     go true = refl
@@ -225,8 +244,8 @@ act-byte : (c : Cursor) (at w : ℕ) (a : Act) → a ≡ actOf c at w → byteOf
 unfolding actOf
 act-byte c at w a e = ap (λ (x : Act). byteOf x at) e ∙ own-byte c at w (c .mode)
 
-module _ (file work : List ℕ) (c : Cursor) (at : ℕ) (i : Clashes file work c at) where
-  met : (us : List Act) (n : List ℕ) (a : Act) (b : Bool) → byteOf a at ≡ at → ActFits (length work) 64 a → marks1 work a b n → b ≡ true → clash (i .seen) (targets (a ∷ us)) ≡ Failed (refusal 42 at)
+module _ (file work₀ work : List ℕ) (c : Cursor) (at : ℕ) (i : Clashes file work₀ work c at) where
+  met : (us : List Act) (n : List ℕ) (a : Act) (b : Bool) → byteOf a at ≡ at → ActFits (length work) type.mostHunks a → marksOne work a b n → b ≡ true → clash (i .seen) (targets (a ∷ us)) ≡ Failed (refusal fault.nearTargets at)
   unfolding clash targets pick
   met us n Quiet b y f k e = no-bool (sym (k .0) ∙ e)
   met us n (Body x p z) b y f k e = no-bool (sym (k .0) ∙ e)
@@ -234,28 +253,43 @@ module _ (file work : List ℕ) (c : Cursor) (at : ℕ) (i : Clashes file work c
   met us n (Add p x z) false y f k e = no-bool e
   met us n (Add p x z) true y f k e = rw (near-word work (i .seen) (i .marked) p (f .0) (k .0), y)
 
-  went : (d : Cursor) (n : List ℕ) (a : Act) (b : Bool) → Reads file d (at + 4) → ActFits (length work) 64 a → marks1 work a b n → b ≡ false → clashOf file ≡ clash (i .seen) (targets (a ∷ actsFrom file (at + 4) d)) → Clashes file n d (at + 4)
+  went : (d : Cursor) (n : List ℕ) (a : Act) (b : Bool) → Reads file d (at + 4) → length n ≡ length work₀ → ActFits (length work) type.mostHunks a → marksOne work a b n → b ≡ false → clashOf file ≡ clash (i .seen) (targets (a ∷ actsFrom file (at + 4) d)) → Clashes file work₀ n d (at + 4)
   unfolding clash targets pick
-  went d n Quiet b r f k y e = record { reads = r; seen = i .seen; marked = rw (k .1) (i .marked); left = e }
-  went d n (Body x p z) b r f k y e = record { reads = r; seen = i .seen; marked = rw (k .1) (i .marked); left = e }
-  went d n (Store p z) b r f k y e = record { reads = r; seen = i .seen; marked = rw (k .1) (i .marked); left = e }
-  went d n (Add p x z) true r f k y e = no-bool (sym y)
-  went d n (Add p x z) false r f k y e =
-      record { reads = r; seen = p ∷ i .seen; marked = rw (k .1) (marked-on work (i .seen) (i .marked) p (f .0)); left = e ∙ rw (far-word work (i .seen) (i .marked) p (f .0) (k .0)) }
+  went d n Quiet b r h f k y e = record { reads = r; seen = i .seen; marked = rw (k .1) (i .marked); left = e; long = h; room = i .room }
+  went d n (Body x p z) b r h f k y e = record { reads = r; seen = i .seen; marked = rw (k .1) (i .marked); left = e; long = h; room = i .room }
+  went d n (Store p z) b r h f k y e = record { reads = r; seen = i .seen; marked = rw (k .1) (i .marked); left = e; long = h; room = i .room }
+  went d n (Add p x z) true r h f k y e = no-bool (sym y)
+  went d n (Add p x z) false r h f k y e =
+      record {
+        reads = r;
+        seen = p ∷ i .seen;
+        marked = rw (k .1) (marked-on work (i .seen) (i .marked) p (f .0));
+        left = e ∙ rw (far-word work (i .seen) (i .marked) p (f .0) (k .0));
+        long = h;
+        room = i .room;
+      }
 
-  module _ (w : ℕ) (r : Next) (h : length file % 4 ≡ 0) (l : at < length file) (p : w ≡ wordAt file at) (q : r ≡ stepOf (totalOf file) (sizeOf file) c w) where
+  pub mark-long : (a : Act) (b : Bool) (n : List ℕ) → Marks work a b n → length n ≡ length work₀
+  mark-long a b n k = length-mark work n a b k ∙ i .long
+
+  module _ (w : ℕ) (r : Next) (l : at < length file) (p : w ≡ wordAt file at) (q : r ≡ stepOf (totalOf file) (sizeOf file) c w) where
     pub clash-bad : (v : ℕ) → r ≡ Bad v → Passed ≡ clashOf file
     unfolding clash targets
-    clash-bad v e = sym (i .left ∙ ap (λ us. clash (i .seen) (targets us)) (acts-bad file at c w r h (i .reads) l p q v e))
+    clash-bad v e = sym (i .left ∙ ap (λ us. clash (i .seen) (targets us)) (acts-bad file at c w r (i .reads) l p q v e))
 
-    module _ (d : Cursor) (a : Act) (n : List ℕ) (b : Bool) (e : r ≡ On d) (x : a ≡ actOf c at w) (f : ActFits (length work) 64 a) (k : Marks work a b n) where
-      pub clash-met : b ≡ true → Failed (refusal 42 at) ≡ clashOf file
-      clash-met y =
-          sym (i .left ∙ ap (λ us. clash (i .seen) (targets us)) (acts-on file at c w r h (i .reads) l p q d a e x) ∙ met _ n a b (act-byte c at w a x) f (k .marks) y)
+    module _ (d : Cursor) (a : Act) (e : r ≡ On d) (x : a ≡ actOf c at w) where
+      pub mark-fits : ActFits (length work) type.mostHunks a
+      mark-fits = reads-fits file c at w r d a (i .reads) q e x (length work) type.mostHunks (omega (arith, i .long, i .room)) (i .reads .fits .header .few)
 
-      pub clash-on : b ≡ false → Clashes file n d (at + 4)
-      clash-on y =
-          went d n a b (reads-on file c at w r d (i .reads) h l p q e) f (k .marks) y (i .left ∙ ap (λ us. clash (i .seen) (targets us)) (acts-on file at c w r h (i .reads) l p q d a e x))
+      module _ (n : List ℕ) (b : Bool) (k : Marks work a b n) where
+        pub clash-met : b ≡ true → Failed (refusal fault.nearTargets at) ≡ clashOf file
+        clash-met y =
+            sym (i .left ∙ ap (λ us. clash (i .seen) (targets us)) (acts-on file at c w r (i .reads) l p q d a e x) ∙ met _ n a b (act-byte c at w a x) mark-fits (k .marks) y)
+
+        pub clash-turn : b ≡ false → (c′ : Cursor) (to : ℕ) → Leads file d (at + 4) c′ to → Clashes file work₀ n c′ to
+        clash-turn y c′ to =
+            clash-past file work₀ n
+            (went d n a b (reads-on file c at w r d (i .reads) l p q e) (mark-long a b n k) mark-fits (k .marks) y (i .left ∙ ap (λ us. clash (i .seen) (targets us)) (acts-on file at c w r (i .reads) l p q d a e x)))
 
   pub clash-end : length file ≤ at → Passed ≡ clashOf file
   unfolding clash targets

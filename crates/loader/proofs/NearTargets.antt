@@ -7,6 +7,7 @@ use mathlib.Core.Logic.{_↔_, _⊎_, inl, inr, ⊎-elim}
 use native.Mathlib.Omega.{arith}
 use lib.Dec.{ltb}
 use borrow.Author.Tests.{ltb-true, lt-ltb}
+use Rattle.answers.specs.Numbers as fault
 use Rattle.words.specs.Shift.{Target}
 use Rattle.words.proofs.Words.{Far}
 use Rattle.words.proofs.Shifts.{FarAll, Apart}
@@ -28,12 +29,12 @@ pub record ClashWhy (ts : List Target) (f : Refusal) : Type 0 where
   pub target : Target
   pub after : List Target
   pub split : ts ≡ before ++ (target ∷ after)
-  pub said : f ≡ refusal 42 (target .byte)
+  pub said : f ≡ refusal fault.nearTargets (target .byte)
   pub first : clash [] before ≡ Passed
   pub other : Target
   pub among : (other ∈ before)
-  pub below : target .place < other .place + 4
-  pub above : other .place < target .place + 4
+  pub below : target .loadedAt < other .loadedAt + 4
+  pub above : other .loadedAt < target .loadedAt + 4
 
 near-there : (p : ℕ) (seen : List ℕ) → nearAny p seen ≡ true → (q : ℕ) × Among q seen × (p < q + 4) × (q < p + 4)
 unfolding nearAny
@@ -50,9 +51,9 @@ near-back p q [] a h k = absurd a
 near-back p q (x ∷ xs) (inl e) h k = or-left (near p x) _ (subst (λ (z : ℕ). near p z ≡ true) e (rw (lt-ltb p (q + 4) h) (lt-ltb q (p + 4) k)))
 near-back p q (x ∷ xs) (inr a) h k = or-right (near p x) _ (near-back p q xs a h k)
 
--- seen before, or the place of a target in us
+-- seen before, or the byte of a target in us
 abbrev Before : List ℕ → List Target → ℕ → Type 0
-Before seen us q = Among q seen ⊎ ((u : Target) × (u ∈ us) × (q ≡ u .place))
+Before seen us q = Among q seen ⊎ ((u : Target) × (u ∈ us) × (q ≡ u .loadedAt))
 
 abbrev Clashes : List ℕ → List Target → Refusal → Type 0
 Clashes seen ts f =
@@ -60,43 +61,43 @@ Clashes seen ts f =
     × (t : Target)
     × (vs : List Target)
     × (ts ≡ us ++ (t ∷ vs))
-    × (f ≡ refusal 42 (t .byte))
+    × (f ≡ refusal fault.nearTargets (t .byte))
     × (clash seen us ≡ Passed)
     × (q : ℕ)
     × Before seen us q
-    × (t .place < q + 4)
-    × (q < t .place + 4)
+    × (t .loadedAt < q + 4)
+    × (q < t .loadedAt + 4)
 
 clash-from : (seen : List ℕ) (ts : List Target) (f : Refusal) → clash seen ts ≡ Failed f → Clashes seen ts f
 unfolding clash
 clash-from seen [] f h = not-failed h
-clash-from seen (s ∷ ts) f h = go (pick-failed (nearAny (s .place) seen) (refusal 42 (s .byte)) (clash (s .place ∷ seen) ts) f h) (clash-from (s .place ∷ seen) ts f)
+clash-from seen (s ∷ ts) f h = go (pick-failed (nearAny (s .loadedAt) seen) (refusal fault.nearTargets (s .byte)) (clash (s .loadedAt ∷ seen) ts) f h) (clash-from (s .loadedAt ∷ seen) ts f)
   where
-    earlier : (us : List Target) (q : ℕ) → Before (s .place ∷ seen) us q → Before seen (s ∷ us) q
+    earlier : (us : List Target) (q : ℕ) → Before (s .loadedAt ∷ seen) us q → Before seen (s ∷ us) q
     earlier us q (inl (inl e)) = inr (s, inl refl, e)
     earlier us q (inl (inr a)) = inl a
     earlier us q (inr x) = inr (x .0, inr (x .1), x .2)
 
-    go : ((nearAny (s .place) seen ≡ true) × (f ≡ refusal 42 (s .byte))) ⊎ ((nearAny (s .place) seen ≡ false) × (clash (s .place ∷ seen) ts ≡ Failed f)) → (clash (s .place ∷ seen) ts ≡ Failed f → Clashes (s .place ∷ seen) ts f) → Clashes seen (s ∷ ts) f
-    go (inl x) g = let r = near-there (s .place) seen (x .0) in ([], s, ts, refl, x .1, refl, r .0, inl (r .1), r .2, r .3)
+    go : ((nearAny (s .loadedAt) seen ≡ true) × (f ≡ refusal fault.nearTargets (s .byte))) ⊎ ((nearAny (s .loadedAt) seen ≡ false) × (clash (s .loadedAt ∷ seen) ts ≡ Failed f)) → (clash (s .loadedAt ∷ seen) ts ≡ Failed f → Clashes (s .loadedAt ∷ seen) ts f) → Clashes seen (s ∷ ts) f
+    go (inl x) g = let r = near-there (s .loadedAt) seen (x .0) in ([], s, ts, refl, x .1, refl, r .0, inl (r .1), r .2, r .3)
     go (inr x) g =
         let r = g (x .1) in
         (s ∷ r .0, r .1, r .2, ap (λ (l : List Target). s ∷ l) (r .3), r .4, pick-goes _ _ _ _ (x .0) (r .5), r .6, earlier (r .0) (r .6) (r .7), r .8, r .9)
 
-clash-then : (seen : List ℕ) (us : List Target) (t : Target) (vs : List Target) (q : ℕ) → clash seen us ≡ Passed → Before seen us q → t .place < q + 4 → q < t .place + 4 → clash seen (us ++ (t ∷ vs)) ≡ Failed (refusal 42 (t .byte))
+clash-then : (seen : List ℕ) (us : List Target) (t : Target) (vs : List Target) (q : ℕ) → clash seen us ≡ Passed → Before seen us q → t .loadedAt < q + 4 → q < t .loadedAt + 4 → clash seen (us ++ (t ∷ vs)) ≡ Failed (refusal fault.nearTargets (t .byte))
 unfolding clash
-clash-then seen [] t vs q c b h k = pick-fails _ _ _ (near-back (t .place) q seen (old b) h k)
+clash-then seen [] t vs q c b h k = pick-fails _ _ _ (near-back (t .loadedAt) q seen (old b) h k)
   where
     old : Before seen [] q → Among q seen
     old (inl a) = a
     old (inr x) = absurd (x .1)
 clash-then seen (s ∷ us) t vs q c b h k =
-    let p = pick-passed (nearAny (s .place) seen) (refusal 42 (s .byte)) (clash (s .place ∷ seen) us) c in
-    pick-goes _ _ _ _ (p .0) (clash-then (s .place ∷ seen) us t vs q (p .1) (later b) h k)
+    let p = pick-passed (nearAny (s .loadedAt) seen) (refusal fault.nearTargets (s .byte)) (clash (s .loadedAt ∷ seen) us) c in
+    pick-goes _ _ _ _ (p .0) (clash-then (s .loadedAt ∷ seen) us t vs q (p .1) (later b) h k)
   where
-    later : Before seen (s ∷ us) q → Before (s .place ∷ seen) us q
+    later : Before seen (s ∷ us) q → Before (s .loadedAt ∷ seen) us q
     later (inl a) = inl (inr a)
-    later (inr (u, inl e, d)) = inl (inl (d ∙ ap (λ (x : Target). x .place) e))
+    later (inr (u, inl e, d)) = inl (inl (d ∙ ap (λ (x : Target). x .loadedAt) e))
     later (inr (u, inr m, d)) = inr (u, m, d)
 
 module _ (ts : List Target) (f : Refusal) where
@@ -112,7 +113,7 @@ module _ (ts : List Target) (f : Refusal) where
   clash-back : ClashWhy ts f → clash [] ts ≡ Failed f
   clash-back r =
       ap (clash []) (r .split)
-      ∙ clash-then [] (r .before) (r .target) (r .after) (r .other .place) (r .first) (inr (r .other, r .among, refl)) (r .below) (r .above)
+      ∙ clash-then [] (r .before) (r .target) (r .after) (r .other .loadedAt) (r .first) (inr (r .other, r .among, refl)) (r .below) (r .above)
       ∙ ap Failed (sym (r .said))
 
   pub clash-why : (clash [] ts ≡ Failed f) ↔ ClashWhy ts f
@@ -129,9 +130,9 @@ none-near p seen g = go (nearAny p seen) refl
 clash-passes : (seen : List ℕ) (ts : List Target) → Apart ts → ((q : ℕ) → Among q seen → FarAll q ts) → clash seen ts ≡ Passed
 unfolding clash
 clash-passes seen [] a g = refl
-clash-passes seen (t ∷ ts) a g = pick-goes _ _ _ _ (none-near (t .place) seen (λ q x. g q x .0)) (clash-passes (t .place ∷ seen) ts (a .1) far)
+clash-passes seen (t ∷ ts) a g = pick-goes _ _ _ _ (none-near (t .loadedAt) seen (λ q x. g q x .0)) (clash-passes (t .loadedAt ∷ seen) ts (a .1) far)
   where
-    far : (q : ℕ) → Among q (t .place ∷ seen) → FarAll q ts
+    far : (q : ℕ) → Among q (t .loadedAt ∷ seen) → FarAll q ts
     far q (inl e) = subst (λ (z : ℕ). FarAll z ts) (sym e) (a .0)
     far q (inr x) = g q x .1
 

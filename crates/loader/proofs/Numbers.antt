@@ -1,9 +1,10 @@
 -- The answer of a load and of a move as numbers: which numbers a refusal has, and that 0 is no refusal. Assumes nothing.
 use Prim.Native.Nat.{ℕ, _/_}
-use mathlib.Core.Path.{_≡_, sym, ap, _∙_}
+use mathlib.Core.Path.{_≡_, sym, _∙_}
 use mathlib.Core.List.{List, [], _∷_}
 use mathlib.Core.Logic.{_↔_, inl, inr}
 use lib.ListN.{length}
+use Rattle.answers.specs.Numbers as fault
 use Rattle.answers.specs.Members.{_∈_}
 use Rattle.answers.specs.Refusals.{refusal}
 use Rattle.answers.specs.declared.Refusal.{Refusal}
@@ -19,9 +20,9 @@ use Rattle.loader.proofs.PageVerdicts.{load-refused, move-refused}
 -- the number of a refused call is one of these
 call-number : (file : List ℕ) (lists : List (List ℕ)) (m r w : ℕ) (f : Refusal) → CallWhy file lists m r w f → f .number ∈ callRefusals
 call-number file lists m r w f (inl x) = in-part checkRefusals callRefusals (f .number) tt (check-number file f x)
-call-number file lists m r w f (inr (hs, h, p, inl (e, y))) = rw e (listed callRefusals 40 tt)
-call-number file lists m r w f (inr (hs, h, p, inr (inl (e, y)))) = rw e (listed callRefusals 41 tt)
-call-number file lists m r w f (inr (hs, h, p, inr (inr (e, y)))) = rw e (listed callRefusals 42 tt)
+call-number file lists m r w f (inr (hs, h, p, inl (e, y))) = rw e (listed callRefusals fault.badBase tt)
+call-number file lists m r w f (inr (hs, h, p, inr (inl (e, y)))) = rw e (listed callRefusals fault.shortRoom tt)
+call-number file lists m r w f (inr (hs, h, p, inr (inr (e, y)))) = rw e (listed callRefusals fault.nearTargets tt)
 
 module _ (file : List ℕ) (m r w : ℕ) (f : Refusal) where
   pub load-number : (bases : List ℕ) → loadAnswer file bases m r w ≡ Refused f → f .number ∈ callRefusals

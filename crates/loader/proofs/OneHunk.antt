@@ -6,10 +6,11 @@ use mathlib.Core.Logic.{_⊎_, inl, inr, ⊎-elim}
 use mathlib.Core.List.{List, [], _∷_, _++_, append-assoc}
 use native.Mathlib.Omega.{arith}
 use native.Mathlib.Decide.{decLt}
-use lib.ListN.{length, take}
+use lib.ListN.{length}
+use Rattle.program.specs.Types as type
 use Rattle.words.specs.Word.{wordAt, wordsAt}
 use Rattle.answers.proofs.Clashes.{impossible}
-use Rattle.program.specs.Page.{Group, Part, Hunk, relocation, symbols, debug, joined, nameWords, bodyWords, groupWords, symbolWords, partWords, hunkWords, written, headWords, Each, storedWords, OffsetFits, GroupFits, PartFits, HunkFits, Holds, total}
+use Rattle.program.specs.Page.{Group, Part, Hunk, relocation, symbols, debug, joined, nameWords, bodyWords, groupWords, partWords, hunkWords, Each, storedWords, OffsetFits, GroupFits, PartFits, HunkFits, Holds, total}
 use Rattle.program.specs.Header.{startAt}
 use Rattle.program.proofs.Heading.{split}
 use Rattle.program.proofs.Pages.{is-total, rest-words}
@@ -72,7 +73,7 @@ place-most (h ∷ hs) (suc i) = omega (arith, place-most hs i)
 
 module _ (file : List ℕ) (places sizes : ℕ → ℕ) where
   abbrev Stands : PageTarget → Type 0
-  Stands x = (x .place ≡ places (x .hunk) + wordAt file (x .byte)) × (wordAt file (x .byte) + 4 ≤ 4 * sizes (x .hunk))
+  Stands x = (x .loadedAt ≡ places (x .hunk) + wordAt file (x .byte)) × (wordAt file (x .byte) + 4 ≤ 4 * sizes (x .hunk))
 
   module _ (t n i p : ℕ) (ep : places i ≡ p) (en : n ≤ sizes i) where
     offsets-stand : (k : ℕ) (os rest : List ℕ) (at m : ℕ) → Each (OffsetFits n) os → wordsAt file at m ≡ os ++ rest → Each Stands (offsetsAt i p k at os)
@@ -99,7 +100,7 @@ module _ (file : List ℕ) (places sizes : ℕ → ℕ) where
     parts-stand (relocation gs ∷ ps) rest at m f e =
         let q = e ∙ append-assoc (partWords (relocation gs)) (joined partWords ps) rest in
         let s = split file (partWords (relocation gs)) (joined partWords ps ++ rest) at m q in
-        let u = split file (0x3EC ∷ []) (joined groupWords gs ++ (0 ∷ (joined partWords ps ++ rest))) at m (q ∙ ap (λ (l : List ℕ). 0x3EC ∷ l) (append-assoc (joined groupWords gs) (0 ∷ []) (joined partWords ps ++ rest))) in
+        let u = split file (type.relocation ∷ []) (joined groupWords gs ++ (0 ∷ (joined partWords ps ++ rest))) at m (q ∙ ap (λ (l : List ℕ). type.relocation ∷ l) (append-assoc (joined groupWords gs) (0 ∷ []) (joined partWords ps ++ rest))) in
         each-append Stands (groupsAt i p (at + 4) gs) (partsAt i p (at + 4 * length (partWords (relocation gs))) ps)
         (groups-stand gs _ (at + 4) (m - 1) (f .0) (u .others))
         (parts-stand ps rest _ _ (f .1) (s .others))
@@ -119,11 +120,11 @@ module _ (file : List ℕ) (places sizes : ℕ → ℕ) where
       let ep : places i ≡ p = omega (arith, rw o at (g 0)) in
       let es : sizes i ≡ h .size = rw o at (z 0) in
       let en : n ≤ sizes i = omega (arith, es, stored-fit (h .body), f .0 .body) in
-      let q : hunkWords h ++ rest ≡ front ++ (parts ++ (0x3F2 ∷ rest)) = simp append-assoc in
+      let q : hunkWords h ++ rest ≡ front ++ (parts ++ (type.end ∷ rest)) = simp append-assoc in
       let s = split file (hunkWords h) rest at m e in
-      let u = split file front (parts ++ (0x3F2 ∷ rest)) at m (e ∙ q) in
+      let u = split file front (parts ++ (type.end ∷ rest)) at m (e ∙ q) in
       each-append Stands (hunkAt i p at h) (hunksAt (i + 1) (p + 4 * h .size) (at + 4 * length (hunkWords h)) hs)
-      (parts-stand t n i p ep en (h .parts) (0x3F2 ∷ rest) _ _ (f .0 .parts) (u .others))
+      (parts-stand t n i p ep en (h .parts) (type.end ∷ rest) _ _ (f .0 .parts) (u .others))
       (hunks-stand t hs (i + 1) (p + 4 * h .size) _ _ (f .1)
       (λ k. let y : i + suc k ≡ i + 1 + k = omega arith in omega (arith, rw y at (g (suc k))))
       (λ k. let y : i + suc k ≡ i + 1 + k = omega arith in rw y at (z (suc k)))
@@ -135,18 +136,18 @@ module _ (file : List ℕ) (hs : List Hunk) (held : Holds file hs) where
   -- The file's word at a target's byte is its offset in its hunk.
   pub targets-named : Each (Named file hs) (fileTargets hs)
   targets-named =
-      let q : startAt file ≡ 20 + 4 * length hs = omega (arith, is-total file hs (held .fits) (held .even) (held .words)) in
-      let e = rest-words file hs (held .fits) (held .even) (held .words) in
-      each-more (Stands file (hunkPlace hs) (sizeAt hs)) (Named file hs) (fileTargets hs) (λ x a. record { place = a .0; within = a .1 })
+      let q : startAt file ≡ 20 + 4 * length hs = omega (arith, is-total file hs (held .fits) (held .whole) (held .words)) in
+      let e = rest-words file hs (held .fits) (held .whole) (held .words) in
+      each-more (Stands file (hunkPlace hs) (sizeAt hs)) (Named file hs) (fileTargets hs) (λ x a. record { loadedAt = a .0; within = a .1 })
       (hunks-stand file (hunkPlace hs) (sizeAt hs) (length hs) hs 0 0 (20 + 4 * length hs) ((length file - startAt file) / 4) (held .fits .hunks) (λ k. let y : 0 + k ≡ k = omega arith in rw y (omega arith)) (λ k. let y : 0 + k ≡ k = omega arith in rw y) (rw (← q) e))
 
   module _ (x y : PageTarget) (a : Named file hs x) (b : Named file hs y) where
     -- a target of an earlier hunk stands before one of a later hunk
-    in-order : x .hunk < y .hunk → x .place + 4 ≤ y .place
-    in-order l = omega (arith, a .place, a .within, b .place, place-next hs (x .hunk), place-up hs (suc (x .hunk)) (y .hunk) (omega arith))
+    in-order : x .hunk < y .hunk → x .loadedAt + 4 ≤ y .loadedAt
+    in-order l = omega (arith, a .loadedAt, a .within, b .loadedAt, place-next hs (x .hunk), place-up hs (suc (x .hunk)) (y .hunk) (omega arith))
 
   -- Targets that are near are of one hunk.
-  pub near-one-hunk : (x y : PageTarget) → Named file hs x → Named file hs y → x .place < y .place + 4 → y .place < x .place + 4 → x .hunk ≡ y .hunk
+  pub near-one-hunk : (x y : PageTarget) → Named file hs x → Named file hs y → x .loadedAt < y .loadedAt + 4 → y .loadedAt < x .loadedAt + 4 → x .hunk ≡ y .hunk
   near-one-hunk x y a b u v = go (decLt (x .hunk) (y .hunk)) (decLt (y .hunk) (x .hunk))
     where
       go : Dec (x .hunk < y .hunk) → Dec (y .hunk < x .hunk) → x .hunk ≡ y .hunk
@@ -155,7 +156,7 @@ module _ (file : List ℕ) (hs : List Hunk) (held : Holds file hs) where
       go (no l) (no k) = omega (arith, l, k)
 
   -- all targets lie in the hunks
-  pub page-within : Each (λ x. x .place + 4 ≤ 4 * total hs) (fileTargets hs)
+  pub page-within : Each (λ x. x .loadedAt + 4 ≤ 4 * total hs) (fileTargets hs)
   page-within =
-      each-more (Named file hs) (λ x. x .place + 4 ≤ 4 * total hs) (fileTargets hs)
-      (λ x a. omega (arith, a .place, a .within, place-next hs (x .hunk), place-most hs (suc (x .hunk)))) targets-named
+      each-more (Named file hs) (λ x. x .loadedAt + 4 ≤ 4 * total hs) (fileTargets hs)
+      (λ x a. omega (arith, a .loadedAt, a .within, place-next hs (x .hunk), place-most hs (suc (x .hunk)))) targets-named

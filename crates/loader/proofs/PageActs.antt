@@ -8,6 +8,7 @@ use native.Mathlib.Omega.{arith}
 use lib.ListN.{length, length-append}
 use lib.Dec.{eqb}
 use borrow.Author.Tests.{lt-ltb, le-ltb, lt-leb, eq-eqb, ne-eqb}
+use Rattle.program.specs.Types as type
 use Rattle.words.specs.Word.{wordsAt}
 use Rattle.answers.specs.Tests.{pick}
 use Rattle.program.specs.declared.act.Act.{Act}
@@ -49,7 +50,7 @@ storing p i (w ∷ ws) l = act.Store (p + 4 * i) w ∷ storing p (i + 1) ws l
 -- targets, then l
 abbrev pub adding : List PageTarget → List Act → List Act
 adding [] l = l
-adding (x ∷ xs) l = act.Add (x .place) (x .named) (x .byte) ∷ adding xs l
+adding (x ∷ xs) l = act.Add (x .loadedAt) (x .named) (x .byte) ∷ adding xs l
 
 -- hunk h at byte p, from byte `at` of the file on, then l
 abbrev pub hunkActs : ℕ → ℕ → ℕ → Hunk → List Act → List Act
@@ -62,7 +63,7 @@ pageActs h p at (x ∷ xs) = hunkActs h p at x (pageActs (h + 1) (p + 4 * x .siz
 
 adding-append : (xs ys : List PageTarget) (l : List Act) → adding (xs ++ ys) l ≡ adding xs (adding ys l)
 adding-append [] ys l = refl
-adding-append (x ∷ xs) ys l = ap (λ (k : List Act). act.Add (x .place) (x .named) (x .byte) ∷ k) (adding-append xs ys l)
+adding-append (x ∷ xs) ys l = ap (λ (k : List Act). act.Add (x .loadedAt) (x .named) (x .byte) ∷ k) (adding-append xs ys l)
 
 -- ---- the reader, piece by piece: a piece stands at byte `at`, and what follows it at byte `to`
 
@@ -192,15 +193,15 @@ module _ (t : ℕ) (size : ℕ → ℕ) where
     body-on (bss m) s rest at to l e k g = let q : at + 4 + 4 ≡ to = omega arith in step _ _ at _ _ (step _ _ (at + 4) _ _ (rw (le-ltb (size h) m k, q) g))
 
     -- no name
-    begin-body : (s w at : ℕ) (ws : List ℕ) (l : List Act) → eqb w 0x3E8 ≡ false → Gives (cursor mode.Body h p s) at (w ∷ ws) l → Gives (cursor mode.Begin h p s) at (w ∷ ws) l
+    begin-body : (s w at : ℕ) (ws : List ℕ) (l : List Act) → eqb w type.name ≡ false → Gives (cursor mode.Body h p s) at (w ∷ ws) l → Gives (cursor mode.Begin h p s) at (w ∷ ws) l
     unfolding pick acts stepOf actOf
     begin-body s w at ws l e g = rw e g
 
     begin-on : (x : Name) (b : Body) (s : ℕ) (rest : List ℕ) (at to : ℕ) (l : List Act) → at + 4 * length (nameWords x ++ bodyWords b) ≡ to → bodyCount b ≤ size h → Gives (cursor mode.Part h p (length (storedWords b))) to rest l → Gives (cursor mode.Begin h p s) at (nameWords x ++ (bodyWords b ++ rest)) (act.Body h p (kindOf b) ∷ storing p 0 (storedWords b) l)
     unfolding pick
-    begin-on none (code ws) s rest at to l e k g = begin-body s 0x3E9 at _ _ refl (body-on (code ws) s rest at to l e k g)
-    begin-on none (stores ws) s rest at to l e k g = begin-body s 0x3EA at _ _ refl (body-on (stores ws) s rest at to l e k g)
-    begin-on none (bss m) s rest at to l e k g = begin-body s 0x3EB at _ _ refl (body-on (bss m) s rest at to l e k g)
+    begin-on none (code ws) s rest at to l e k g = begin-body s type.code at _ _ refl (body-on (code ws) s rest at to l e k g)
+    begin-on none (stores ws) s rest at to l e k g = begin-body s type.stores at _ _ refl (body-on (stores ws) s rest at to l e k g)
+    begin-on none (bss m) s rest at to l e k g = begin-body s type.bss at _ _ refl (body-on (bss m) s rest at to l e k g)
     begin-on (named us) b s rest at to l e k g =
         let mid : ℕ = at + 4 * suc (suc (length us)) in
         let q : mid + 4 * length (bodyWords b) ≡ to = omega (arith, length-append us (bodyWords b)) in
@@ -221,8 +222,8 @@ module _ (t : ℕ) (size : ℕ → ℕ) where
       let mid : ℕ = at + 4 * length (nameWords (x .name) ++ bodyWords (x .body)) in
       let end : ℕ = mid + 4 * length (joined partWords (x .parts)) in
       let q : end + 4 ≡ at + 4 * length (hunkWords x) = omega (arith, hunk-length x) in
-      let y = parts-on h p n (x .parts) (0x3F2 ∷ rest) mid end l refl (f .parts) (step _ _ end _ l (rw q g)) in
-      simp append-assoc (begin-on h p (x .name) (x .body) 0 (joined partWords (x .parts) ++ (0x3F2 ∷ rest)) at mid _ refl k y)
+      let y = parts-on h p n (x .parts) (type.end ∷ rest) mid end l refl (f .parts) (step _ _ end _ l (rw q g)) in
+      simp append-assoc (begin-on h p (x .name) (x .body) 0 (joined partWords (x .parts) ++ (type.end ∷ rest)) at mid _ refl k y)
 
   hunks-on : (hs : List Hunk) (h p at : ℕ) → Sized t size h hs → Front h p at (joined hunkWords hs) (pageActs h p at hs)
   unfolding pick acts plain
@@ -234,8 +235,8 @@ module _ (t : ℕ) (size : ℕ → ℕ) where
 -- what such a file asks for
 pub page-acts : (file : List ℕ) (hs : List Hunk) → Program hs → length file % 4 ≡ 0 → wordsAt file 0 (length file / 4) ≡ written hs → plain (actsOf file) ≡ pageActs 0 0 (20 + 4 * length hs) hs
 unfolding pick
-page-acts file hs p even e =
-    let l : 0 ≡ totalOf file → ⊥ = λ z. omega (arith, is-total file hs p even e, p .least) in
-    let g = hunks-on (totalOf file) (sizeOf file) hs 0 0 (startAt file) (all-sized file hs p even e) in
-    let q : startAt file ≡ 20 + 4 * length hs = omega (arith, is-total file hs p even e) in
-    rw (rest-words file hs p even e) (rw (ne-eqb 0 (totalOf file) l) at g) ∙ ap (λ (k : ℕ). pageActs 0 0 k hs) q
+page-acts file hs p whole e =
+    let l : 0 ≡ totalOf file → ⊥ = λ z. omega (arith, is-total file hs p whole e, p .least) in
+    let g = hunks-on (totalOf file) (sizeOf file) hs 0 0 (startAt file) (all-sized file hs p whole e) in
+    let q : startAt file ≡ 20 + 4 * length hs = omega (arith, is-total file hs p whole e) in
+    rw (rest-words file hs p whole e) (rw (ne-eqb 0 (totalOf file) l) at g) ∙ ap (λ (k : ℕ). pageActs 0 0 k hs) q

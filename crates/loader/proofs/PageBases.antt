@@ -5,6 +5,7 @@ use mathlib.Core.Logic.{_↔_, inl, inr}
 use mathlib.Core.List.{List, [], _∷_}
 use native.Mathlib.Omega.{arith}
 use lib.ListN.{length}
+use Rattle.answers.specs.Numbers as fault
 use Rattle.answers.specs.Refusals.{refusal}
 use Rattle.answers.specs.declared.Refusal.{Refusal}
 use Rattle.answers.specs.declared.Tested.the-variants.{Passed, Failed}
@@ -49,12 +50,12 @@ sized-at t size (x ∷ xs) h (suc i) f l =
 module _ (file : List ℕ) (hs : List Hunk) (held : Holds file hs) where
   -- the header has the number and the sizes of the hunks
   pub held-total : totalOf file ≡ length hs
-  held-total = is-total file hs (held .fits) (held .even) (held .words)
+  held-total = is-total file hs (held .fits) (held .whole) (held .words)
 
   pub held-size : (i : ℕ) → i < length hs → sizeOf file i ≡ sizeAt hs i
   held-size i l =
       let z : 0 + i ≡ i = omega arith in
-      ap (sizeOf file) (sym z) ∙ sized-at (totalOf file) (sizeOf file) hs 0 i (all-sized file hs (held .fits) (held .even) (held .words)) l
+      ap (sizeOf file) (sym z) ∙ sized-at (totalOf file) (sizeOf file) hs 0 i (all-sized file hs (held .fits) (held .whole) (held .words)) l
 
   module _ (bases : List ℕ) where
     page-good : (i : ℕ) → i < length hs → GoodEntry (sizeOf file) bases i ↔ GoodEntry (sizeAt hs) bases i
@@ -84,16 +85,16 @@ module _ (file : List ℕ) (hs : List Hunk) (held : Holds file hs) where
             (g .count ∙ sym held-total, λ i l. let k : i < length hs = omega (arith, l, held-total) in entry-good file bases i .1 (page-good i k .1 (g .entries i k)))
 
     -- 40 is given exactly for a wrong count, or at the first bad entry.
-    pub bad-exactly : (from p : ℕ) → (basesFault file bases from ≡ Failed (refusal 40 p)) ↔ BadBases hs bases from p
-    bad-exactly from p = (λ h. there (bases-why file bases from (refusal 40 p) .0 h), λ h. bases-why file bases from (refusal 40 p) .1 (back h))
+    pub bad-exactly : (from p : ℕ) → (basesFault file bases from ≡ Failed (refusal fault.badBase p)) ↔ BadBases hs bases from p
+    bad-exactly from p = (λ h. there (bases-why file bases from (refusal fault.badBase p) .0 h), λ h. bases-why file bases from (refusal fault.badBase p) .1 (back h))
       where
-        there : BasesWhy file bases from (refusal 40 p) → BadBases hs bases from p
+        there : BasesWhy file bases from (refusal fault.badBase p) → BadBases hs bases from p
         there (inl x) = inl (λ e. x .1 (e ∙ sym held-total), ap (λ (f : Refusal). f .place) (x .0))
         there (inr (c, (i, l, e, b, g))) =
             let k : i < length hs = omega (arith, l, held-total) in
             inr (c ∙ held-total, (i, k, page-bad i k .0 (entry-why file bases i .0 b), λ j u. page-good j (omega arith) .0 (entry-good file bases j .0 (g j u)), ap (λ (f : Refusal). f .place) e))
 
-        back : BadBases hs bases from p → BasesWhy file bases from (refusal 40 p)
-        back (inl x) = inl (ap (refusal 40) (x .1), λ e. x .0 (e ∙ held-total))
+        back : BadBases hs bases from p → BasesWhy file bases from (refusal fault.badBase p)
+        back (inl x) = inl (ap (refusal fault.badBase) (x .1), λ e. x .0 (e ∙ held-total))
         back (inr (c, (i, k, b, g, e))) =
-            inr (c ∙ sym held-total, (i, omega (arith, k, held-total), ap (refusal 40) e, entry-why file bases i .1 (page-bad i k .1 b), λ j u. entry-good file bases j .1 (page-good j (omega arith) .1 (g j u))))
+            inr (c ∙ sym held-total, (i, omega (arith, k, held-total), ap (refusal fault.badBase) e, entry-why file bases i .1 (page-bad i k .1 b), λ j u. entry-good file bases j .1 (page-good j (omega arith) .1 (g j u))))

@@ -13,11 +13,11 @@ use Rattle.program.specs.Page.{Hunk, code, stores, bss, joined, hunkWords, writ
 use Rattle.program.specs.Page as page
 use Rattle.program.specs.Header.{totalOf, sizeOf}
 use Rattle.program.specs.Acts.{actsOf, pass}
-use Rattle.program.specs.Sane.{placeOf}
+use Rattle.program.specs.Cursors.{placeOf}
 use Rattle.program.proofs.Taken.{Sized}
 use Rattle.program.proofs.Pages.{is-total, all-sized}
-use Rattle.loader.specs.Memory.{loadedOf, place1, placed, targets, targetsOf, amountOf, bodiesOf, loadOf, moved, moveOf}
-use Rattle.loader.specs.Table.{entry1, listed, recordsOf}
+use Rattle.loader.specs.Memory.{loadedOf, storeOne, withStored, targets, targetsOf, amountOf, bodiesOf, loadOf, moved, moveOf}
+use Rattle.loader.specs.Table.{recordOne, withRecords, recordsOf}
 use Rattle.loader.specs.Pages.{PageTarget, kindOf, recordNumbers, wordBytes, hunkBytes, imageOf, hunkAt, hunksAt, fileTargets, bare, relocated}
 use Rattle.loader.proofs.PageActs.{plain, storing, adding, pageActs, page-acts}
 
@@ -41,7 +41,7 @@ module _ {X : Type 0} (g : X → Act → X) where
   pass-adding : ((x : X) (p k b : ℕ) → g x (Add p k b) ≡ x) → (x : X) (xs : List PageTarget) (l : List Act) → pass g x (adding xs l) ≡ pass g x l
   unfolding pass
   pass-adding still x [] l = refl
-  pass-adding still x (y ∷ xs) l = ap (λ (z : X). pass g z (adding xs l)) (still x (y .place) (y .named) (y .byte)) ∙ pass-adding still x xs l
+  pass-adding still x (y ∷ xs) l = ap (λ (z : X). pass g z (adding xs l)) (still x (y .loadedAt) (y .named) (y .byte)) ∙ pass-adding still x xs l
 
 -- ---- four numbers in a row
 
@@ -65,7 +65,7 @@ zeros-three a b c n more e = rw (e, ← replicate-append-replicate {A = ℕ} a (
 -- ---- records
 
 module _ (file bases : List ℕ) (t : ℕ) where
-  records-on : (hs : List Hunk) (h p at : ℕ) (done more : List ℕ) → Sized t (sizeOf file) h hs → length done ≡ 4 * h → listed file bases (done ++ (replicate (4 * length hs) 0 ++ more)) (pageActs h p at hs) ≡ done ++ (recordNumbers p h hs bases ++ more)
+  records-on : (hs : List Hunk) (h p at : ℕ) (done more : List ℕ) → Sized t (sizeOf file) h hs → length done ≡ 4 * h → withRecords file bases (done ++ (replicate (4 * length hs) 0 ++ more)) (pageActs h p at hs) ≡ done ++ (recordNumbers p h hs bases ++ more)
   unfolding pass
   records-on [] h p at done more f e = refl
   records-on (x ∷ xs) h p at done more f e =
@@ -74,13 +74,13 @@ module _ (file bases : List ℕ) (t : ℕ) where
       let more′ : List ℕ = replicate (4 * length xs) 0 ++ more in
       let q : List Act = pageActs (h + 1) (p + 4 * x .size) (at + 4 * length (hunkWords x)) xs in
       let r = records-on xs (h + 1) (p + 4 * x .size) (at + 4 * length (hunkWords x)) (done ++ four) more (f .2) k in
-      ap (λ (u : List ℕ). listed file bases (done ++ u) (pageActs h p at (x ∷ xs))) (four-more (length xs) more)
-      ∙ pass-storing (entry1 file bases) (λ u a b. refl) _ p 0 (storedWords (x .body)) (adding (hunkAt h p at x) q)
-      ∙ pass-adding (entry1 file bases) (λ u a b c. refl) _ (hunkAt h p at x) q
-      ∙ ap (λ (u : List ℕ). listed file bases u q) (four-at done more′ 0 0 0 0 (kindOf (x .body)) p (sizeOf file h) (amountOf bases h) (4 * h) e)
+      ap (λ (u : List ℕ). withRecords file bases (done ++ u) (pageActs h p at (x ∷ xs))) (four-more (length xs) more)
+      ∙ pass-storing (recordOne file bases) (λ u a b. refl) _ p 0 (storedWords (x .body)) (adding (hunkAt h p at x) q)
+      ∙ pass-adding (recordOne file bases) (λ u a b c. refl) _ (hunkAt h p at x) q
+      ∙ ap (λ (u : List ℕ). withRecords file bases u q) (four-at done more′ 0 0 0 0 (kindOf (x .body)) p (sizeOf file h) (amountOf bases h) (4 * h) e)
       ∙ rw (← f .0) (rw (append-assoc done four more′, append-assoc done four) at r)
 
-length-numbers : (p i : ℕ) (hs : List Hunk) (bases : List ℕ) → length (recordNumbers p i hs bases) ≡ 4 * length hs
+pub length-numbers : (p i : ℕ) (hs : List Hunk) (bases : List ℕ) → length (recordNumbers p i hs bases) ≡ 4 * length hs
 length-numbers p i [] bases = refl
 length-numbers p i (x ∷ xs) bases = omega (arith, length-numbers (p + 4 * x .size) (i + 1) xs bases)
 
@@ -90,15 +90,15 @@ length-words : (ws : List ℕ) → length (joined wordBytes ws) ≡ 4 * length w
 length-words [] = refl
 length-words (w ∷ ws) = omega (arith, length-words ws)
 
-stores-on : (p i : ℕ) (ws done more : List ℕ) (l : List Act) → length done ≡ p + 4 * i → placed (done ++ (replicate (4 * length ws) 0 ++ more)) (storing p i ws l) ≡ placed (done ++ (joined wordBytes ws ++ more)) l
+stores-on : (p i : ℕ) (ws done more : List ℕ) (l : List Act) → length done ≡ p + 4 * i → withStored (done ++ (replicate (4 * length ws) 0 ++ more)) (storing p i ws l) ≡ withStored (done ++ (joined wordBytes ws ++ more)) l
 unfolding pass setWord
 stores-on p i [] done more l e = refl
 stores-on p i (w ∷ ws) done more l e =
     let more′ : List ℕ = replicate (4 * length ws) 0 ++ more in
     let k : length (done ++ wordBytes w) ≡ p + 4 * (i + 1) = omega (arith, length-append done (wordBytes w)) in
     let r = stores-on p (i + 1) ws (done ++ wordBytes w) more l k in
-    ap (λ (u : List ℕ). placed (done ++ u) (storing p i (w ∷ ws) l)) (four-more (length ws) more)
-    ∙ ap (λ (u : List ℕ). placed u (storing p (i + 1) ws l)) (four-at done more′ 0 0 0 0 _ _ _ _ (p + 4 * i) e)
+    ap (λ (u : List ℕ). withStored (done ++ u) (storing p i (w ∷ ws) l)) (four-more (length ws) more)
+    ∙ ap (λ (u : List ℕ). withStored u (storing p (i + 1) ws l)) (four-at done more′ 0 0 0 0 _ _ _ _ (p + 4 * i) e)
     ∙ (rw (append-assoc done (wordBytes w) more′, append-assoc done (wordBytes w)) at r)
 
 pub stored-fit : (b : page.Body) → length (storedWords b) ≤ bodyCount b
@@ -116,7 +116,7 @@ pub length-image : (t : ℕ) (hs : List Hunk) → Each (HunkFits t) hs → lengt
 length-image t [] f = refl
 length-image t (x ∷ xs) f = omega (arith, length-append (hunkBytes x) (imageOf xs), length-hunk t x (f .0), length-image t xs (f .1))
 
-bodies-on : (t : ℕ) (size : ℕ → ℕ) (hs : List Hunk) (h p at : ℕ) (done more : List ℕ) → Sized t size h hs → length done ≡ p → placed (done ++ (replicate (4 * total hs) 0 ++ more)) (pageActs h p at hs) ≡ done ++ (imageOf hs ++ more)
+bodies-on : (t : ℕ) (size : ℕ → ℕ) (hs : List Hunk) (h p at : ℕ) (done more : List ℕ) → Sized t size h hs → length done ≡ p → withStored (done ++ (replicate (4 * total hs) 0 ++ more)) (pageActs h p at hs) ≡ done ++ (imageOf hs ++ more)
 unfolding pass
 bodies-on t size [] h p at done more f e = refl
 bodies-on t size (x ∷ xs) h p at done more f e =
@@ -130,9 +130,9 @@ bodies-on t size (x ∷ xs) h p at done more f e =
     let a : length done ≡ p + 4 * 0 = omega arith in
     let k : length (done ++ hunkBytes x) ≡ p + 4 * x .size = omega (arith, length-append done (hunkBytes x), length-hunk t x (f .1)) in
     let r = bodies-on t size xs (h + 1) (p + 4 * x .size) (at + 4 * length (hunkWords x)) (done ++ hunkBytes x) more (f .2) k in
-    ap (λ (u : List ℕ). placed (done ++ u) (pageActs h p at (x ∷ xs))) (zeros-three (4 * length ws) (4 * b) (4 * total xs) _ more z)
+    ap (λ (u : List ℕ). withStored (done ++ u) (pageActs h p at (x ∷ xs))) (zeros-three (4 * length ws) (4 * b) (4 * total xs) _ more z)
     ∙ stores-on p 0 ws done (replicate (4 * b) 0 ++ more′) (adding (hunkAt h p at x) q) a
-    ∙ pass-adding place1 (λ u c d b. refl) _ (hunkAt h p at x) q
+    ∙ pass-adding storeOne (λ u c d b. refl) _ (hunkAt h p at x) q
     ∙ simp append-assoc (simp append-assoc at r)
 
 place-total : (t : ℕ) (size : ℕ → ℕ) (hs : List Hunk) (h : ℕ) → Sized t size h hs → placeOf size t ≡ placeOf size h + 4 * total hs
@@ -151,7 +151,7 @@ targets-plain [] = refl
 targets-plain (Quiet ∷ us) = targets-plain us
 targets-plain (Body h p k ∷ us) = targets-plain us
 targets-plain (Store p w ∷ us) = targets-plain us
-targets-plain (Add p k b ∷ us) = ap (λ (l : List Target). record { place = p; key = k; byte = b } ∷ l) (targets-plain us)
+targets-plain (Add p k b ∷ us) = ap (λ (l : List Target). record { loadedAt = p; key = k; byte = b } ∷ l) (targets-plain us)
 
 targets-storing : (p i : ℕ) (ws : List ℕ) (l : List Act) → targets (storing p i ws l) ≡ targets l
 unfolding targets
@@ -174,30 +174,25 @@ targets-page h p at (x ∷ xs) =
     ∙ ap (λ (u : List Target). map bare (hunkAt h p at x) ++ u) (targets-page (h + 1) (p + 4 * x .size) to xs)
     ∙ sym (map-append bare (hunkAt h p at x) (hunksAt (h + 1) (p + 4 * x .size) to xs))
 
-relocated-bare : (m : List ℕ) (ts : List PageTarget) (f : ℕ → ℕ) → shiftAll m (map bare ts) f ≡ relocated m ts f
-unfolding shiftAll relocated
-relocated-bare m [] f = refl
-relocated-bare m (t ∷ ts) f = relocated-bare (addAt m (t .place) (f (t .named))) ts f
-
 -- ---- of a file
 
-module _ (file : List ℕ) (hs : List Hunk) (pr : Program hs) (even : length file % 4 ≡ 0) (e : wordsAt file 0 (length file / 4) ≡ written hs) where
+module _ (file : List ℕ) (hs : List Hunk) (pr : Program hs) (whole : length file % 4 ≡ 0) (e : wordsAt file 0 (length file / 4) ≡ written hs) where
   -- the bytes that the hunks take
   pub page-loaded : loadedOf file ≡ 4 * total hs
   unfolding placeOf
-  page-loaded = omega (arith, place-total (totalOf file) (sizeOf file) hs 0 (all-sized file hs pr even e))
+  page-loaded = omega (arith, place-total (totalOf file) (sizeOf file) hs 0 (all-sized file hs pr whole e))
 
-  records-room : (bases : List ℕ) (n : ℕ) → 4 * length hs ≤ n → take (4 * totalOf file) (listed file bases (replicate n 0) (actsOf file)) ≡ recordNumbers 0 0 hs bases
+  records-room : (bases : List ℕ) (n : ℕ) → 4 * length hs ≤ n → take (4 * totalOf file) (withRecords file bases (replicate n 0) (actsOf file)) ≡ recordNumbers 0 0 hs bases
   records-room bases n l =
       let k : ℕ = 4 * length hs in
       let z : n ≡ k + (n - k) = omega arith in
       let u : replicate {A = ℕ} n 0 ≡ replicate k 0 ++ replicate (n - k) 0 = ap (λ (j : ℕ). replicate {A = ℕ} j 0) z ∙ sym (replicate-append-replicate {A = ℕ} k (n - k) 0) in
-      let q : length (recordNumbers 0 0 hs bases) ≡ 4 * totalOf file = omega (arith, length-numbers 0 0 hs bases, is-total file hs pr even e) in
+      let q : length (recordNumbers 0 0 hs bases) ≡ 4 * totalOf file = omega (arith, length-numbers 0 0 hs bases, is-total file hs pr whole e) in
       ap (take (4 * totalOf file))
-      (pass-plain (entry1 file bases) (λ t. refl) (replicate n 0) (actsOf file)
-      ∙ ap (listed file bases (replicate n 0)) (page-acts file hs pr even e)
-      ∙ ap (λ (t : List ℕ). listed file bases t (pageActs 0 0 (20 + 4 * length hs) hs)) u
-      ∙ records-on file bases (totalOf file) hs 0 0 _ [] (replicate (n - k) 0) (all-sized file hs pr even e) refl)
+      (pass-plain (recordOne file bases) (λ t. refl) (replicate n 0) (actsOf file)
+      ∙ ap (withRecords file bases (replicate n 0)) (page-acts file hs pr whole e)
+      ∙ ap (λ (t : List ℕ). withRecords file bases t (pageActs 0 0 (20 + 4 * length hs) hs)) u
+      ∙ records-on file bases (totalOf file) hs 0 0 _ [] (replicate (n - k) 0) (all-sized file hs pr whole e) refl)
       ∙ take-at (recordNumbers 0 0 hs bases) (replicate (n - k) 0) (4 * totalOf file) q
 
   -- the records
@@ -209,21 +204,21 @@ module _ (file : List ℕ) (hs : List Hunk) (pr : Program hs) (even : length fil
   pub page-bodies : (m : List ℕ) → bodiesOf file m ≡ imageOf hs ++ drop (4 * total hs) m
   page-bodies m =
       rw page-loaded
-      (pass-plain place1 (λ u. refl) _ (actsOf file)
-      ∙ ap (placed (replicate (4 * total hs) 0 ++ drop (4 * total hs) m)) (page-acts file hs pr even e)
-      ∙ bodies-on (totalOf file) (sizeOf file) hs 0 0 _ [] (drop (4 * total hs) m) (all-sized file hs pr even e) refl)
+      (pass-plain storeOne (λ u. refl) _ (actsOf file)
+      ∙ ap (withStored (replicate (4 * total hs) 0 ++ drop (4 * total hs) m)) (page-acts file hs pr whole e)
+      ∙ bodies-on (totalOf file) (sizeOf file) hs 0 0 _ [] (drop (4 * total hs) m) (all-sized file hs pr whole e) refl)
 
   -- loaded memory
   pub page-load : (bases m : List ℕ) → loadOf file bases m ≡ shiftAll (imageOf hs ++ drop (4 * total hs) m) (targetsOf file) (amountOf bases)
   page-load bases m = ap (λ (u : List ℕ). shiftAll u (targetsOf file) (amountOf bases)) (page-bodies m)
 
-  -- the targets: place, hunk, and byte in the file
+  -- the targets: byte in memory, hunk, and byte in the file
   pub page-targets : targetsOf file ≡ map bare (fileTargets hs)
-  page-targets = targets-plain (actsOf file) ∙ ap targets (page-acts file hs pr even e) ∙ targets-page 0 0 (20 + 4 * length hs) hs
+  page-targets = targets-plain (actsOf file) ∙ ap targets (page-acts file hs pr whole e) ∙ targets-page 0 0 (20 + 4 * length hs) hs
 
   -- a load and a move, by the page alone
   page-relocated : (m : List ℕ) (f : ℕ → ℕ) → shiftAll m (targetsOf file) f ≡ relocated m (fileTargets hs) f
-  page-relocated m f = ap (λ (ts : List Target). shiftAll m ts f) page-targets ∙ relocated-bare m (fileTargets hs) f
+  page-relocated m f = ap (λ (ts : List Target). shiftAll m ts f) page-targets
 
   pub page-loads : (bases m : List ℕ) → loadOf file bases m ≡ relocated (imageOf hs ++ drop (4 * total hs) m) (fileTargets hs) (amountOf bases)
   page-loads bases m = page-load bases m ∙ page-relocated (imageOf hs ++ drop (4 * total hs) m) (amountOf bases)

@@ -1,10 +1,11 @@
 -- 42 in the terms of the page: it is given at the first target that is near an earlier one of its hunk, at its byte in the file. Assumes nothing.
 use Prim.Native.Nat.{ℕ, _+_, _<_}
 use mathlib.Core.Path.{_≡_, refl, sym, ap, ap₂, subst, _∙_}
-use mathlib.Core.Logic.{_↔_, _⊎_, inl, inr}
+use mathlib.Core.Logic.{_↔_, inl, inr}
 use mathlib.Core.List.{List, [], _∷_, _++_, map, map-append}
 use native.Mathlib.Omega.{arith}
 use native.Mathlib.Decide.{decLt}
+use Rattle.answers.specs.Numbers as fault
 use Rattle.words.specs.Shift.{Target}
 use Rattle.words.proofs.Words.{Far}
 use Rattle.words.proofs.Shifts.{FarAll, Apart}
@@ -20,7 +21,7 @@ use Rattle.answers.specs.Members.{_∈_}
 use Rattle.loader.specs.Verdicts.{Near, Spaced, FirstNear}
 use Rattle.loader.proofs.NearTargets.{ClashWhy, clash-why, apart-exactly}
 use Rattle.loader.proofs.PageLoads.{page-targets}
-use Rattle.loader.proofs.OneHunk.{each-member, member-left, targets-named, near-one-hunk}
+use Rattle.loader.proofs.OneHunk.{each-member, targets-named, near-one-hunk}
 
 -- ---- lists of bare targets
 
@@ -75,7 +76,7 @@ each-right P (x ∷ xs) ys p = each-right P xs ys (p .1)
 
 -- ---- far and near
 
-far-not-near : (x y : PageTarget) → Far (x .place) (y .place) → Near x y → ⊥
+far-not-near : (x y : PageTarget) → Far (x .loadedAt) (y .loadedAt) → Near x y → ⊥
 far-not-near x y (inl l) n = omega (arith, l, n .2)
 far-not-near x y (inr l) n = omega (arith, l, n .1)
 
@@ -83,15 +84,15 @@ apart-spaced : (ts : List PageTarget) → Apart (map bare ts) → Spaced ts
 apart-spaced [] a = tt
 apart-spaced (x ∷ ts) a = (all ts (a .0), apart-spaced ts (a .1))
   where
-    all : (us : List PageTarget) → FarAll (x .place) (map bare us) → Each (λ y. Near x y → ⊥) us
+    all : (us : List PageTarget) → FarAll (x .loadedAt) (map bare us) → Each (λ y. Near x y → ⊥) us
     all [] f = tt
     all (y ∷ us) f = (far-not-near x y (f .0), all us (f .1))
 
 module _ (file : List ℕ) (hs : List Hunk) (held : Holds file hs) where
-  far : (x y : PageTarget) → Named file hs x → Named file hs y → (Near x y → ⊥) → Far (x .place) (y .place)
-  far x y a b n = go (decLt (x .place) (y .place + 4)) (decLt (y .place) (x .place + 4))
+  far : (x y : PageTarget) → Named file hs x → Named file hs y → (Near x y → ⊥) → Far (x .loadedAt) (y .loadedAt)
+  far x y a b n = go (decLt (x .loadedAt) (y .loadedAt + 4)) (decLt (y .loadedAt) (x .loadedAt + 4))
     where
-      go : Dec (x .place < y .place + 4) → Dec (y .place < x .place + 4) → Far (x .place) (y .place)
+      go : Dec (x .loadedAt < y .loadedAt + 4) → Dec (y .loadedAt < x .loadedAt + 4) → Far (x .loadedAt) (y .loadedAt)
       go (yes u) (yes v) = absurd (n (near-one-hunk file hs held x y a b u v, u, v))
       go (no u) v = inr (omega (arith, u))
       go (yes u) (no v) = inl (omega (arith, v))
@@ -100,7 +101,7 @@ module _ (file : List ℕ) (hs : List Hunk) (held : Holds file hs) where
   spaced-apart [] a s = tt
   spaced-apart (x ∷ ts) a s = (all ts (a .1) (s .0), spaced-apart ts (a .1) (s .1))
     where
-      all : (us : List PageTarget) → Each (Named file hs) us → Each (λ y. Near x y → ⊥) us → FarAll (x .place) (map bare us)
+      all : (us : List PageTarget) → Each (Named file hs) us → Each (λ y. Near x y → ⊥) us → FarAll (x .loadedAt) (map bare us)
       all [] b f = tt
       all (y ∷ us) b f = (far x y (a .0) (b .0) (f .0), all us (b .1) (f .1))
 
@@ -108,7 +109,7 @@ module _ (file : List ℕ) (hs : List Hunk) (held : Holds file hs) where
   named = targets-named file hs held
 
   triples : targetsOf file ≡ map bare (fileTargets hs)
-  triples = page-targets file hs (held .fits) (held .even) (held .words)
+  triples = page-targets file hs (held .fits) (held .whole) (held .words)
 
   -- No target is refused if and only if no two targets of one hunk are near.
   pub spaced-exactly : (clashOf file ≡ Passed) ↔ Spaced (fileTargets hs)
@@ -117,19 +118,19 @@ module _ (file : List ℕ) (hs : List Hunk) (held : Holds file hs) where
     λ s. apart-exactly (targetsOf file) .1 (subst Apart (sym triples) (spaced-apart (fileTargets hs) named s)),
   )
 
-  near-there : (f : Refusal) → ClashWhy (targetsOf file) f → (p : ℕ) × (f ≡ refusal 42 p) × FirstNear hs p
+  near-there : (f : Refusal) → ClashWhy (targetsOf file) f → (p : ℕ) × (f ≡ refusal fault.nearTargets p) × FirstNear hs p
   near-there f r =
       let c = cut-at (fileTargets hs) (r .before) (r .target) (r .after) (sym triples ∙ r .split) in
       let o = bare-member (r .other) (c .before) (subst (λ l. r .other ∈ l) (sym (c .firsts)) (r .among)) in
       let all = subst (Each (Named file hs)) (c .split) named in
       let a = each-right (Named file hs) (c .before) (c .target ∷ c .after) all .0 in
       let b = each-member (Named file hs) (o .0) (c .before) (each-left (Named file hs) (c .before) (c .target ∷ c .after) all) (o .1) in
-      let pt = ap (λ (t : Target). t .place) (c .this) in
-      let po = ap (λ (t : Target). t .place) (o .2) in
-      let u : c .target .place < o .0 .place + 4 = omega (arith, pt, po, r .below) in
-      let v : o .0 .place < c .target .place + 4 = omega (arith, pt, po, r .above) in (
+      let pt = ap (λ (t : Target). t .loadedAt) (c .this) in
+      let po = ap (λ (t : Target). t .loadedAt) (o .2) in
+      let u : c .target .loadedAt < o .0 .loadedAt + 4 = omega (arith, pt, po, r .below) in
+      let v : o .0 .loadedAt < c .target .loadedAt + 4 = omega (arith, pt, po, r .above) in (
         c .target .byte,
-        r .said ∙ ap (λ (t : Target). refusal 42 (t .byte)) (sym (c .this)),
+        r .said ∙ ap (λ (t : Target). refusal fault.nearTargets (t .byte)) (sym (c .this)),
         record {
           before = c .before;
           target = c .target;
@@ -143,7 +144,7 @@ module _ (file : List ℕ) (hs : List Hunk) (held : Holds file hs) where
         },
       )
 
-  near-back : (f : Refusal) (p : ℕ) → f ≡ refusal 42 p → FirstNear hs p → ClashWhy (targetsOf file) f
+  near-back : (f : Refusal) (p : ℕ) → f ≡ refusal fault.nearTargets p → FirstNear hs p → ClashWhy (targetsOf file) f
   near-back f p e r =
       let all = subst (Each (Named file hs)) (r .split) named in
       let b = each-left (Named file hs) (r .before) (r .target ∷ r .after) all in
@@ -152,7 +153,7 @@ module _ (file : List ℕ) (hs : List Hunk) (held : Holds file hs) where
         target = bare (r .target);
         after = map bare (r .after);
         split = triples ∙ ap (map bare) (r .split) ∙ map-append bare (r .before) (r .target ∷ r .after);
-        said = e ∙ ap (refusal 42) (r .place);
+        said = e ∙ ap (refusal fault.nearTargets) (r .place);
         first = apart-exactly (map bare (r .before)) .1 (spaced-apart (r .before) b (r .spaced));
         other = bare (r .other);
         among = member-bare (r .other) (r .before) (r .earlier);
@@ -161,5 +162,5 @@ module _ (file : List ℕ) (hs : List Hunk) (held : Holds file hs) where
       }
 
   -- 42 is given exactly at the first target that is near an earlier one of its hunk, at its byte in the file.
-  pub near-exactly : (f : Refusal) → (clashOf file ≡ Failed f) ↔ ((p : ℕ) × (f ≡ refusal 42 p) × FirstNear hs p)
+  pub near-exactly : (f : Refusal) → (clashOf file ≡ Failed f) ↔ ((p : ℕ) × (f ≡ refusal fault.nearTargets p) × FirstNear hs p)
   near-exactly f = (λ h. near-there f (clash-why (targetsOf file) f .0 h), λ h. clash-why (targetsOf file) f .1 (near-back f (h .0) (h .1) (h .2)))

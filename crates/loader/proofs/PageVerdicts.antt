@@ -2,14 +2,14 @@
 -- call that is lent lists of bases. Assumes nothing.
 use Prim.Native.Nat.{ℕ, _+_, _*_}
 use mathlib.Core.Path.{_≡_, refl, sym, ap, ap₂, subst, _∙_}
-use mathlib.Core.Logic.{_↔_, _⊎_, inl, inr}
+use mathlib.Core.Logic.{_↔_, inl, inr}
 use mathlib.Core.List.{List, [], _∷_}
 use native.Mathlib.Omega.{arith}
 use lib.ListN.{length}
+use Rattle.answers.specs.Numbers as fault
 use Rattle.answers.specs.Refusals.{refusal}
 use Rattle.answers.specs.declared.Refusal.{Refusal}
 use Rattle.answers.specs.declared.Tested.the-variants.{Passed, Failed}
-use Rattle.program.specs.declared.check.Answer.{Answer}
 use Rattle.program.specs.declared.check.Answer.the-variants.{Accepted, Refused}
 use Rattle.program.specs.Page.{Hunk, Holds, Each, total}
 use Rattle.program.specs.Header.{totalOf}
@@ -17,7 +17,6 @@ use Rattle.answers.proofs.Members.{unlisted}
 use Rattle.program.specs.Check.{checkRefusals, checkOf}
 use Rattle.program.proofs.Pages.{page-accepted, accepted-page}
 use Rattle.loader.specs.Memory.{loadedOf}
-use Rattle.loader.specs.Near.{clashOf}
 use Rattle.loader.specs.Bases.{basesFault}
 use Rattle.loader.specs.Calls.{roomFault, loadAnswer, moveAnswer}
 use Rattle.loader.specs.Verdicts.{Accepts, GoodBases, FirstBad, Room, Short, FirstNear, Takes, Refuses40, Refuses41, Refuses42, CallWhy}
@@ -49,13 +48,13 @@ module _ (file : List ℕ) (hs : List Hunk) (held : Holds file hs) where
   good-all from [] a = tt
   good-all from (l ∷ ls) a = (good-exactly file hs held l from .1 (a .0), good-all (from + totalOf file) ls (a .1))
 
-  first-bad : (p from : ℕ) (ls : List (List ℕ)) → FirstFails file from ls (refusal 40 p) → FirstBad hs from ls p
+  first-bad : (p from : ℕ) (ls : List (List ℕ)) → FirstFails file from ls (refusal fault.badBase p) → FirstBad hs from ls p
   first-bad p from [] a = a
   first-bad p from (l ∷ ls) (inl x) = inl (bad-exactly file hs held l from p .0 x)
   first-bad p from (l ∷ ls) (inr x) =
       inr (good-exactly file hs held l from .0 (x .0), subst (λ (k : ℕ). FirstBad hs (from + k) ls p) (held-total file hs held) (first-bad p (from + totalOf file) ls (x .1)))
 
-  bad-first : (p from : ℕ) (ls : List (List ℕ)) → FirstBad hs from ls p → FirstFails file from ls (refusal 40 p)
+  bad-first : (p from : ℕ) (ls : List (List ℕ)) → FirstBad hs from ls p → FirstFails file from ls (refusal fault.badBase p)
   bad-first p from [] a = a
   bad-first p from (l ∷ ls) (inl x) = inl (bad-exactly file hs held l from p .1 x)
   bad-first p from (l ∷ ls) (inr x) =
@@ -64,7 +63,7 @@ module _ (file : List ℕ) (hs : List Hunk) (held : Holds file hs) where
   -- room
   module _ (m r w : ℕ) where
     same-room : roomFault (totalOf file) (loadedOf file) m r w ≡ roomFault (length hs) (4 * total hs) m r w
-    same-room = ap₂ (λ (t n : ℕ). roomFault t n m r w) (held-total file hs held) (page-loaded file hs (held .fits) (held .even) (held .words))
+    same-room = ap₂ (λ (t n : ℕ). roomFault t n m r w) (held-total file hs held) (page-loaded file hs (held .fits) (held .whole) (held .words))
 
     room-exactly : (roomFault (totalOf file) (loadedOf file) m r w ≡ Passed) ↔ Room (length hs) (4 * total hs) m r w
     room-exactly = (
@@ -72,24 +71,24 @@ module _ (file : List ℕ) (hs : List Hunk) (held : Holds file hs) where
       λ h. same-room ∙ room-good _ _ m r w h,
     )
 
-    short-exactly : (f : Refusal) → (roomFault (totalOf file) (loadedOf file) m r w ≡ Failed f) ↔ ((f ≡ refusal 41 0) × Short (length hs) (4 * total hs) m r w)
+    short-exactly : (f : Refusal) → (roomFault (totalOf file) (loadedOf file) m r w ≡ Failed f) ↔ ((f ≡ refusal fault.shortRoom 0) × Short (length hs) (4 * total hs) m r w)
     short-exactly f = (
       λ h. room-why (length hs) (4 * total hs) m r w f .0 (sym same-room ∙ h),
       λ h. same-room ∙ room-why (length hs) (4 * total hs) m r w f .1 h,
     )
 
 -- a list that fails gives 40
-list-40 : (file bases : List ℕ) (from : ℕ) (f : Refusal) → basesFault file bases from ≡ Failed f → f ≡ refusal 40 (f .place)
+list-40 : (file bases : List ℕ) (from : ℕ) (f : Refusal) → basesFault file bases from ≡ Failed f → f ≡ refusal fault.badBase (f .place)
 list-40 file bases from f h = go (bases-why file bases from f .0 h)
   where
-    at : (q : ℕ) → f ≡ refusal 40 q → f ≡ refusal 40 (f .place)
-    at q e = e ∙ ap (refusal 40) (sym (place-of e))
+    at : (q : ℕ) → f ≡ refusal fault.badBase q → f ≡ refusal fault.badBase (f .place)
+    at q e = e ∙ ap (refusal fault.badBase) (sym (place-of e))
 
-    go : BasesWhy file bases from f → f ≡ refusal 40 (f .place)
+    go : BasesWhy file bases from f → f ≡ refusal fault.badBase (f .place)
     go (inl x) = at from (x .0)
     go (inr (c, x)) = at (from + x .0) (x .2)
 
-lists-40 : (file : List ℕ) (f : Refusal) (from : ℕ) (ls : List (List ℕ)) → FirstFails file from ls f → f ≡ refusal 40 (f .place)
+lists-40 : (file : List ℕ) (f : Refusal) (from : ℕ) (ls : List (List ℕ)) → FirstFails file from ls f → f ≡ refusal fault.badBase (f .place)
 lists-40 file f from [] a = absurd a
 lists-40 file f from (l ∷ ls) (inl x) = list-40 file l from f x
 lists-40 file f from (l ∷ ls) (inr x) = lists-40 file f (from + totalOf file) ls (x .1)
@@ -145,7 +144,7 @@ module _ (file : List ℕ) (lists : List (List ℕ)) (m r w : ℕ) where
       back (inl x) = inl x
       back (inr (hs, h, p, inl (e, y))) = inr (inl (accepts file hs h, subst (FirstFails file 0 lists) (sym e) (bad-first file hs h p 0 lists y)))
       back (inr (hs, h, p, inr (inl (e, y)))) =
-          inr (inr (inl (accepts file hs h, good-all file hs h 0 lists (y .0), short-exactly file hs h m r w f .1 (e ∙ ap (refusal 41) (y .2), y .1))))
+          inr (inr (inl (accepts file hs h, good-all file hs h 0 lists (y .0), short-exactly file hs h m r w f .1 (e ∙ ap (refusal fault.shortRoom) (y .2), y .1))))
       back (inr (hs, h, p, inr (inr (e, y)))) =
           inr (inr (inr (accepts file hs h, good-all file hs h 0 lists (y .0), room-exactly file hs h m r w .1 (y .1), near-exactly file hs h f .1 (p, e, y .2))))
 
@@ -155,31 +154,31 @@ module _ (file : List ℕ) (lists : List (List ℕ)) (m r w : ℕ) where
     number-of e = ap (λ (f : Refusal). f .number) e
 
     -- 40 exactly for a list with another count, at its entry 0, or at the first bad entry; a list counts on from the one before.
-    pub call-40 : (callAnswer file lists m r w ≡ Refused (refusal 40 p)) ↔ ((hs : List Hunk) × Holds file hs × Refuses40 hs lists p)
-    call-40 = (λ a. go (call-refused (refusal 40 p) .0 a), λ h. call-refused (refusal 40 p) .1 (inr (h .0, h .1, p, inl (refl, h .2))))
+    pub call-40 : (callAnswer file lists m r w ≡ Refused (refusal fault.badBase p)) ↔ ((hs : List Hunk) × Holds file hs × Refuses40 hs lists p)
+    call-40 = (λ a. go (call-refused (refusal fault.badBase p) .0 a), λ h. call-refused (refusal fault.badBase p) .1 (inr (h .0, h .1, p, inl (refl, h .2))))
       where
-        go : CallWhy file lists m r w (refusal 40 p) → (hs : List Hunk) × Holds file hs × Refuses40 hs lists p
-        go (inl x) = unlisted checkRefusals 40 40 tt (check-number file (refusal 40 p) x) refl
+        go : CallWhy file lists m r w (refusal fault.badBase p) → (hs : List Hunk) × Holds file hs × Refuses40 hs lists p
+        go (inl x) = unlisted checkRefusals fault.badBase 40 tt (check-number file (refusal fault.badBase p) x) refl
         go (inr (hs, h, q, inl (e, y))) = (hs, h, subst (Refuses40 hs lists) (sym (place-of e)) y)
         go (inr (hs, h, q, inr (inl (e, y)))) = absurd (omega (arith, number-of e))
         go (inr (hs, h, q, inr (inr (e, y)))) = absurd (omega (arith, number-of e))
 
     -- 41 if and only if every list is good, and memory, records or work area is short.
-    pub call-41 : (callAnswer file lists m r w ≡ Refused (refusal 41 p)) ↔ ((hs : List Hunk) × Holds file hs × Refuses41 hs lists m r w p)
-    call-41 = (λ a. go (call-refused (refusal 41 p) .0 a), λ h. call-refused (refusal 41 p) .1 (inr (h .0, h .1, p, inr (inl (refl, h .2)))))
+    pub call-41 : (callAnswer file lists m r w ≡ Refused (refusal fault.shortRoom p)) ↔ ((hs : List Hunk) × Holds file hs × Refuses41 hs lists m r w p)
+    call-41 = (λ a. go (call-refused (refusal fault.shortRoom p) .0 a), λ h. call-refused (refusal fault.shortRoom p) .1 (inr (h .0, h .1, p, inr (inl (refl, h .2)))))
       where
-        go : CallWhy file lists m r w (refusal 41 p) → (hs : List Hunk) × Holds file hs × Refuses41 hs lists m r w p
-        go (inl x) = unlisted checkRefusals 41 41 tt (check-number file (refusal 41 p) x) refl
+        go : CallWhy file lists m r w (refusal fault.shortRoom p) → (hs : List Hunk) × Holds file hs × Refuses41 hs lists m r w p
+        go (inl x) = unlisted checkRefusals fault.shortRoom 41 tt (check-number file (refusal fault.shortRoom p) x) refl
         go (inr (hs, h, q, inl (e, y))) = absurd (omega (arith, number-of e))
         go (inr (hs, h, q, inr (inl (e, y)))) = (hs, h, (y .0, y .1, place-of e ∙ y .2))
         go (inr (hs, h, q, inr (inr (e, y)))) = absurd (omega (arith, number-of e))
 
     -- 42 if and only if every list is good and there is room, at the first target that is near an earlier one of its hunk.
-    pub call-42 : (callAnswer file lists m r w ≡ Refused (refusal 42 p)) ↔ ((hs : List Hunk) × Holds file hs × Refuses42 hs lists m r w p)
-    call-42 = (λ a. go (call-refused (refusal 42 p) .0 a), λ h. call-refused (refusal 42 p) .1 (inr (h .0, h .1, p, inr (inr (refl, h .2)))))
+    pub call-42 : (callAnswer file lists m r w ≡ Refused (refusal fault.nearTargets p)) ↔ ((hs : List Hunk) × Holds file hs × Refuses42 hs lists m r w p)
+    call-42 = (λ a. go (call-refused (refusal fault.nearTargets p) .0 a), λ h. call-refused (refusal fault.nearTargets p) .1 (inr (h .0, h .1, p, inr (inr (refl, h .2)))))
       where
-        go : CallWhy file lists m r w (refusal 42 p) → (hs : List Hunk) × Holds file hs × Refuses42 hs lists m r w p
-        go (inl x) = unlisted checkRefusals 42 42 tt (check-number file (refusal 42 p) x) refl
+        go : CallWhy file lists m r w (refusal fault.nearTargets p) → (hs : List Hunk) × Holds file hs × Refuses42 hs lists m r w p
+        go (inl x) = unlisted checkRefusals fault.nearTargets 42 tt (check-number file (refusal fault.nearTargets p) x) refl
         go (inr (hs, h, q, inl (e, y))) = absurd (omega (arith, number-of e))
         go (inr (hs, h, q, inr (inl (e, y)))) = absurd (omega (arith, number-of e))
         go (inr (hs, h, q, inr (inr (e, y)))) = (hs, h, (y .0, y .1, subst (FirstNear hs) (sym (place-of e)) (y .2)))
@@ -193,13 +192,13 @@ module _ (file bases : List ℕ) (m r w : ℕ) where
   pub load-refused : (f : Refusal) → (loadAnswer file bases m r w ≡ Refused f) ↔ CallWhy file (bases ∷ []) m r w f
   load-refused f = rw (load-call file bases m r w) (call-refused file (bases ∷ []) m r w f)
 
-  pub load-40-exactly : (p : ℕ) → (loadAnswer file bases m r w ≡ Refused (refusal 40 p)) ↔ ((hs : List Hunk) × Holds file hs × Refuses40 hs (bases ∷ []) p)
+  pub load-40-exactly : (p : ℕ) → (loadAnswer file bases m r w ≡ Refused (refusal fault.badBase p)) ↔ ((hs : List Hunk) × Holds file hs × Refuses40 hs (bases ∷ []) p)
   load-40-exactly p = rw (load-call file bases m r w) (call-40 file (bases ∷ []) m r w p)
 
-  pub load-41-exactly : (p : ℕ) → (loadAnswer file bases m r w ≡ Refused (refusal 41 p)) ↔ ((hs : List Hunk) × Holds file hs × Refuses41 hs (bases ∷ []) m r w p)
+  pub load-41-exactly : (p : ℕ) → (loadAnswer file bases m r w ≡ Refused (refusal fault.shortRoom p)) ↔ ((hs : List Hunk) × Holds file hs × Refuses41 hs (bases ∷ []) m r w p)
   load-41-exactly p = rw (load-call file bases m r w) (call-41 file (bases ∷ []) m r w p)
 
-  pub load-42-exactly : (p : ℕ) → (loadAnswer file bases m r w ≡ Refused (refusal 42 p)) ↔ ((hs : List Hunk) × Holds file hs × Refuses42 hs (bases ∷ []) m r w p)
+  pub load-42-exactly : (p : ℕ) → (loadAnswer file bases m r w ≡ Refused (refusal fault.nearTargets p)) ↔ ((hs : List Hunk) × Holds file hs × Refuses42 hs (bases ∷ []) m r w p)
   load-42-exactly p = rw (load-call file bases m r w) (call-42 file (bases ∷ []) m r w p)
 
 module _ (file old new : List ℕ) (m r w : ℕ) where
@@ -209,11 +208,11 @@ module _ (file old new : List ℕ) (m r w : ℕ) where
   pub move-refused : (f : Refusal) → (moveAnswer file old new m r w ≡ Refused f) ↔ CallWhy file (old ∷ new ∷ []) m r w f
   move-refused f = rw (move-call file old new m r w) (call-refused file (old ∷ new ∷ []) m r w f)
 
-  pub move-40-exactly : (p : ℕ) → (moveAnswer file old new m r w ≡ Refused (refusal 40 p)) ↔ ((hs : List Hunk) × Holds file hs × Refuses40 hs (old ∷ new ∷ []) p)
+  pub move-40-exactly : (p : ℕ) → (moveAnswer file old new m r w ≡ Refused (refusal fault.badBase p)) ↔ ((hs : List Hunk) × Holds file hs × Refuses40 hs (old ∷ new ∷ []) p)
   move-40-exactly p = rw (move-call file old new m r w) (call-40 file (old ∷ new ∷ []) m r w p)
 
-  pub move-41-exactly : (p : ℕ) → (moveAnswer file old new m r w ≡ Refused (refusal 41 p)) ↔ ((hs : List Hunk) × Holds file hs × Refuses41 hs (old ∷ new ∷ []) m r w p)
+  pub move-41-exactly : (p : ℕ) → (moveAnswer file old new m r w ≡ Refused (refusal fault.shortRoom p)) ↔ ((hs : List Hunk) × Holds file hs × Refuses41 hs (old ∷ new ∷ []) m r w p)
   move-41-exactly p = rw (move-call file old new m r w) (call-41 file (old ∷ new ∷ []) m r w p)
 
-  pub move-42-exactly : (p : ℕ) → (moveAnswer file old new m r w ≡ Refused (refusal 42 p)) ↔ ((hs : List Hunk) × Holds file hs × Refuses42 hs (old ∷ new ∷ []) m r w p)
+  pub move-42-exactly : (p : ℕ) → (moveAnswer file old new m r w ≡ Refused (refusal fault.nearTargets p)) ↔ ((hs : List Hunk) × Holds file hs × Refuses42 hs (old ∷ new ∷ []) m r w p)
   move-42-exactly p = rw (move-call file old new m r w) (call-42 file (old ∷ new ∷ []) m r w p)

@@ -13,7 +13,7 @@ use Rattle.program.specs.declared.check.Answer.the-variants.{Accepted}
 use Rattle.program.specs.Page.{Hunk, Each, Holds, total}
 use Rattle.loader.specs.Memory.{targetsOf, amountOf, bodiesOf, loadOf, moved, moveOf}
 use Rattle.loader.specs.Calls.{Loads, Moves}
-use Rattle.loader.specs.Pages.{PageTarget, imageOf, fileTargets, bare, Adds, Outside, placedHunks}
+use Rattle.loader.specs.Pages.{PageTarget, imageOf, fileTargets, bare, Adds, Outside, withHunks}
 use Rattle.loader.proofs.Inside.{within-targets, within-more, length-bodies}
 use Rattle.loader.proofs.Answering.{load-facts, move-facts}
 use Rattle.loader.proofs.Moving.{apart}
@@ -34,16 +34,16 @@ off-bare k (t ∷ ts) o = (o .0, off-bare k ts (o .1))
 word-first : (a b : List ℕ) (p : ℕ) → p + 4 ≤ length a → wordAt (a ++ b) p ≡ wordAt a p
 word-first a b p h = wordAt-same-bytes (a ++ b) a p (λ k l u. List·getD-append a b 0 k (omega arith))
 
-adds-first : (a b m′ : List ℕ) (ts : List PageTarget) (f : ℕ → ℕ) (n : ℕ) → n ≡ length a → Each (λ t. t .place + 4 ≤ n) ts → Adds (a ++ b) m′ ts f → Adds a m′ ts f
+adds-first : (a b m′ : List ℕ) (ts : List PageTarget) (f : ℕ → ℕ) (n : ℕ) → n ≡ length a → Each (λ t. t .loadedAt + 4 ≤ n) ts → Adds (a ++ b) m′ ts f → Adds a m′ ts f
 adds-first a b m′ [] f n e w h = tt
 adds-first a b m′ (t ∷ ts) f n e w h =
-    (h .0 ∙ ap (λ (z : ℕ). (z + f (t .named)) % 2 ^ 32) (word-first a b (t .place) (omega (arith, w .0))), adds-first a b m′ ts f n e (w .1) (h .1))
+    (h .0 ∙ ap (λ (z : ℕ). (z + f (t .named)) % 2 ^ 32) (word-first a b (t .loadedAt) (omega (arith, w .0))), adds-first a b m′ ts f n e (w .1) (h .1))
 
 -- ---- of a file that holds hunks
 
 module _ (file : List ℕ) (hs : List Hunk) (held : Holds file hs) where
   theirs : targetsOf file ≡ map bare (fileTargets hs)
-  theirs = page-targets file hs (held .fits) (held .even) (held .words)
+  theirs = page-targets file hs (held .fits) (held .whole) (held .words)
 
   -- bytes outside all targets stay
   others-stay : (m : List ℕ) (f : ℕ → ℕ) (k : ℕ) → Outside k (fileTargets hs) → getD (shiftAll m (targetsOf file) f) k 0 ≡ getD m k 0
@@ -55,26 +55,26 @@ module _ (file : List ℕ) (hs : List Hunk) (held : Holds file hs) where
       pub load-words : Adds (imageOf hs) m′ (fileTargets hs) (amountOf bases)
       load-words =
           let c = load-facts file bases (length m) (length t / 4) (length w) x n _ (l .answer) refl in
-          let s = c .file-good .sound in
+          let s = c .file-accepted .header in
           let fits = within-more _ (length (bodiesOf file m)) (targetsOf file) (omega (arith, c .fits, length-bodies file m (c .fits))) (within-targets file s) in
           let a = shiftAll-added (bodiesOf file m) (targetsOf file) (amountOf bases) (apart [] (targetsOf file) (c .apart)) fits in
-          let b : Adds (placedHunks hs m) m′ (fileTargets hs) (amountOf bases) =
-          adds-bare _ m′ (fileTargets hs) (amountOf bases) (rw (l .loaded, ← page-bodies file hs (held .fits) (held .even) (held .words) m, ← theirs) a) in
+          let b : Adds (withHunks hs m) m′ (fileTargets hs) (amountOf bases) =
+          adds-bare _ m′ (fileTargets hs) (amountOf bases) (rw (l .loaded, ← page-bodies file hs (held .fits) (held .whole) (held .words) m, ← theirs) a) in
           adds-first (imageOf hs) _ m′ (fileTargets hs) (amountOf bases) (4 * total hs) (omega (arith, length-image (length hs) hs (held .fits .hunks))) (page-within file hs held) b
 
       -- every other byte: the hunks', and after them what stood there
-      pub load-others : (k : ℕ) → Outside k (fileTargets hs) → getD m′ k 0 ≡ getD (placedHunks hs m) k 0
+      pub load-others : (k : ℕ) → Outside k (fileTargets hs) → getD m′ k 0 ≡ getD (withHunks hs m) k 0
       load-others k o =
           ap (λ (u : List ℕ). getD u k 0) (l .loaded)
           ∙ others-stay (bodiesOf file m) (amountOf bases) k o
-          ∙ ap (λ (u : List ℕ). getD u k 0) (page-bodies file hs (held .fits) (held .even) (held .words) m)
+          ∙ ap (λ (u : List ℕ). getD u k 0) (page-bodies file hs (held .fits) (held .whole) (held .words) m)
 
     module _ (old new : List ℕ) (l : Moves file old new m t w (Accepted x n) m′ t′ w′) where
       -- at each target: what stood there, and new minus old base
       pub move-words : Adds m m′ (fileTargets hs) (moved old new)
       move-words =
           let c = move-facts file old new (length m) (length t / 4) (length w) x n _ (l .answer) refl .load in
-          let s = c .file-good .sound in
+          let s = c .file-accepted .header in
           let fits = within-more _ (length m) (targetsOf file) (c .fits) (within-targets file s) in
           let a = shiftAll-added m (targetsOf file) (moved old new) (apart [] (targetsOf file) (c .apart)) fits in
           adds-bare m m′ (fileTargets hs) (moved old new) (rw (l .shifted, ← theirs) a)

@@ -1,5 +1,5 @@
--- Bases: as many as hunks, multiples of 4, each hunk below 2^32, and no address shared with an earlier one (docs/FORMAT.md, "Bases and
--- room"; refusal 40).
+-- Bases: as many as hunks, multiples of 4, each hunk below 2^32, and no address shared with an earlier one
+-- (docs/FORMAT.md, "Bases and room"; refusal 40).
 use Prim.Native.Nat.{ℕ, zero, suc, _+_, _*_, _%_, _^_}
 use mathlib.Core.List.{List}
 use mathlib.Core.Bool.{Bool, true, false}
@@ -47,4 +47,6 @@ basesFrom file bases from i (suc n) =
 
 unfoldable pub basesFault : List ℕ → List ℕ → ℕ → Tested
 basesFault file bases from =
-    pick (eqb (length bases) (totalOf file)) (basesFrom file bases from 0 (totalOf file)) (Failed (refusal fault.badBase from))
+    pick (eqb (length bases) (totalOf file))
+    (basesFrom file bases from 0 (totalOf file))
+    (Failed (refusal fault.badBase from))

@@ -1,5 +1,6 @@
--- What the contracts of `loader` cite. To read what a load and a move do: Pages and Verdicts, in the terms of the page; Memory, Table, Bases,
--- Near and Calls, as the contracts say it.
+-- What the contracts of `loader` cite. To read what a load and a move do: Pages and Verdicts, in the terms of the
+-- page; Memory, Table, Bases, Near and Calls, as the contracts say it.
+
 -- loaded memory
 pub mod Memory
 -- the records of the hunks
@@ -16,3 +17,5 @@ pub mod Pages
 pub mod Verdicts
 -- what the laws of moving speak of
 pub mod Moving
+-- what the parts of the code ask and tell each other
+pub mod Parts

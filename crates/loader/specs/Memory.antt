@@ -1,6 +1,6 @@
--- Loaded memory: hunks end to end, their stored words, zeros up to their sizes, and each target with its amount (docs/FORMAT.md, "The
--- program file").
-use Prim.Native.Nat.{ℕ, _+_, _-_, _%_, _^_, _<_, _≤_}
+-- Loaded memory: hunks end to end, their stored words, zeros up to their sizes, and each target with its amount
+-- (docs/FORMAT.md, "The program file").
+use Prim.Native.Nat.{ℕ, _+_, _-_, _%_, _^_}
 use mathlib.Core.List.{List, [], _∷_, _++_}
 use lib.ListN.{getD, drop, replicate}
 use Rattle.words.specs.Word.{setWord, addAt}
@@ -9,49 +9,42 @@ use Rattle.program.specs.declared.act.Act.{Act}
 use Rattle.program.specs.declared.act.Act.the-variants.{Quiet, Body, Store, Add}
 use Rattle.program.specs.Header.{totalOf, sizeOf}
 use Rattle.program.specs.Acts.{actsOf, pass}
-use Rattle.program.specs.Sane.{placeOf}
+use Rattle.program.specs.Cursors.{placeOf}
 
 -- the bytes that the hunks take
 abbrev pub loadedOf : List ℕ → ℕ
 loadedOf file = placeOf (sizeOf file) (totalOf file)
 
--- what an act asks lies within n bytes and t hunks
-abbrev pub ActFits : ℕ → ℕ → Act → Type 0
-ActFits n t Quiet = Unit
-ActFits n t (Body h p k) = (h < t) × (p < 4294967296)
-ActFits n t (Store p w) = p + 4 ≤ n
-ActFits n t (Add p k b) = (p + 4 ≤ n) × (k < t)
+-- memory with the word of an act stored, and of all acts
+abbrev pub storeOne : List ℕ → Act → List ℕ
+storeOne m Quiet = m
+storeOne m (Body h p k) = m
+storeOne m (Store p w) = setWord m p w
+storeOne m (Add p k b) = m
 
--- the stored words at their places
-abbrev pub place1 : List ℕ → Act → List ℕ
-place1 m Quiet = m
-place1 m (Body h p k) = m
-place1 m (Store p w) = setWord m p w
-place1 m (Add p k b) = m
-
-abbrev pub placed : List ℕ → List Act → List ℕ
-placed m us = pass place1 m us
+abbrev pub withStored : List ℕ → List Act → List ℕ
+withStored m us = pass storeOne m us
 
 -- the words to relocate
-abbrev pub target1 : Act → List Target → List Target
-target1 Quiet ts = ts
-target1 (Body h p k) ts = ts
-target1 (Store p w) ts = ts
-target1 (Add p k b) ts = record { place = p; key = k; byte = b } ∷ ts
+abbrev pub targetOne : Act → List Target → List Target
+targetOne Quiet ts = ts
+targetOne (Body h p k) ts = ts
+targetOne (Store p w) ts = ts
+targetOne (Add p k b) ts = record { loadedAt = p; key = k; byte = b } ∷ ts
 
 unfoldable pub targets : List Act → List Target
 targets [] = []
-targets (a ∷ us) = target1 a (targets us)
+targets (a ∷ us) = targetOne a (targets us)
 
 abbrev pub targetsOf : List ℕ → List Target
 targetsOf file = targets (actsOf file)
 
 -- the amount of an act, if it asks for one
-abbrev pub shift1 : List ℕ → (ℕ → ℕ) → Act → List ℕ
-shift1 m f Quiet = m
-shift1 m f (Body h p k) = m
-shift1 m f (Store p w) = m
-shift1 m f (Add p k b) = addAt m p (f k)
+abbrev pub shiftOne : List ℕ → (ℕ → ℕ) → Act → List ℕ
+shiftOne m f Quiet = m
+shiftOne m f (Body h p k) = m
+shiftOne m f (Store p w) = m
+shiftOne m f (Add p k b) = addAt m p (f k)
 
 -- entry k of a list of amounts
 abbrev pub amountOf : List ℕ → ℕ → ℕ
@@ -59,7 +52,7 @@ amountOf l k = getD l k 0
 
 -- hunks with no amount added yet: zeros where nothing is stored, and what stands after the last hunk as it was
 abbrev pub bodiesOf : List ℕ → List ℕ → List ℕ
-bodiesOf file m = placed (replicate (loadedOf file) 0 ++ drop (loadedOf file) m) (actsOf file)
+bodiesOf file m = withStored (replicate (loadedOf file) 0 ++ drop (loadedOf file) m) (actsOf file)
 
 -- a load adds to each target the base of its hunk
 abbrev pub loadOf : List ℕ → List ℕ → List ℕ → List ℕ

@@ -1,19 +1,16 @@
--- Two targets in one hunk less than 4 bytes apart are refused, at the offset that comes later in the file (docs/FORMAT.md, "Bases and
--- room"; refusal 42). Places in all of memory are compared: those of two hunks are never that near (`near-one-hunk`, proofs/OneHunk.antt).
+-- Two targets in one hunk less than 4 bytes apart are refused, at the offset that comes later in the file
+-- (docs/FORMAT.md, "Bases and room"; refusal 42). Bytes in all of memory are compared: targets of two hunks are
+-- never that near (`near-one-hunk`, proofs/OneHunk.antt).
 use Prim.Native.Nat.{ℕ, _+_}
-use mathlib.Core.Path.{_≡_}
 use mathlib.Core.List.{List, [], _∷_}
 use mathlib.Core.Bool.{Bool, true, false}
 use lib.Dec.{ltb}
-use Rattle.words.specs.Word.{wordAt, setWord}
 use Rattle.words.specs.Shift.{Target}
 use Rattle.answers.specs.Numbers as fault
 use Rattle.answers.specs.Tests.{pick}
 use Rattle.answers.specs.Refusals.{refusal}
 use Rattle.answers.specs.declared.Tested.{Tested}
 use Rattle.answers.specs.declared.Tested.the-variants.{Passed, Failed}
-use Rattle.program.specs.declared.act.Act.{Act}
-use Rattle.program.specs.declared.act.Act.the-variants.{Quiet, Body, Store, Add}
 use Rattle.loader.specs.Memory.{targetsOf}
 
 abbrev pub near : ℕ → ℕ → Bool
@@ -26,18 +23,10 @@ nearAny p (q ∷ qs) = pick (near p q) true (nearAny p qs)
 -- the first target too near one of those before it
 unfoldable pub clash : List ℕ → List Target → Tested
 clash seen [] = Passed
-clash seen (t ∷ ts) = pick (nearAny (t .place) seen) (Failed (refusal fault.nearTargets (t .byte))) (clash (t .place ∷ seen) ts)
+clash seen (t ∷ ts) =
+    pick (nearAny (t .loadedAt) seen)
+    (Failed (refusal fault.nearTargets (t .byte)))
+    (clash (t .loadedAt ∷ seen) ts)
 
 abbrev pub clashOf : List ℕ → Tested
 clashOf file = clash [] (targetsOf file)
-
--- what the marking of one act does to the work area
-abbrev pub marks1 : List ℕ → Act → Bool → List ℕ → Type 0
-marks1 m Quiet r n = (r ≡ false) × (n ≡ m)
-marks1 m (Body h p k) r n = (r ≡ false) × (n ≡ m)
-marks1 m (Store p w) r n = (r ≡ false) × (n ≡ m)
-marks1 m (Add p k b) true n = (wordAt m p ≡ 0 → ⊥) × (n ≡ m)
-marks1 m (Add p k b) false n = (wordAt m p ≡ 0) × (n ≡ setWord m p 0x01010101)
-
-pub record Marks (m : List ℕ) (a : Act) (r : Bool) (n : List ℕ) : Type 0 where
-  pub marks : marks1 m a r n

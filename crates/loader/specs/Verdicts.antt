@@ -1,5 +1,5 @@
--- What the answers of a load and a move say, in the terms of the page: when a call is accepted, and when 40, 41 and 42 are given (the build
--- paper, "The program file" and "Numbers").
+-- What the answers of a load and a move say, in the terms of the page: when a call is accepted, and when 40, 41 and
+-- 42 are given (docs/FORMAT.md, "The program file" and "Numbers").
 use Prim.Native.Nat.{ℕ, _+_, _*_, _%_, _^_, _<_, _≤_}
 use mathlib.Core.Path.{_≡_}
 use mathlib.Core.Logic.{_≢_, _⊎_}
@@ -30,7 +30,8 @@ Owns size bases i a = (amountOf bases i ≤ a) × (a < amountOf bases i + 4 * si
 abbrev pub Shared : (ℕ → ℕ) → List ℕ → ℕ → ℕ → Type 0
 Shared size bases i j = (a : ℕ) × Owns size bases i a × Owns size bases j a
 
--- entry i is as it must be: a multiple of 4, base plus size in bytes at most 2^32, no address shared with an earlier entry
+-- entry i is as it must be: a multiple of 4, base plus size in bytes at most 2^32, no address shared with an earlier
+-- entry
 pub record GoodEntry (size : ℕ → ℕ) (bases : List ℕ) (i : ℕ) : Type 0 where
   pub multiple : amountOf bases i % 4 ≡ 0
   pub below : amountOf bases i + 4 * size i ≤ 2 ^ 32
@@ -46,11 +47,14 @@ pub record GoodBases (hs : List Hunk) (bases : List ℕ) : Type 0 where
   pub count : length bases ≡ length hs
   pub entries : (i : ℕ) → i < length hs → GoodEntry (sizeAt hs) bases i
 
--- 40 at place p, of a list whose entries count from `from`: the count is wrong, at the list's entry 0; or the first bad entry
+-- 40 at place p, of a list whose entries count from `from`: the count is wrong, at the list's entry 0; or the first
+-- bad entry
 abbrev pub BadBases : List Hunk → List ℕ → ℕ → ℕ → Type 0
 BadBases hs bases from p =
     ((length bases ≢ length hs) × (p ≡ from))
-    ⊎ ((length bases ≡ length hs) × ((i : ℕ) × (i < length hs) × BadEntry (sizeAt hs) bases i × ((j : ℕ) → j < i → GoodEntry (sizeAt hs) bases j) × (p ≡ from + i)))
+    ⊎ ((length bases ≡ length hs)
+    × ((i : ℕ) × (i < length hs) × BadEntry (sizeAt hs) bases i
+    × ((j : ℕ) → j < i → GoodEntry (sizeAt hs) bases j) × (p ≡ from + i)))
 
 -- of the lists that a call is lent, in order: the first that is bad; each counts on from the one before
 abbrev pub FirstBad : List Hunk → ℕ → List (List ℕ) → ℕ → Type 0
@@ -73,7 +77,7 @@ Short t n memory records work = (memory < n) ⊎ (records < t) ⊎ (work < n)
 
 -- two targets of one hunk, less than 4 bytes apart
 abbrev pub Near : PageTarget → PageTarget → Type 0
-Near x y = (x .hunk ≡ y .hunk) × (x .place < y .place + 4) × (y .place < x .place + 4)
+Near x y = (x .hunk ≡ y .hunk) × (x .loadedAt < y .loadedAt + 4) × (y .loadedAt < x .loadedAt + 4)
 
 -- no target is near another of the list
 abbrev pub Spaced : List PageTarget → Type 0
@@ -94,7 +98,8 @@ pub record FirstNear (hs : List Hunk) (p : ℕ) : Type 0 where
 
 -- ---- a call
 
--- a call that is lent these lists of bases (a load one, a move the old and the new) is accepted, with t hunks and n bytes
+-- a call that is lent these lists of bases (a load one, a move the old and the new) is accepted, with t hunks and n
+-- bytes
 pub record Takes (hs : List Hunk) (lists : List (List ℕ)) (memory records work t n : ℕ) : Type 0 where
   pub hunks : t ≡ length hs
   pub bytes : n ≡ 4 * total hs
@@ -114,8 +119,14 @@ abbrev pub Refuses42 : List Hunk → List (List ℕ) → ℕ → ℕ → ℕ →
 Refuses42 hs lists memory records work p =
     Each (GoodBases hs) lists × Room (length hs) (4 * total hs) memory records work × FirstNear hs p
 
+abbrev pub RefusesCall : List Hunk → List (List ℕ) → ℕ → ℕ → ℕ → ℕ → Refusal → Type 0
+RefusesCall hs lists memory records work p f =
+    ((f ≡ refusal fault.badBase p) × Refuses40 hs lists p)
+    ⊎ ((f ≡ refusal fault.shortRoom p) × Refuses41 hs lists memory records work p)
+    ⊎ ((f ≡ refusal fault.nearTargets p) × Refuses42 hs lists memory records work p)
+
 -- any refusal: of the file; else, of the hunks that it holds, 40, 41 or 42 at a place
 abbrev pub CallWhy : List ℕ → List (List ℕ) → ℕ → ℕ → ℕ → Refusal → Type 0
 CallWhy file lists memory records work f =
     (checkOf file ≡ Refused f)
-    ⊎ ((hs : List Hunk) × Holds file hs × (p : ℕ) × (((f ≡ refusal fault.badBase p) × Refuses40 hs lists p) ⊎ ((f ≡ refusal fault.shortRoom p) × Refuses41 hs lists memory records work p) ⊎ ((f ≡ refusal fault.nearTargets p) × Refuses42 hs lists memory records work p)))
+    ⊎ ((hs : List Hunk) × Holds file hs × (p : ℕ) × RefusesCall hs lists memory records work p f)

@@ -8,7 +8,7 @@ ghost use mathlib.Core.Path.{_≡_};
 ghost use Prim.Native.Nat.{_<_, _≤_};
 ghost use lib.ListN.{length};
 ghost use Rattle.program.specs.Header.{totalOf};
-ghost use Rattle.program.specs.Sane.{Sound};
+ghost use Rattle.program.specs.Cursors.{HeaderFits};
 ghost use Rattle.loader.specs.Bases.{larger, smaller, topOf, shares, entryBad, basesFault};
 
 // One past the last address.
@@ -34,7 +34,7 @@ fn smaller_of(a: u64, b: u64) -> u64
 
 // The first address after hunk i at its base.
 fn top(file: &[u8], bases: &[u32], i: usize) -> u64
-    requires { ⌜ (Sound (now file)) × (i < totalOf (now file)) × (i < length (now bases)) ⌝ }
+    requires { ⌜ (HeaderFits (now file)) × (i < totalOf (now file)) × (i < length (now bases)) ⌝ }
     ensures { λ r. ⌜ r ≡ topOf (now (file .entry)) (now (bases .entry)) i ⌝ }
 {
     bases[i] as u64 + 4 * size(file, i as u32) as u64
@@ -42,7 +42,7 @@ fn top(file: &[u8], bases: &[u32], i: usize) -> u64
 
 // Whether hunk i shares an address with one before it.
 fn shares_any(file: &[u8], bases: &[u32], i: usize) -> bool
-    requires { ⌜ (Sound (now file)) × (i < totalOf (now file)) × (length (now bases) ≡ totalOf (now file)) ⌝ }
+    requires { ⌜ (HeaderFits (now file)) × (i < totalOf (now file)) × (length (now bases) ≡ totalOf (now file)) ⌝ }
     ensures { λ r. ⌜ r ≡ shares (now (file .entry)) (now (bases .entry)) i i ⌝ }
 {
     let mut j = i;
@@ -59,7 +59,7 @@ fn shares_any(file: &[u8], bases: &[u32], i: usize) -> bool
 
 // Whether entry i of a list of bases is bad.
 fn entry_bad(file: &[u8], bases: &[u32], i: usize) -> bool
-    requires { ⌜ (Sound (now file)) × (i < totalOf (now file)) × (length (now bases) ≡ totalOf (now file)) ⌝ }
+    requires { ⌜ (HeaderFits (now file)) × (i < totalOf (now file)) × (length (now bases) ≡ totalOf (now file)) ⌝ }
     ensures { λ r. ⌜ r ≡ entryBad (now (file .entry)) (now (bases .entry)) i ⌝ }
 {
     if bases[i] % 4 != 0 {
@@ -73,7 +73,7 @@ fn entry_bad(file: &[u8], bases: &[u32], i: usize) -> bool
 
 // The first bad entry of a list of bases; entries count from `from`.
 pub(crate) fn bases_fault(file: &[u8], bases: &[u32], from: usize) -> Tested
-    requires { ⌜ (Sound (now file)) × (from ≤ 64) ⌝ }
+    requires { ⌜ (HeaderFits (now file)) × (from ≤ 64) ⌝ }
     ensures { λ r. ⌜ r ≡ basesFault (now (file .entry)) (now (bases .entry)) from ⌝ }
 {
     let t = total(file) as usize;

@@ -18,7 +18,8 @@ ghost use Prim.Native.Nat.{ℕ, _<_, _≤_};
 ghost use lib.ListN.{length, getD, take, drop};
 ghost use Rattle.answers.specs.Refusals.{refusal};
 ghost use Rattle.loader.specs.Memory.{moved, amountOf};
-ghost use Rattle.loader.specs.Calls.{roomFault, also, lastTests, loadAnswer, moveAnswer, LoadsCore, MovesCore, Fills, filled, Loads, Moves, Good};
+ghost use Rattle.loader.specs.Calls.{roomFault, also, lastTests, loadAnswer, moveAnswer, Loads, Moves};
+ghost use Rattle.loader.specs.Parts.{LoadsCore, MovesCore, Fills, filled, AcceptedFile};
 
 // An answer, and the records' numbers beside it.
 pub struct Outcome {
@@ -65,7 +66,7 @@ fn also_test(a: Answer, h: Tested) -> Answer
 
 // Room and near targets, after the other tests.
 fn last_tests(file: &[u8], a: Answer, memory: usize, records: usize, work: &mut [u8]) -> Answer
-    requires { ⌜ ((t : ℕ) → (n : ℕ) → a ≡ Answer.Accepted t n → Good (now file) t n) × ((k : ℕ) → getD (now work) k 0 ≡ 0) ⌝ }
+    requires { ⌜ ((t : ℕ) → (n : ℕ) → a ≡ Answer.Accepted t n → AcceptedFile (now file) t n) × ((k : ℕ) → getD (now work) k 0 ≡ 0) ⌝ }
     ensures { λ r. ⌜ r ≡ lastTests (now (file .entry)) a memory records (length (now (work .entry))) ⌝ }
 {
     let Answer::Accepted(t, n) = a else {

@@ -14,9 +14,10 @@ ghost use mathlib.Core.Path.{_≡_};
 ghost use Prim.Native.Nat.{ℕ, _+_, _%_, _≤_};
 ghost use lib.ListN.{length, getD};
 ghost use Rattle.words.specs.Word.{setWord};
-ghost use Rattle.program.specs.Sane.{Sound};
-ghost use Rattle.loader.specs.Memory.{ActFits, loadedOf};
-ghost use Rattle.loader.specs.Near.{clashOf, Marks};
+ghost use Rattle.program.specs.Cursors.{HeaderFits};
+ghost use Rattle.loader.specs.Memory.{loadedOf};
+ghost use Rattle.loader.specs.Near.{clashOf};
+ghost use Rattle.loader.specs.Parts.{ActFits, Marks};
 
 // Four bytes of 1.
 const MARK: u32 = 0x01010101;
@@ -46,7 +47,7 @@ fn mark_act(work: &mut [u8], a: Act) -> bool
 
 // The first target too near an earlier one; the work area is all 0 at first.
 pub(crate) fn mark_all(file: &[u8], work: &mut [u8]) -> Tested
-    requires { ⌜ (Sound (now file)) × (length (now file) % 4 ≡ 0) × (loadedOf (now file) ≤ length (now work)) × ((k : ℕ) → getD (now work) k 0 ≡ 0) ⌝ }
+    requires { ⌜ (HeaderFits (now file)) × (length (now file) % 4 ≡ 0) × (loadedOf (now file) ≤ length (now work)) × ((k : ℕ) → getD (now work) k 0 ≡ 0) ⌝ }
     ensures { λ r. ⌜ r ≡ clashOf (now (file .entry)) ⌝ }
 {
     let mut c = begin();
@@ -57,13 +58,13 @@ pub(crate) fn mark_all(file: &[u8], work: &mut [u8]) -> Tested
         let Next::On(d) = n else {
             return Tested::Passed;
         };
+        let s = past(file, d, at + 4);
         if mark_act(work, act_of(c, at, w)) {
             return Tested::Failed(Refusal {
                 number: Fault::NEAR_TARGETS,
                 place: at,
             });
         }
-        let s = past(file, d, at + 4);
         c = s.cursor;
         at = s.at;
     }

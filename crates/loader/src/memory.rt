@@ -14,12 +14,13 @@ ghost use Rattle.words.specs.Word.{addAt};
 ghost use Rattle.words.specs.Shift.{shiftAll};
 ghost use Rattle.program.specs.Header.{totalOf};
 ghost use Rattle.program.specs.Acts.{actsOf};
-ghost use Rattle.program.specs.Sane.{Sound};
-ghost use Rattle.loader.specs.Memory.{ActFits, place1, placed, shift1, targetsOf, loadedOf, amountOf};
+ghost use Rattle.program.specs.Cursors.{HeaderFits};
+ghost use Rattle.loader.specs.Memory.{storeOne, withStored, shiftOne, targetsOf, loadedOf, amountOf};
+ghost use Rattle.loader.specs.Parts.{ActFits};
 
 fn store_act(memory: &mut [u8], a: Act)
     requires { ⌜ ActFits (length (now memory)) 64 a ⌝ }
-    ensures { λ _. ⌜ now (memory .exit) ≡ place1 (now (memory .entry)) a ⌝ }
+    ensures { λ _. ⌜ now (memory .exit) ≡ storeOne (now (memory .entry)) a ⌝ }
 {
     if let Act::Store(p, w) = a {
         words::put_word(memory, p, w);
@@ -28,8 +29,8 @@ fn store_act(memory: &mut [u8], a: Act)
 
 // Stores the words of all hunks.
 pub(crate) fn store_all(file: &[u8], memory: &mut [u8])
-    requires { ⌜ (Sound (now file)) × (length (now file) % 4 ≡ 0) × (loadedOf (now file) ≤ length (now memory)) ⌝ }
-    ensures { λ _. ⌜ now (memory .exit) ≡ placed (now (memory .entry)) (actsOf (now (file .entry))) ⌝ }
+    requires { ⌜ (HeaderFits (now file)) × (length (now file) % 4 ≡ 0) × (loadedOf (now file) ≤ length (now memory)) ⌝ }
+    ensures { λ _. ⌜ now (memory .exit) ≡ withStored (now (memory .entry)) (actsOf (now (file .entry))) ⌝ }
 {
     let mut c = begin();
     let mut at = 4 * WORDS + 4 * total(file) as usize;
@@ -56,7 +57,7 @@ fn add_amount(memory: &mut [u8], amounts: &[u32], p: usize, k: u32)
 
 fn add_act(memory: &mut [u8], amounts: &[u32], a: Act)
     requires { ⌜ ActFits (length (now memory)) (length (now amounts)) a ⌝ }
-    ensures { λ _. ⌜ now (memory .exit) ≡ shift1 (now (memory .entry)) (amountOf (now (amounts .entry))) a ⌝ }
+    ensures { λ _. ⌜ now (memory .exit) ≡ shiftOne (now (memory .entry)) (amountOf (now (amounts .entry))) a ⌝ }
 {
     if let Act::Add(p, k, _) = a {
         add_amount(memory, amounts, p, k);
@@ -65,7 +66,7 @@ fn add_act(memory: &mut [u8], amounts: &[u32], a: Act)
 
 // Adds to each target the amount of its hunk.
 pub(crate) fn add_all(file: &[u8], memory: &mut [u8], amounts: &[u32])
-    requires { ⌜ (Sound (now file)) × (length (now file) % 4 ≡ 0) × (loadedOf (now file) ≤ length (now memory)) × (totalOf (now file) ≤ length (now amounts)) ⌝ }
+    requires { ⌜ (HeaderFits (now file)) × (length (now file) % 4 ≡ 0) × (loadedOf (now file) ≤ length (now memory)) × (totalOf (now file) ≤ length (now amounts)) ⌝ }
     ensures { λ _. ⌜ now (memory .exit) ≡ shiftAll (now (memory .entry)) (targetsOf (now (file .entry))) (amountOf (now (amounts .entry))) ⌝ }
 {
     let mut c = begin();
@@ -76,8 +77,8 @@ pub(crate) fn add_all(file: &[u8], memory: &mut [u8], amounts: &[u32])
         let Next::On(d) = n else {
             return;
         };
-        add_act(memory, amounts, act_of(c, at, w));
         let s = past(file, d, at + 4);
+        add_act(memory, amounts, act_of(c, at, w));
         c = s.cursor;
         at = s.at;
     }

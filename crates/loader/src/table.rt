@@ -13,13 +13,13 @@ ghost use Prim.Native.Nat.{_*_, _%_, _≤_};
 ghost use lib.ListN.{length};
 ghost use Rattle.program.specs.Header.{totalOf};
 ghost use Rattle.program.specs.Acts.{actsOf};
-ghost use Rattle.program.specs.Sane.{Sound};
-ghost use Rattle.loader.specs.Memory.{ActFits};
-ghost use Rattle.loader.specs.Table.{entry1, listed};
+ghost use Rattle.program.specs.Cursors.{HeaderFits};
+ghost use Rattle.loader.specs.Parts.{ActFits};
+ghost use Rattle.loader.specs.Table.{recordOne, withRecords};
 
 fn write_act(file: &[u8], bases: &[u32], table: &mut [u32], a: Act)
-    requires { ⌜ (Sound (now file)) × (ActFits 4294967296 (totalOf (now file)) a) × (totalOf (now file) ≤ length (now bases)) × (4 * totalOf (now file) ≤ length (now table)) ⌝ }
-    ensures { λ _. ⌜ now (table .exit) ≡ entry1 (now (file .entry)) (now (bases .entry)) (now (table .entry)) a ⌝ }
+    requires { ⌜ (HeaderFits (now file)) × (ActFits 4294967296 (totalOf (now file)) a) × (totalOf (now file) ≤ length (now bases)) × (4 * totalOf (now file) ≤ length (now table)) ⌝ }
+    ensures { λ _. ⌜ now (table .exit) ≡ recordOne (now (file .entry)) (now (bases .entry)) (now (table .entry)) a ⌝ }
 {
     if let Act::Body(h, p, k) = a {
         let i = h as usize;
@@ -32,8 +32,8 @@ fn write_act(file: &[u8], bases: &[u32], table: &mut [u32], a: Act)
 
 // Writes the record of each hunk.
 pub(crate) fn write_all(file: &[u8], bases: &[u32], table: &mut [u32])
-    requires { ⌜ (Sound (now file)) × (length (now file) % 4 ≡ 0) × (totalOf (now file) ≤ length (now bases)) × (4 * totalOf (now file) ≤ length (now table)) ⌝ }
-    ensures { λ _. ⌜ now (table .exit) ≡ listed (now (file .entry)) (now (bases .entry)) (now (table .entry)) (actsOf (now (file .entry))) ⌝ }
+    requires { ⌜ (HeaderFits (now file)) × (length (now file) % 4 ≡ 0) × (totalOf (now file) ≤ length (now bases)) × (4 * totalOf (now file) ≤ length (now table)) ⌝ }
+    ensures { λ _. ⌜ now (table .exit) ≡ withRecords (now (file .entry)) (now (bases .entry)) (now (table .entry)) (actsOf (now (file .entry))) ⌝ }
 {
     let mut c = begin();
     let mut at = 4 * WORDS + 4 * total(file) as usize;
@@ -43,8 +43,8 @@ pub(crate) fn write_all(file: &[u8], bases: &[u32], table: &mut [u32])
         let Next::On(d) = n else {
             return;
         };
-        write_act(file, bases, table, act_of(c, at, w));
         let s = past(file, d, at + 4);
+        write_act(file, bases, table, act_of(c, at, w));
         c = s.cursor;
         at = s.at;
     }

@@ -20,21 +20,21 @@ use Rattle.volume.specs.References.{Kind, Ref, to, references}
 use Rattle.volume.specs.Law.{chainKey, Hangs, Tree}
 use Rattle.volume.proofs.Passes.{root-passes}
 use Rattle.volume.proofs.Breaks.{root-sound}
-use Rattle.walk.specs.Nodes.{Node, root, bitmap, entry, list, datum, bare, chained, slotNodes, before, keyNodes, listing, listed, contents, leadsTo, graph}
+use Rattle.walk.specs.Nodes.{Node, root, bitmap, entry, list, datum, bare, chained, slotNodes, before, keyNodes, listLink, keyBlockNodes, contents, leadsTo, graph}
 use Rattle.walk.proofs.Nodes.{in-linked, in-slots, in-keys}
 use Rattle.walk.proofs.Accepts.{block-reached, node-reached}
 use Rattle.walk.proofs.Chains.{chain-some}
-use Rattle.walk.proofs.Places.{Holder, chain-apart}
+use Rattle.walk.proofs.Positions.{Holder, chain-apart}
 use Rattle.walk.proofs.Coherent.{Coherent, leads-coherent}
-use Rattle.walk.proofs.Lawful.{held-by, tree-fine}
+use Rattle.walk.proofs.Lawful.{held-by, tree-passes}
 use Rattle.lookup.specs.declared.find.Found.the-variants.{Directory, File}
 use Rattle.lookup.specs.Paths.{longestPath, components, isComponent}
-use Rattle.lookup.specs.Search.{placeKey}
+use Rattle.lookup.specs.Search.{positionKey}
 use Rattle.lookup.specs.Lookup.{refuse, findOf}
 use Rattle.lookup.specs.Trails.{Tests, Equal, First, Trail, stay, down, Names, none, into, Lies, pathOf}
 use Rattle.lookup.specs.Verdicts.{long, Opened, number-18}
 use Rattle.lookup.proofs.Refusing.{refused-exactly, directory-exactly, file-exactly}
-use Rattle.lookup.proofs.OnTrees.{place-tests, first-reached}
+use Rattle.lookup.proofs.OnTrees.{position-tests, first-reached}
 use Rattle.lookup.proofs.Joins.{Components, name-component, components-joined, joined-form}
 
 -- ---- the path of an entry
@@ -57,20 +57,20 @@ module _ (d : Disk) (s : List ℕ) (v : Tree d s) where
   slots-led : (t : ℕ) (cs : List (List ℕ)) → Names s (rootOf d) cs t → (x : Node) → x ∈ slotNodes s t 0 slots → Led x
   slots-led t cs n x a = let r = in-slots s t 0 slots x a in subst Led (sym (r .2 .1)) (cs, n)
 
-  listed-led : (h b m c : ℕ) (x : Node) → x ∈ listed d s h b m c → Led x
-  listed-led h b m c x a = go (in-either x (keyNodes s h b m c 0 n) (listing (wordOf s b 126) h (m + n) (before s b c n)) a)
+  nodes-led : (h b m c : ℕ) (x : Node) → x ∈ keyBlockNodes d s h b m c → Led x
+  nodes-led h b m c x a = go (in-either x (keyNodes s h b m c 0 n) (listLink (wordOf s b 126) h (m + n) (before s b c n)) a)
     where
       n : ℕ
       n = keysHere (blocksOf d s h - m)
 
-      go : (x ∈ keyNodes s h b m c 0 n) ⊎ (x ∈ listing (wordOf s b 126) h (m + n) (before s b c n)) → Led x
+      go : (x ∈ keyNodes s h b m c 0 n) ⊎ (x ∈ listLink (wordOf s b 126) h (m + n) (before s b c n)) → Led x
       go (inl a) = subst Led (sym (in-keys s h b m c 0 n x a .3)) tt
       go (inr a) = subst Led (sym (in-linked (wordOf s b 126) (λ k. list k h (m + n) (before s b c n)) x a .1)) tt
 
   contents-led : (k t i p : ℕ) (b : Bool) → directory s k ≡ b → Coherent d s (entry k t i p) → Led (entry k t i p) → (x : Node) → x ∈ contents d s k b → Led x
   contents-led k t i p true e c h x a =
-      slots-led k (h .0 ++ (nameOf s k ∷ [])) (names-end s (h .1) i k (record { slot = c .1; place = p; there = c .2; some = c .3 }) e) x a
-  contents-led k t i p false e c h x a = listed-led k k 0 k x a
+      slots-led k (h .0 ++ (nameOf s k ∷ [])) (names-end s (h .1) i k (record { slot = c .1; position = p; there = c .2; some = c .3 }) e) x a
+  contents-led k t i p false e c h x a = nodes-led k k 0 k x a
 
   leads-led : (m : Node) → Coherent d s m → Led m → (x : Node) → x ∈ leadsTo d s m → Led x
   unfolding leadsTo
@@ -82,7 +82,7 @@ module _ (d : Disk) (s : List ℕ) (v : Tree d s) where
       go : (x ∈ contents d s k (directory s k)) ⊎ (x ∈ chained (wordOf s k 124) t i (suc p)) → Led x
       go (inl a) = contents-led k t i p (directory s k) refl c h x a
       go (inr a) = subst Led (sym (in-linked (wordOf s k 124) (λ k. entry k t i (suc p)) x a .1)) h
-  leads-led (list k h′ m b) c h x a = listed-led h′ k m b x a
+  leads-led (list k h′ m b) c h x a = nodes-led h′ k m b x a
   leads-led (datum k h′ n b) c h x a = absurd a
 
   led : {n : Node} → Reached (graph d s .references) n → Coherent d s n × Led n
@@ -92,18 +92,18 @@ module _ (d : Disk) (s : List ℕ) (v : Tree d s) where
       go : Coherent d s m × Led m → Coherent d s n × Led n
       go w =
           let a = at-in n i (leadsTo d s m) h in
-          (leads-coherent d s m (block-reached d s (tree-fine d s v) r) (v .files) (w .0) n a, leads-led m (w .0) (w .1) n a)
+          (leads-coherent d s m (block-reached d s (tree-passes d s v) r) (v .files) (w .0) n a, leads-led m (w .0) (w .1) n a)
 
   -- Every reached entry hangs below the root by the names of directories.
   pub reached-lies : (k : ℕ) → Reached (references d s) (to Kind.entry k) → Lies s (rootOf d) k
-  reached-lies k r = let w = node-reached d s (tree-fine d s v) r in go (w .0) (led (w .1)) (w .2)
+  reached-lies k r = let w = node-reached d s (tree-passes d s v) r in go (w .0) (led (w .1)) (w .2)
     where
       go : (n : Node) → Coherent d s n × Led n → to Kind.entry k ≡ bare d n → Lies s (rootOf d) k
       go root w e = let f : Kind.entry ≡ Kind.root = ap (λ (r : Ref). r .kind) e in impossible cc
       go (bitmap b) w e = let f : Kind.entry ≡ Kind.bitmap = ap (λ (r : Ref). r .kind) e in impossible cc
       go (entry b t i p) w e =
           let x : k ≡ b = ap (λ (r : Ref). r .key) e in
-          rw x (record { front = w .1 .0; parent = t; above = w .1 .1; slot = i; hangs = record { slot = w .0 .1; place = p; there = w .0 .2; some = w .0 .3 } })
+          rw x (record { front = w .1 .0; parent = t; above = w .1 .1; slot = i; hangs = record { slot = w .0 .1; position = p; there = w .0 .2; some = w .0 .3 } })
       go (list b h m c) w e = let f : Kind.entry ≡ Kind.list = ap (λ (r : Ref). r .kind) e in impossible cc
       go (datum b h n c) w e = let f : Kind.entry ≡ Kind.datum = ap (λ (r : Ref). r .kind) e in impossible cc
 
@@ -117,31 +117,31 @@ module _ (d : Disk) (s : List ℕ) (v : Tree d s) where
     slot-is = held-by d s v t holder .slot i k h
 
     -- the chain of its name is the one on which it hangs
-    place-is : (q : ℕ) → placeKey d s t name q ≡ chainKey s (slotWord s t i) q
-    place-is q = rw slot-is
+    position-is : (q : ℕ) → positionKey d s t name q ≡ chainKey s (slotWord s t i) q
+    position-is q = rw slot-is
 
-    hang-key : placeKey d s t (nameOf s k) (h .place) ≡ k
-    hang-key = place-is (h .place) ∙ h .there
+    hang-key : positionKey d s t (nameOf s k) (h .position) ≡ k
+    hang-key = position-is (h .position) ∙ h .there
 
-    hang-some : (q : ℕ) → q ≤ h .place → chainKey s (slotWord s t i) q ≢ 0
-    hang-some q l = chain-some s (slotWord s t i) (h .place) q l (λ z. h .some (sym (h .there) ∙ z))
+    hang-some : (q : ℕ) → q ≤ h .position → chainKey s (slotWord s t i) q ≢ 0
+    hang-some q l = chain-some s (slotWord s t i) (h .position) q l (λ z. h .some (sym (h .there) ∙ z))
 
-    hang-tests : (q : ℕ) → q ≤ h .place → Tests d s t name q
-    hang-tests q l = place-tests d s v t name holder q (λ z. hang-some q l (sym (place-is q) ∙ z))
+    hang-tests : (q : ℕ) → q ≤ h .position → Tests d s t name q
+    hang-tests q l = position-tests d s v t name holder q (λ z. hang-some q l (sym (position-is q) ∙ z))
 
     -- an earlier entry of the same name would be the same block
-    hang-differs : (q : ℕ) → q < h .place → Equal d s t name q → ⊥
+    hang-differs : (q : ℕ) → q < h .position → Equal d s t name q → ⊥
     hang-differs q l e =
         let b = chainKey s (slotWord s t i) q in
-        let g : Hangs s t i b = record { slot = h .slot; place = q; there = refl; some = hang-some q (omega arith) } in
-        let f = held-by d s v t holder .names i i b k g h (ap (λ x. folded d (nameOf s x)) (sym (place-is q)) ∙ e) in
-        chain-apart d s t i holder (h .slot) (v .owned) q (h .place) l (hang-some (h .place) (omega arith)) (f ∙ sym (h .there))
+        let g : Hangs s t i b = record { slot = h .slot; position = q; there = refl; some = hang-some q (omega arith) } in
+        let f = held-by d s v t holder .names i i b k g h (ap (λ x. folded d (nameOf s x)) (sym (position-is q)) ∙ e) in
+        chain-apart d s t i holder (h .slot) (v .owned) q (h .position) l (hang-some (h .position) (omega arith)) (f ∙ sym (h .there))
 
-    hang-first : First d s t (nameOf s k) (h .place)
-    hang-first = record { tests = hang-tests (h .place) (omega arith); named = ap (λ x. folded d (nameOf s x)) hang-key; others = λ q a l. (hang-tests q (omega arith), hang-differs q l) }
+    hang-first : First d s t (nameOf s k) (h .position)
+    hang-first = record { tests = hang-tests (h .position) (omega arith); named = ap (λ x. folded d (nameOf s x)) hang-key; others = λ q a l. (hang-tests q (omega arith), hang-differs q l) }
 
     hang-reached : Reached (references d s) (to Kind.entry k)
-    hang-reached = rw hang-key at (first-reached d s v t (nameOf s k) holder (h .place) hang-first)
+    hang-reached = rw hang-key at (first-reached d s v t (nameOf s k) holder (h .position) hang-first)
 
     hang-component : isComponent (nameOf s k) ≡ true
     hang-component =
@@ -154,7 +154,7 @@ module _ (d : Disk) (s : List ℕ) (v : Tree d s) where
   names-trail {t} {k} o (into {b = b} {cs = cs} i h e r) =
       let w = names-trail (inr (hang-reached t i b o h, e)) r in
       let q = hang-key t i b o h in
-      (h .place + 1 + w .0, down {k = k} {n = w .0} {cs = cs} (h .place) (hang-first t i b o h) (rw q e) (rw q (w .1)))
+      (h .position + 1 + w .0, down {k = k} {n = w .0} {cs = cs} (h .position) (hang-first t i b o h) (rw q e) (rw q (w .1)))
 
   names-good : {t k : ℕ} {cs : List (List ℕ)} → Holder d s t → Names s t cs k → Components cs
   names-good o none c m = absurd m
@@ -194,8 +194,8 @@ module _ (d : Disk) (s : List ℕ) (v : Tree d s) where
     found false e l =
         let w = names-trail (inl refl) (h .above) in
         let q = hang-key (h .parent) (h .slot) k holder (h .hangs) in
-        let n = w .0 + (h .hangs .place + 1) in
-        (n, file-exactly d s (pathOf s (rootOf d) k h) k (sizeOf s k) n .1 (record { opened = opens l; comes = record { front = h .front; name = nameOf s k; back = []; parts = parts; parent = h .parent; compared = w .0; trail = w .1 }; place = h .hangs .place; found = hang-first (h .parent) (h .slot) k holder (h .hangs); kind = rw q e; last = refl; key = q; size = rw q; count = refl }))
+        let n = w .0 + (h .hangs .position + 1) in
+        (n, file-exactly d s (pathOf s (rootOf d) k h) k (sizeOf s k) n .1 (record { opened = opens l; comes = record { front = h .front; name = nameOf s k; back = []; parts = parts; parent = h .parent; compared = w .0; trail = w .1 }; position = h .hangs .position; found = hang-first (h .parent) (h .slot) k holder (h .hangs); kind = rw q e; last = refl; key = q; size = rw q; count = refl }))
 
     -- It is found by its path, if that is not too long, with its own key and kind.
     pub reached-found : length (pathOf s (rootOf d) k h) ≤ longestPath → (n : ℕ) × (findOf d s (pathOf s (rootOf d) k h) ≡ pick (directory s k) (Directory k n) (File k (sizeOf s k) n))

@@ -25,7 +25,7 @@ use Rattle.volume.proofs.Passes.{entry-passed}
 use Rattle.volume.proofs.Breaks.{key-inside, entry-sound}
 use Rattle.lookup.specs.declared.chain.Step.{Step}
 use Rattle.lookup.specs.declared.chain.Step.the-variants.{At, Ended, Fault}
-use Rattle.lookup.specs.Search.{placeKey, placeFault, visit, searchFrom, searchOf}
+use Rattle.lookup.specs.Search.{positionKey, positionFault, visit, searchFrom, searchOf}
 use Rattle.lookup.specs.Trails.{Tests}
 use Rattle.lookup.proofs.Splits.{whole}
 
@@ -36,17 +36,17 @@ pub range-holds : (d : Disk) (s : List ℕ) (k : ℕ) (t : Bool) → length s �
 range-holds d s k t w e q = let h : k < d .blocks = range-is d k (sym e ∙ q) .1 in omega arith
 
 module _ (d : Disk) (s : List ℕ) (dir i p k : ℕ) (t : Bool) (e : t ≡ inRange d k) where
-  pub key-out : t ≡ false → 5 ≡ placeFault d s dir i p k
-  unfolding placeFault
+  pub key-out : t ≡ false → 5 ≡ positionFault d s dir i p k
+  unfolding positionFault
   key-out q = stop 5 _ _ tt (must-false 5 t (inRange d k) e q)
 
   module _ (q : t ≡ true) (l : ℕ) (f : l ≡ chainLimit d) where
-    pub key-far : l ≤ p → 6 ≡ placeFault d s dir i p k
-    unfolding placeFault
+    pub key-far : l ≤ p → 6 ≡ positionFault d s dir i p k
+    unfolding positionFault
     key-far h = go 6 _ _ (must-true 5 t (inRange d k) e q) (stop 6 _ _ tt (must-false 6 false (ltb p (chainLimit d)) (sym (le-ltb p (chainLimit d) (omega (arith, f)))) refl))
 
-    pub key-own : p < l → (r : ℕ) → r ≡ entryFault d s k dir i → r ≡ placeFault d s dir i p k
-    unfolding placeFault first
+    pub key-own : p < l → (r : ℕ) → r ≡ entryFault d s k dir i → r ≡ positionFault d s dir i p k
+    unfolding positionFault first
     key-own h r g = go r _ _ (must-true 5 t (inRange d k) e q) (go r _ _ (must-true 6 true (ltb p (chainLimit d)) (sym (lt-ltb p (chainLimit d) (omega (arith, f)))) refl) (go′ r (entryFault d s k dir i) g))
       where
         go′ : (r x : ℕ) → r ≡ x → r ≡ first x 0
@@ -59,39 +59,39 @@ pub record Passing (d : Disk) (s : List ℕ) (t i p k : ℕ) : Type 0 where
   pub near : p < chainLimit d
   pub fine : entryFault d s k t i ≡ 0
 
-pub key-passed : (d : Disk) (s : List ℕ) (t i p k : ℕ) → placeFault d s t i p k ≡ 0 → Passing d s t i p k
-unfolding placeFault
+pub key-passed : (d : Disk) (s : List ℕ) (t i p k : ℕ) → positionFault d s t i p k ≡ 0 → Passing d s t i p k
+unfolding positionFault
 key-passed d s t i p k e =
     let a = first-zero _ _ e in
     let b = first-zero _ _ (a .1) in
     record { ranged = must-passed _ 4 (a .0); near = ltb-true _ _ (must-passed _ 5 (b .0)); fine = first-zero _ _ (b .1) .0 }
 
--- ---- place by place
+-- ---- position by position
 
--- what the tests of place p say
+-- what the tests of position p say
 abbrev pub faultAt : Disk → List ℕ → ℕ → List ℕ → ℕ → ℕ
-faultAt d s t name p = placeFault d s t (slotOf d name) p (placeKey d s t name p)
+faultAt d s t name p = positionFault d s t (slotOf d name) p (positionKey d s t name p)
 
 -- they pass if and only if it has an entry as the law asks
 module _ (d : Disk) (s : List ℕ) (t : ℕ) (name : List ℕ) (p : ℕ) where
   pub tests-pass : Tests d s t name p → faultAt d s t name p ≡ 0
   tests-pass h =
-      let k = placeKey d s t name p in
-      sym (key-own d s t (slotOf d name) p k true (sym (key-inside d k .1 (h .inside))) refl (chainLimit d) refl (h .near) 0 (sym (entry-sound d s k t (slotOf d name) .1 (h .placed))))
+      let k = positionKey d s t name p in
+      sym (key-own d s t (slotOf d name) p k true (sym (key-inside d k .1 (h .inside))) refl (chainLimit d) refl (h .near) 0 (sym (entry-sound d s k t (slotOf d name) .1 (h .sound))))
 
-  pub pass-tests : placeKey d s t name p ≢ 0 → faultAt d s t name p ≡ 0 → Tests d s t name p
+  pub pass-tests : positionKey d s t name p ≢ 0 → faultAt d s t name p ≡ 0 → Tests d s t name p
   pass-tests z e =
-      let k = placeKey d s t name p in
+      let k = positionKey d s t name p in
       let h = key-passed d s t (slotOf d name) p k e in
-      record { some = z; inside = key-inside d k .0 (h .ranged); near = h .near; placed = entry-sound d s k t (slotOf d name) .0 (h .fine) }
+      record { some = z; inside = key-inside d k .0 (h .ranged); near = h .near; sound = entry-sound d s k t (slotOf d name) .0 (h .fine) }
 
 pub slot-below : (d : Disk) (xs : List ℕ) (i : ℕ) → i ≡ slotOf d xs → i < slots
 unfolding slotOf
 slot-below d xs i e = omega (arith, e)
 
-pub place-next : (d : Disk) (s : List ℕ) (t : ℕ) (name : List ℕ) (p : ℕ) → (placeKey d s t name p ≡ 0 → ⊥) → placeKey d s t name (p + 1) ≡ wordOf s (placeKey d s t name p) 124
+pub position-next : (d : Disk) (s : List ℕ) (t : ℕ) (name : List ℕ) (p : ℕ) → (positionKey d s t name p ≡ 0 → ⊥) → positionKey d s t name (p + 1) ≡ wordOf s (positionKey d s t name p) 124
 unfolding chainKey after
-place-next d s t name p h = rw add-one (go (placeKey d s t name p) h)
+position-next d s t name p h = rw add-one (go (positionKey d s t name p) h)
   where
     go : (k : ℕ) → (k ≡ 0 → ⊥) → after s k ≡ wordOf s k 124
     go zero h = absurd (h refl)
@@ -100,7 +100,7 @@ place-next d s t name p h = rw add-one (go (placeKey d s t name p) h)
 -- p entries are compared, and key k is next
 pub record Going (d : Disk) (s : List ℕ) (t : ℕ) (name : List ℕ) (p k : ℕ) : Type 0 where
   pub few : p ≤ chainLimit d
-  pub key : k ≡ placeKey d s t name p
+  pub key : k ≡ positionKey d s t name p
   pub rest : searchFrom d s t name (chainLimit d + 1 - p) p ≡ searchOf d s t name
 
 -- i is the slot of the name, and k the key in it
@@ -114,7 +114,7 @@ module _ (d : Disk) (s : List ℕ) (t : ℕ) (name : List ℕ) (p k : ℕ) (g : 
   abbrev on : Step
   on = searchFrom d s t name (chainLimit d - p) (p + 1)
 
-  step : visit d s name p k (placeFault d s t (slotOf d name) p k) on ≡ searchOf d s t name
+  step : visit d s name p k (positionFault d s t (slotOf d name) p k) on ≡ searchOf d s t name
   unfolding searchFrom
   step =
       let few = g .few in
@@ -126,7 +126,7 @@ module _ (d : Disk) (s : List ℕ) (t : ℕ) (name : List ℕ) (p k : ℕ) (g : 
   ends z = rw (eq-eqb k 0 z) at step
 
   -- v is what the tests of k say
-  module _ (z : k ≡ 0 → ⊥) (i v : ℕ) (e : i ≡ slotOf d (slice 0 (0 + length name) name)) (f : v ≡ placeFault d s t i p k) where
+  module _ (z : k ≡ 0 → ⊥) (i v : ℕ) (e : i ≡ slotOf d (slice 0 (0 + length name) name)) (f : v ≡ positionFault d s t i p k) where
     tested : visit d s name p k v on ≡ searchOf d s t name
     tested = rw (f, e, whole name) step
 
@@ -167,4 +167,4 @@ module _ (d : Disk) (s : List ℕ) (t : ℕ) (name : List ℕ) (p k : ℕ) (g : 
         unfolding pick
         goes k′ y w =
             let n : chainLimit d + 1 - (p + 1) ≡ chainLimit d - p = omega arith in
-            record { few = more; key = w ∙ ap (λ j. wordOf s j 124) (g .key) ∙ sym (place-next d s t name p (λ h. z (g .key ∙ h))); rest = rw n (rw y at compared) }
+            record { few = more; key = w ∙ ap (λ j. wordOf s j 124) (g .key) ∙ sym (position-next d s t name p (λ h. z (g .key ∙ h))); rest = rw n (rw y at compared) }

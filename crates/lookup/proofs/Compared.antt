@@ -31,7 +31,7 @@ module _ (d : Disk) (s : List ℕ) where
   module _ (path : List ℕ) where
     file-few : (k z n : ℕ) → IsFile d s path k z n → n ≤ length (components path) * chainLimit d
     file-few k z n h =
-        let a = first-few (h .comes .parent) (h .comes .name) (h .place) (h .found) in
+        let a = first-few (h .comes .parent) (h .comes .name) (h .position) (h .found) in
         let b = trail-few (h .comes .trail) in
         let e = ap length (h .comes .parts) ∙ length-append (h .comes .front) (h .comes .name ∷ h .comes .back) ∙ ap (λ l. length (h .comes .front) + suc (length l)) (h .last) in
         let g : length (components path) ≡ suc (length (h .comes .front)) = omega (arith, e) in

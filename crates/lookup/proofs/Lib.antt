@@ -4,7 +4,7 @@ pub mod Splits
 -- the search of one chain
 pub mod Chains
 -- what a search says, place by place
-pub mod Places
+pub mod Positions
 -- a lookup at its first component
 pub mod Lookups
 -- what a lookup says, component by component

@@ -30,7 +30,7 @@ use Rattle.lookup.specs.Search.{searchOf}
 use Rattle.lookup.specs.Lookup.{numbersOf, refuse, fileAt, stepped, lookupFrom, fromRoot, and, findOf, Finds}
 use Rattle.lookup.proofs.Splits.{split-more, split-end, path-components}
 use Rattle.lookup.proofs.Chains.{range-holds}
-use Rattle.lookup.proofs.Places.{first-equal-name, compared-most}
+use Rattle.lookup.proofs.Positions.{first-equal-name, compared-most}
 
 -- ---- an entry that a search came to
 

@@ -12,13 +12,13 @@ use Rattle.volume.specs.Blocks.{slots, slotWord, directory}
 use Rattle.volume.specs.Names.{slotOf}
 use Rattle.volume.specs.References.{Kind, to, references}
 use Rattle.volume.specs.Law.{chainKey, Hangs, Tree}
-use Rattle.volume.specs.Breaks.{Inside, Placed}
+use Rattle.volume.specs.Breaks.{Inside, EntrySound}
 use Rattle.volume.proofs.Passes.{root-passes}
 use Rattle.volume.proofs.Breaks.{root-breaks, entry-breaks, entry-sound}
-use Rattle.walk.proofs.Places.{Holder, from-chain, referred}
+use Rattle.walk.proofs.Positions.{Holder, from-chain, referred}
 use Rattle.walk.proofs.Lawful.{held-by}
 use Rattle.lookup.specs.declared.find.Found.the-variants.{Directory, File}
-use Rattle.lookup.specs.Search.{placeKey}
+use Rattle.lookup.specs.Search.{positionKey}
 use Rattle.lookup.specs.Lookup.{refuse, findOf}
 use Rattle.lookup.specs.Trails.{Tests, First, Trail, stay, down}
 use Rattle.lookup.specs.Verdicts.{Stands, Refuses, number-1, number-18, number-3, of-root, number-5, number-6, of-entry, number-19, number-20}
@@ -27,26 +27,26 @@ use Rattle.lookup.proofs.Refusing.{refused-exactly, directory-exactly, 
 use Rattle.lookup.proofs.Rooms.{chain-few}
 
 module _ (d : Disk) (s : List ℕ) (v : Tree d s) where
-  -- ---- place p of the chain of slot i of directory t
+  -- ---- position p of the chain of slot i of directory t
 
   module _ (t i p : ℕ) (holder : Holder d s t) (l : i < slots) (some : chainKey s (slotWord s t i) p ≢ 0) where
     abbrev k : ℕ
     k = chainKey s (slotWord s t i) p
 
-    pub place-reached : Reached (references d s) (to Kind.entry (chainKey s (slotWord s t i) p))
-    place-reached = referred d s k (from-chain d s t i holder l p some)
+    pub position-reached : Reached (references d s) (to Kind.entry (chainKey s (slotWord s t i) p))
+    position-reached = referred d s k (from-chain d s t i holder l p some)
 
-    pub place-inside : Inside d (chainKey s (slotWord s t i) p)
-    place-inside = let h = v .keys (to Kind.entry k) place-reached in record { low = h .0; high = h .1 }
+    pub position-inside : Inside d (chainKey s (slotWord s t i) p)
+    position-inside = let h = v .keys (to Kind.entry k) position-reached in record { low = h .0; high = h .1 }
 
-    pub place-placed : Placed d s (chainKey s (slotWord s t i) p) t i
-    place-placed =
-        let h : Hangs s t i k = record { slot = l; place = p; there = refl; some = some } in
+    pub position-sound : EntrySound d s (chainKey s (slotWord s t i) p) t i
+    position-sound =
+        let h : Hangs s t i k = record { slot = l; position = p; there = refl; some = some } in
         let b = held-by d s v t holder in
-        record { sum = v .sums (to Kind.entry k) place-reached; entry = v .entries k place-reached; parent = b .parent i k h; link = λ e. v .directories k place-reached e .0; slot = b .slot i k h }
+        record { sum = v .sums (to Kind.entry k) position-reached; entry = v .entries k position-reached; parent = b .parent i k h; link = λ e. v .directories k position-reached e .0; slot = b .slot i k h }
 
-    pub place-near : p < chainLimit d
-    place-near = chain-few d s v t i holder l p some
+    pub position-near : p < chainLimit d
+    position-near = chain-few d s v t i holder l p some
 
   module _ (t : ℕ) (name : List ℕ) (holder : Holder d s t) where
     abbrev i : ℕ
@@ -55,12 +55,12 @@ module _ (d : Disk) (s : List ℕ) (v : Tree d s) where
     low : i < slots
     low = slot-below d name i refl
 
-    pub place-tests : (p : ℕ) → placeKey d s t name p ≢ 0 → Tests d s t name p
-    place-tests p some = record { some = some; inside = place-inside t i p holder low some; near = place-near t i p holder low some; placed = place-placed t i p holder low some }
+    pub position-tests : (p : ℕ) → positionKey d s t name p ≢ 0 → Tests d s t name p
+    position-tests p some = record { some = some; inside = position-inside t i p holder low some; near = position-near t i p holder low some; sound = position-sound t i p holder low some }
 
     -- an entry that is found is reached
-    pub first-reached : (p : ℕ) → First d s t name p → Reached (references d s) (to Kind.entry (placeKey d s t name p))
-    first-reached p f = place-reached t i p holder low (f .tests .some)
+    pub first-reached : (p : ℕ) → First d s t name p → Reached (references d s) (to Kind.entry (positionKey d s t name p))
+    first-reached p f = position-reached t i p holder low (f .tests .some)
 
   pub trail-holder : {t k n : ℕ} {cs : List (List ℕ)} → Trail d s t cs k n → Holder d s t → Holder d s k
   trail-holder stay h = h
@@ -73,7 +73,7 @@ module _ (d : Disk) (s : List ℕ) (v : Tree d s) where
       held : (h : Stands d s path k) → Holder d s (h .comes .parent)
       held h = trail-holder (h .comes .trail) (inl refl)
 
-      some : (h : Stands d s path k) → placeKey d s (h .comes .parent) (h .comes .name) (h .place) ≢ 0
+      some : (h : Stands d s path k) → positionKey d s (h .comes .parent) (h .comes .name) (h .position) ≢ 0
       some h z = h .some (sym (h .key) ∙ z)
 
       go : Refuses d s path n k → (n ≡ 18) ⊎ (n ≡ 19) ⊎ (n ≡ 20)
@@ -83,11 +83,11 @@ module _ (d : Disk) (s : List ℕ) (v : Tree d s) where
       go (of-root h p u z b) =
           let a = root-breaks d s n .1 z in
           absurd (a .1 (sym (a .0) ∙ root-passes d s (v .sums (to Kind.root (rootOf d)) (top refl)) (v .top)))
-      go (number-5 h y a) = absurd (y (rw (h .key) at (place-inside (h .comes .parent) (slotOf d (h .comes .name)) (h .place) (held h) (slot-below d (h .comes .name) _ refl) (some h))))
-      go (number-6 h y l a) = let q = place-near (h .comes .parent) (slotOf d (h .comes .name)) (h .place) (held h) (slot-below d (h .comes .name) _ refl) (some h) in absurd (omega arith)
+      go (number-5 h y a) = absurd (y (rw (h .key) at (position-inside (h .comes .parent) (slotOf d (h .comes .name)) (h .position) (held h) (slot-below d (h .comes .name) _ refl) (some h))))
+      go (number-6 h y l a) = let q = position-near (h .comes .parent) (slotOf d (h .comes .name)) (h .position) (held h) (slot-below d (h .comes .name) _ refl) (some h) in absurd (omega arith)
       go (of-entry h y l z) =
           let a = entry-breaks d s k (h .comes .parent) (slotOf d (h .comes .name)) n .1 z in
-          absurd (a .1 (sym (a .0) ∙ entry-sound d s k (h .comes .parent) (slotOf d (h .comes .name)) .1 (rw (h .key) at (place-placed (h .comes .parent) (slotOf d (h .comes .name)) (h .place) (held h) (slot-below d (h .comes .name) _ refl) (some h)))))
+          absurd (a .1 (sym (a .0) ∙ entry-sound d s k (h .comes .parent) (slotOf d (h .comes .name)) .1 (rw (h .key) at (position-sound (h .comes .parent) (slotOf d (h .comes .name)) (h .position) (held h) (slot-below d (h .comes .name) _ refl) (some h)))))
       go (number-19 h a) = inr (inl a)
       go (number-20 h a) = inr (inr a)
 
@@ -99,4 +99,4 @@ module _ (d : Disk) (s : List ℕ) (v : Tree d s) where
   pub found-file : (path : List ℕ) (k z n : ℕ) → findOf d s path ≡ File k z n → Reached (references d s) (to Kind.entry k)
   found-file path k z n e =
       let h = file-exactly d s path k z n .0 e in
-      rw (h .key) at (first-reached (h .comes .parent) (h .comes .name) (trail-holder (h .comes .trail) (inl refl)) (h .place) (h .found))
+      rw (h .key) at (first-reached (h .comes .parent) (h .comes .name) (trail-holder (h .comes .trail) (inl refl)) (h .position) (h .found))

@@ -15,10 +15,10 @@ use Rattle.volume.specs.declared.disk.Disk.{Disk}
 use Rattle.volume.specs.Disks.{firstKey, rootOf, chainLimit}
 use Rattle.volume.specs.Blocks.{slots, wordOf, slotWord}
 use Rattle.volume.specs.Files.{keysDown}
-use Rattle.volume.specs.References.{Kind, Ref, to, link, listed, refersTo, references}
+use Rattle.volume.specs.References.{Kind, Ref, to, link, keyRefs, refersTo, references}
 use Rattle.volume.specs.Law.{chainKey, Tree}
 use Rattle.walk.proofs.Chains.{chain-some}
-use Rattle.walk.proofs.Places.{Holder, From, from-chain, referred, chain-apart}
+use Rattle.walk.proofs.Positions.{Holder, From, from-chain, referred, chain-apart}
 
 -- ---- as many different numbers below N are at most N
 
@@ -37,8 +37,8 @@ few-below n l u h =
 -- ---- blocks that no chain has
 
 -- a file's lists refer to no entry
-listed-none : (s : List ℕ) (b k : ℕ) → to Kind.entry k ∈ listed s b → ⊥
-listed-none s b k h = go (in-either (to Kind.entry k) (map (to Kind.datum) (keysDown s b 0 (wordOf s b 2))) (link Kind.list (wordOf s b 126)) h)
+keys-none : (s : List ℕ) (b k : ℕ) → to Kind.entry k ∈ keyRefs s b → ⊥
+keys-none s b k h = go (in-either (to Kind.entry k) (map (to Kind.datum) (keysDown s b 0 (wordOf s b 2))) (link Kind.list (wordOf s b 126)) h)
   where
     last : (w : ℕ) → to Kind.entry k ∈ link Kind.list w → ⊥
     last zero m = m
@@ -79,7 +79,7 @@ module _ (d : Disk) (s : List ℕ) (v : Tree d s) where
       go Kind.root t n r h q z = let y : to Kind.entry k ≡ to Kind.bitmap (wordOf s t 79) = rw z at h in let f : Kind.entry ≡ Kind.bitmap = ap (λ (r : Ref). r .kind) y in impossible cc
       go Kind.bitmap t n r h q z = h
       go Kind.entry t n r h q z = not-root t r q
-      go Kind.list t n r h q z = listed-none s t k (at-in (to Kind.entry k) n (listed s t) h)
+      go Kind.list t n r h q z = keys-none s t k (at-in (to Kind.entry k) n (keyRefs s t) h)
       go Kind.datum t n r h q z = h
 
   -- ---- the keys of a chain

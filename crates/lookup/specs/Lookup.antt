@@ -5,6 +5,7 @@ use mathlib.Core.Path.{_≡_}
 use mathlib.Core.List.{List, [], _∷_}
 use lib.Dec.{eqb}
 use lib.ListN.{length}
+use Rattle.answers.specs.Answers.{AnswerNumbers, acceptedAs, refusedAs}
 use Rattle.answers.specs.Numbers as fault
 use Rattle.answers.specs.Tests.{pick}
 use Rattle.answers.specs.Refusals.{refusal}
@@ -23,19 +24,18 @@ use Rattle.lookup.specs.declared.find.Found.the-variants.{Directory, Fil
 use Rattle.lookup.specs.Paths.{components, pathFault}
 use Rattle.lookup.specs.Search.{searchOf}
 
--- an answer's numbers: 0, 0 and the values where an entry is found; the refusal's, and 0 for the values
-pub record Numbers : Type 0 where
-  pub number : ℕ
-  pub place : ℕ
+-- the values of an answer
+pub record Values : Type 0 where
   pub kind : ℕ
   pub key : ℕ
   pub size : ℕ
   pub compared : ℕ
 
-abbrev pub numbersOf : Found → Numbers
-numbersOf (Directory k n) = record { number = 0; place = 0; kind = directoryKind; key = k; size = 0; compared = n }
-numbersOf (File k z n) = record { number = 0; place = 0; kind = fileKind; key = k; size = z; compared = n }
-numbersOf (Refused r) = record { number = r .number; place = r .place; kind = 0; key = 0; size = 0; compared = 0 }
+-- an answer's numbers
+abbrev pub numbersOf : Found → AnswerNumbers Values
+numbersOf (Directory k n) = acceptedAs (record { kind = directoryKind; key = k; size = 0; compared = n })
+numbersOf (File k z n) = acceptedAs (record { kind = fileKind; key = k; size = z; compared = n })
+numbersOf (Refused r) = refusedAs (record { kind = 0; key = 0; size = 0; compared = 0 }) r
 
 -- the numbers of all refusals of a lookup
 abbrev pub findRefusals : List ℕ

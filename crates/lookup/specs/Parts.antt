@@ -8,7 +8,7 @@ use Rattle.volume.specs.declared.disk.Disk.{Disk}
 use Rattle.volume.specs.Disks.{Sized, imageBytes, mostBlocks}
 use Rattle.volume.specs.Blocks.{Holds}
 
--- k is the place of the first '/', or the path's end
+-- k is the position of the first '/', or the path's end
 pub record FirstSlash (path : List ℕ) (k : ℕ) : Type 0 where
   pub within : k ≤ length path
   pub before : (j : ℕ) → j < k → getD path j 0 ≡ slash → ⊥

@@ -1,4 +1,4 @@
--- Components that lead from directory to directory: what stands at each place of a component's chain, and the directories passed on the
+-- Components that lead from directory to directory: what stands at each position of a component's chain, and the directories passed on the
 -- way; and the names under which an entry lies in the volume.
 use Prim.Native.Nat.{ℕ, _+_, _≤_, _<_}
 use mathlib.Core.Path.{_≡_}
@@ -10,37 +10,37 @@ use Rattle.volume.specs.Disks.{chainLimit}
 use Rattle.volume.specs.Blocks.{directory}
 use Rattle.volume.specs.Names.{folded, slotOf, nameOf}
 use Rattle.volume.specs.Law.{Hangs}
-use Rattle.volume.specs.Breaks.{Inside, Placed}
+use Rattle.volume.specs.Breaks.{Inside, EntrySound}
 use Rattle.lookup.specs.Paths.{joined}
-use Rattle.lookup.specs.Search.{placeKey}
+use Rattle.lookup.specs.Search.{positionKey}
 
--- ---- the places of one chain: that on which directory t would have a name
+-- ---- the positions of one chain: that on which directory t would have a name
 
--- place p has an entry that passes its tests: its key lies in the volume, fewer entries come before it than a chain may have, and it is as
+-- position p has an entry that passes its tests: its key lies in the volume, fewer entries come before it than a chain may have, and it is as
 -- the law asks of an entry on that chain of t
 pub record Tests (d : Disk) (s : List ℕ) (t : ℕ) (name : List ℕ) (p : ℕ) : Type 0 where
-  pub some : placeKey d s t name p ≢ 0
-  pub inside : Inside d (placeKey d s t name p)
+  pub some : positionKey d s t name p ≢ 0
+  pub inside : Inside d (positionKey d s t name p)
   pub near : p < chainLimit d
-  pub placed : Placed d s (placeKey d s t name p) t (slotOf d name)
+  pub sound : EntrySound d s (positionKey d s t name p) t (slotOf d name)
 
 -- its folded name is the component's
 abbrev pub Equal : Disk → List ℕ → ℕ → List ℕ → ℕ → Type 0
-Equal d s t name p = folded d (nameOf s (placeKey d s t name p)) ≡ folded d name
+Equal d s t name p = folded d (nameOf s (positionKey d s t name p)) ≡ folded d name
 
--- the places from f up to p have entries that pass, each with another name
+-- the positions from f up to p have entries that pass, each with another name
 abbrev pub Others : Disk → List ℕ → ℕ → List ℕ → ℕ → ℕ → Type 0
 Others d s t name f p = (q : ℕ) → f ≤ q → q < p → Tests d s t name q × (Equal d s t name q → ⊥)
 
--- place p has the first equal folded name
+-- position p has the first equal folded name
 pub record First (d : Disk) (s : List ℕ) (t : ℕ) (name : List ℕ) (p : ℕ) : Type 0 where
   pub tests : Tests d s t name p
   pub named : Equal d s t name p
   pub others : Others d s t name 0 p
 
--- the chain ends at place p, and every entry before that passes and has another name
+-- the chain ends at position p, and every entry before that passes and has another name
 pub record Over (d : Disk) (s : List ℕ) (t : ℕ) (name : List ℕ) (p : ℕ) : Type 0 where
-  pub ended : placeKey d s t name p ≡ 0
+  pub ended : positionKey d s t name p ≡ 0
   pub others : Others d s t name 0 p
 
 -- ---- from directory to directory
@@ -49,7 +49,7 @@ pub record Over (d : Disk) (s : List ℕ) (t : ℕ) (name : List ℕ) (p : ℕ) 
 -- directory that the one before it led to.
 pub data Trail (d : Disk) (s : List ℕ) : ℕ → List (List ℕ) → ℕ → ℕ → Type 0 where
   stay : {t : ℕ} → Trail d s t [] t 0
-  down : {t k n : ℕ} {c : List ℕ} {cs : List (List ℕ)} (p : ℕ) → First d s t c p → directory s (placeKey d s t c p) ≡ true → Trail d s (placeKey d s t c p) cs k n → Trail d s t (c ∷ cs) k (p + 1 + n)
+  down : {t k n : ℕ} {c : List ℕ} {cs : List (List ℕ)} (p : ℕ) → First d s t c p → directory s (positionKey d s t c p) ≡ true → Trail d s (positionKey d s t c p) cs k n → Trail d s t (c ∷ cs) k (p + 1 + n)
 
 -- one of the components, looked for in the directory that those before it lead to
 pub record Comes (d : Disk) (s : List ℕ) (t : ℕ) (cs : List (List ℕ)) : Type 0 where

@@ -15,7 +15,7 @@ use Rattle.volume.specs.Names.{slotOf}
 use Rattle.volume.specs.Files.{sizeOf}
 use Rattle.volume.specs.Breaks.{Inside, RootSound, RootBreaks, EntryBreaks}
 use Rattle.lookup.specs.Paths.{longestPath, components, isComponent}
-use Rattle.lookup.specs.Search.{placeKey}
+use Rattle.lookup.specs.Search.{positionKey}
 use Rattle.lookup.specs.Trails.{Others, First, Over, Comes}
 
 -- ---- the form of a path
@@ -53,9 +53,9 @@ pub record Opened (d : Disk) (s path : List ℕ) : Type 0 where
 abbrev pub Reaches : Disk → List ℕ → List ℕ → Type 0
 Reaches d s path = Comes d s (rootOf d) (components path)
 
--- the key at place p of its chain
+-- the key at position p of its chain
 abbrev pub keyIn : (d : Disk) (s path : List ℕ) → Reaches d s path → ℕ → ℕ
-keyIn d s path w p = placeKey d s (w .parent) (w .name) p
+keyIn d s path w p = positionKey d s (w .parent) (w .name) p
 
 -- ---- each answer
 
@@ -63,38 +63,38 @@ keyIn d s path w p = placeKey d s (w .parent) (w .name) p
 pub record IsFile (d : Disk) (s path : List ℕ) (k z n : ℕ) : Type 0 where
   pub opened : Opened d s path
   pub comes : Reaches d s path
-  pub place : ℕ
-  pub found : First d s (comes .parent) (comes .name) place
-  pub kind : directory s (keyIn d s path comes place) ≡ false
+  pub position : ℕ
+  pub found : First d s (comes .parent) (comes .name) position
+  pub kind : directory s (keyIn d s path comes position) ≡ false
   pub last : comes .back ≡ []
-  pub key : keyIn d s path comes place ≡ k
-  pub size : sizeOf s (keyIn d s path comes place) ≡ z
-  pub count : comes .compared + (place + 1) ≡ n
+  pub key : keyIn d s path comes position ≡ k
+  pub size : sizeOf s (keyIn d s path comes position) ≡ z
+  pub count : comes .compared + (position + 1) ≡ n
 
--- key k stands at a place of a component's chain, and every entry before it passes its tests and has another name
+-- key k stands at a position of a component's chain, and every entry before it passes its tests and has another name
 pub record Stands (d : Disk) (s path : List ℕ) (k : ℕ) : Type 0 where
   pub opened : Opened d s path
   pub comes : Reaches d s path
-  pub place : ℕ
-  pub others : Others d s (comes .parent) (comes .name) 0 place
-  pub key : keyIn d s path comes place ≡ k
+  pub position : ℕ
+  pub others : Others d s (comes .parent) (comes .name) 0 position
+  pub key : keyIn d s path comes position ≡ k
   pub some : k ≢ 0
 
 -- no entry of component i's chain has its name, and the chain has ended
 pub record Missing (d : Disk) (s path : List ℕ) (i : ℕ) : Type 0 where
   pub opened : Opened d s path
   pub comes : Reaches d s path
-  pub place : ℕ
-  pub over : Over d s (comes .parent) (comes .name) place
+  pub position : ℕ
+  pub over : Over d s (comes .parent) (comes .name) position
   pub component : i ≡ length (comes .front)
 
 -- component i is a file, and not the last
 pub record AsDirectory (d : Disk) (s path : List ℕ) (i : ℕ) : Type 0 where
   pub opened : Opened d s path
   pub comes : Reaches d s path
-  pub place : ℕ
-  pub found : First d s (comes .parent) (comes .name) place
-  pub kind : directory s (keyIn d s path comes place) ≡ false
+  pub position : ℕ
+  pub found : First d s (comes .parent) (comes .name) position
+  pub kind : directory s (keyIn d s path comes position) ≡ false
   pub more : comes .back ≢ []
   pub component : i ≡ length (comes .front)
 
@@ -107,8 +107,8 @@ pub data Refuses (d : Disk) (s path : List ℕ) (v k : ℕ) : Type 0 where
   of-root : length s ≡ imageBytes d → GoodForm path → wordAt s 0 ≡ tagOf d → RootBreaks s (rootOf d) v → k ≡ rootOf d → Refuses d s path v k
   number-5 : Stands d s path k → (Inside d k → ⊥) → v ≡ fault.badKey → Refuses d s path v k
   -- as many entries as a chain may have were compared
-  number-6 : (h : Stands d s path k) → Inside d k → h .place ≡ chainLimit d → v ≡ fault.claimedTwice → Refuses d s path v k
+  number-6 : (h : Stands d s path k) → Inside d k → h .position ≡ chainLimit d → v ≡ fault.claimedTwice → Refuses d s path v k
   -- 7 to 12: the entry breaks the law as that number says
-  of-entry : (h : Stands d s path k) → Inside d k → h .place < chainLimit d → EntryBreaks d s k (h .comes .parent) (slotOf d (h .comes .name)) v → Refuses d s path v k
+  of-entry : (h : Stands d s path k) → Inside d k → h .position < chainLimit d → EntryBreaks d s k (h .comes .parent) (slotOf d (h .comes .name)) v → Refuses d s path v k
   number-19 : Missing d s path k → v ≡ fault.notFound → Refuses d s path v k
   number-20 : AsDirectory d s path k → v ≡ fault.wrongKind → Refuses d s path v k

@@ -11,7 +11,7 @@ ghost use mathlib.Core.Path.{_≡_};
 ghost use lib.ListN.{length};
 ghost use Rattle.volume.specs.Disks.{Sized, imageBytes};
 ghost use Rattle.answers.specs.Refusals.{refusal};
-ghost use Rattle.lookup.specs.Search.{placeFault, searchOf};
+ghost use Rattle.lookup.specs.Search.{positionFault, searchOf};
 ghost use Rattle.lookup.specs.Parts.{Searches};
 
 // What a search of one chain comes to.
@@ -24,9 +24,16 @@ pub enum Step {
 }
 
 // The tests of the entry that is next on a chain: key range, chain limit, and its own.
-fn place_fault(disk: Disk, image: &[u8], directory: u32, slot: u32, compared: u32, key: u32) -> u32
+fn position_fault(
+    disk: Disk,
+    image: &[u8],
+    directory: u32,
+    slot: u32,
+    compared: u32,
+    key: u32,
+) -> u32
     requires { ⌜ Sized disk × (length (now image) ≡ imageBytes disk) ⌝ }
-    ensures { λ r. ⌜ r ≡ placeFault disk (now (image .entry)) directory slot compared key ⌝ }
+    ensures { λ r. ⌜ r ≡ positionFault disk (now (image .entry)) directory slot compared key ⌝ }
 {
     if disk.in_range(key) {
         if compared < disk.chain_limit() {
@@ -55,7 +62,7 @@ pub(crate) fn search(disk: Disk, image: &[u8], directory: u32, name: &[u8]) -> S
     let mut key = word_of(image, directory, Block::FIRST_SLOT + slot as usize);
     let mut compared: u32 = 0;
     while key != 0 {
-        let fault = place_fault(disk, image, directory, slot, compared, key);
+        let fault = position_fault(disk, image, directory, slot, compared, key);
         if fault != 0 {
             return refused_at(fault, key);
         }

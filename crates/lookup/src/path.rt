@@ -12,7 +12,7 @@ ghost use Rattle.lookup.specs.Parts.{FirstSlash};
 
 const LONGEST_PATH: usize = 255;
 
-// The place of the first '/', or the path's end.
+// The position of the first '/', or the path's end.
 pub(crate) fn first_slash(path: &[u8]) -> usize
     ensures { λ r. ⌜ FirstSlash (now (path .entry)) r ⌝ }
 {

@@ -6,6 +6,7 @@ use mathlib.Core.Bool.{Bool, true, false, not}
 use mathlib.Core.Logic.{_↔_}
 use native.Mathlib.Omega.{arith}
 use lib.Dec.{T}
+use Rattle.answers.specs.Numbers as fault
 use Rattle.words.specs.Word.{wordAt}
 use Rattle.answers.specs.Tests.{pick}
 use Rattle.answers.specs.Members.{_∈_}
@@ -62,37 +63,37 @@ either P true x y p q = p
 either P false x y p q = q
 
 body-steps : (c : Cursor) (w : ℕ) → Steps (bodyOf c w)
-body-steps c w = either Steps _ _ _ tt (either Steps _ _ _ tt (either Steps _ _ _ tt (one 35 tt)))
+body-steps c w = either Steps _ _ _ tt (either Steps _ _ _ tt (either Steps _ _ _ tt (one fault.misplacedBlock tt)))
 
 module _ (t : ℕ) (size : ℕ → ℕ) where
   turn-steps : (c : Cursor) (w : ℕ) (m : Mode) → Steps (turn t size c w m)
   turn-steps c w mode.Begin = either Steps _ _ _ tt (body-steps c w)
   turn-steps c w mode.NameLength = either Steps _ _ _ tt tt
   turn-steps c w mode.Body = body-steps c w
-  turn-steps c w (mode.Length kind) = either Steps _ _ _ (one 36 tt) (either Steps _ _ _ tt tt)
+  turn-steps c w (mode.Length kind) = either Steps _ _ _ (one fault.bodyLength tt) (either Steps _ _ _ tt tt)
   turn-steps c w (mode.Stored i) = either Steps _ _ _ tt tt
-  turn-steps c w mode.Part = either Steps _ _ _ tt (either Steps _ _ _ tt (either Steps _ _ _ tt (either Steps _ _ _ tt (one 35 tt))))
+  turn-steps c w mode.Part = either Steps _ _ _ tt (either Steps _ _ _ tt (either Steps _ _ _ tt (either Steps _ _ _ tt (one fault.misplacedBlock tt))))
   turn-steps c w mode.Count = either Steps _ _ _ tt tt
-  turn-steps c w (mode.Number n) = either Steps _ _ _ tt (one 38 tt)
-  turn-steps c w (mode.Offset n k) = either Steps _ _ _ (either Steps _ _ _ (one 38 tt) (either Steps _ _ _ tt tt)) (one 38 tt)
-  turn-steps c w mode.Symbol = either Steps _ _ _ tt (either Steps _ _ _ (one 37 tt) tt)
+  turn-steps c w (mode.Number n) = either Steps _ _ _ tt (one fault.badTarget tt)
+  turn-steps c w (mode.Offset n k) = either Steps _ _ _ (either Steps _ _ _ (one fault.badTarget tt) (either Steps _ _ _ tt tt)) (one fault.badTarget tt)
+  turn-steps c w mode.Symbol = either Steps _ _ _ tt (either Steps _ _ _ (one fault.symbolType tt) tt)
   turn-steps c w mode.DebugLength = either Steps _ _ _ tt tt
   turn-steps c w (mode.Skip n a) = either Steps _ _ _ tt tt
-  turn-steps c w mode.End = one 39 tt
+  turn-steps c w mode.End = one fault.trailingWords tt
 
   ended-answers : (end : ℕ) (c : Cursor) (m : Mode) → Answers (endedOf end c m)
-  ended-answers end c mode.Begin = one 31 tt
-  ended-answers end c mode.NameLength = one 31 tt
-  ended-answers end c mode.Body = one 31 tt
-  ended-answers end c (mode.Length k) = one 31 tt
-  ended-answers end c (mode.Stored i) = one 31 tt
-  ended-answers end c mode.Part = one 31 tt
-  ended-answers end c mode.Count = one 31 tt
-  ended-answers end c (mode.Number n) = one 31 tt
-  ended-answers end c (mode.Offset n k) = one 31 tt
-  ended-answers end c mode.Symbol = one 31 tt
-  ended-answers end c mode.DebugLength = one 31 tt
-  ended-answers end c (mode.Skip n a) = one 31 tt
+  ended-answers end c mode.Begin = one fault.earlyEnd tt
+  ended-answers end c mode.NameLength = one fault.earlyEnd tt
+  ended-answers end c mode.Body = one fault.earlyEnd tt
+  ended-answers end c (mode.Length k) = one fault.earlyEnd tt
+  ended-answers end c (mode.Stored i) = one fault.earlyEnd tt
+  ended-answers end c mode.Part = one fault.earlyEnd tt
+  ended-answers end c mode.Count = one fault.earlyEnd tt
+  ended-answers end c (mode.Number n) = one fault.earlyEnd tt
+  ended-answers end c (mode.Offset n k) = one fault.earlyEnd tt
+  ended-answers end c mode.Symbol = one fault.earlyEnd tt
+  ended-answers end c mode.DebugLength = one fault.earlyEnd tt
+  ended-answers end c (mode.Skip n a) = one fault.earlyEnd tt
   ended-answers end c mode.End = tt
 
   next-answers : (r : Next) (at : ℕ) (f : Cursor → Answer) → Steps r → ((d : Cursor) → Answers (f d)) → Answers (next r at f)
@@ -117,7 +118,7 @@ heads-tests : (file : List ℕ) (i n : ℕ) → Tests (heads file i n)
 unfolding heads
 heads-tests file i zero = tt
 heads-tests file i (suc n) =
-    either Tests _ _ _ (one 31 tt) (judge-tests (headFault (totalOf file) i (wordAt file (4 * i))) (4 * i) _ (head-given (totalOf file) i (wordAt file (4 * i))) (heads-tests file (i + 1) n))
+    either Tests _ _ _ (one fault.earlyEnd tt) (judge-tests (headFault (totalOf file) i (wordAt file (4 * i))) (4 * i) _ (head-given (totalOf file) i (wordAt file (4 * i))) (heads-tests file (i + 1) n))
 
 and-answers : (h : Tested) (a : Answer) → Tests h → Answers a → Answers (and h a)
 and-answers Passed a p q = q
@@ -129,10 +130,10 @@ and-answers (Failed r) a p q = p
 pub check-refuses : (file : List ℕ) → Refuses checkRefusals (checkOf file)
 unfolding checkOf
 check-refuses file =
-    either Answers _ _ _ (one 30 tt)
+    either Answers _ _ _ (one fault.fileLength tt)
     (either Answers _ _ _
     (and-answers (heads file 0 5) _ (heads-tests file 0 5) (and-answers (heads file 5 (totalOf file)) _ (heads-tests file 5 (totalOf file)) (walk-answers _ _ _ _ _ _)))
-    (one 30 tt))
+    (one fault.fileLength tt))
 
 pub check-number : (file : List ℕ) (f : Refusal) → checkOf file ≡ Refused f → f .number ∈ checkRefusals
 check-number file f e = subst Answers e (check-refuses file)

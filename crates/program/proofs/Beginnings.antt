@@ -6,6 +6,7 @@ use mathlib.Core.List.{List, [], _∷_, _++_, append-assoc, append-nil}
 use native.Mathlib.Omega.{arith}
 use lib.ListN.{length}
 use borrow.Author.Tests.{lt-ltb, le-ltb, lt-leb, eq-eqb, ne-eqb}
+use Rattle.program.specs.Types as type
 use Rattle.words.specs.Word.{wordAt, wordsAt}
 use Rattle.answers.specs.Tests.{pick}
 use Rattle.answers.proofs.Clashes.{impossible}
@@ -114,13 +115,13 @@ module _ (t : ℕ) (size : ℕ → ℕ) (Taken : Cursor → List ℕ → Type 0)
   begun-on (bodyLength x k) rest f g = simp append-assoc (type-on t size Taken step h p x k 0 rest f g)
   begun-on (bodyWord x k n ws) rest f g =
       let y = storing t size Taken step h p n rest ws 0 (length ws) (omega arith) (f .2) g in
-      simp append-assoc (type-on t size Taken step h p x k 0 (n ∷ ws ++ rest) (stored (f .0)) (step _ n _ (rw (le-ltb (size h) n (f .1), ne-eqb k 0x3EB (kept (f .0)), ne-eqb 0 n (omega (arith, f .2))) y)))
+      simp append-assoc (type-on t size Taken step h p x k 0 (n ∷ ws ++ rest) (stored (f .0)) (step _ n _ (rw (le-ltb (size h) n (f .1), ne-eqb k type.bss (kept (f .0)), ne-eqb 0 n (omega (arith, f .2))) y)))
     where
-      stored : (k ≡ 0x3E9) ⊎ (k ≡ 0x3EA) → (k ≡ 0x3E9) ⊎ (k ≡ 0x3EA) ⊎ (k ≡ 0x3EB)
+      stored : (k ≡ type.code) ⊎ (k ≡ type.stores) → (k ≡ type.code) ⊎ (k ≡ type.stores) ⊎ (k ≡ type.bss)
       stored (inl e) = inl e
       stored (inr e) = inr (inl e)
 
-      kept : (k ≡ 0x3E9) ⊎ (k ≡ 0x3EA) → k ≡ 0x3EB → ⊥
+      kept : (k ≡ type.code) ⊎ (k ≡ type.stores) → k ≡ type.bss → ⊥
       kept (inl e) = omega arith
       kept (inr e) = omega arith
   begun-on (afterBody x b ps q) rest f g =
@@ -152,7 +153,7 @@ module _ (file : List ℕ) (end : ℕ) (within : end ≤ length file) (G : Type 
   unfolding pick
   hunks-lead some hs rest l z s g =
       let y = fronts-on (totalOf file) (sizeOf file) (Leads file end G) along hs 0 0 (length hs) (4 * total hs) rest z (omega arith) l (omega arith) g in
-      (rw (ne-eqb 0 (totalOf file) (omega arith)) at y) (startAt file) begins (sym (s .place)) (s .words)
+      (rw (ne-eqb 0 (totalOf file) (omega arith)) at y) (startAt file) begins (sym (s .reaches)) (s .words)
 
   here : (c : Cursor) → (Comes file c end → G) → Leads file end G c []
   here c k at r e x = let z : at ≡ end = omega arith in k (subst (Comes file c) z r)

@@ -4,6 +4,8 @@ use mathlib.Core.Path.{_≡_}
 use mathlib.Core.Logic.{_≢_, _⊎_}
 use mathlib.Core.List.{List}
 use lib.ListN.{length}
+use Rattle.program.specs.Types as type
+use Rattle.answers.specs.Numbers as fault
 use Rattle.words.specs.Word.{wordAt}
 use Rattle.answers.specs.Refusals.{refusal}
 use Rattle.answers.specs.declared.Refusal.{Refusal}
@@ -35,18 +37,18 @@ pub record Missing (file : List ℕ) (f : Refusal) : Type 0 where
   pub cursor : Cursor
   pub comes : Comes file cursor (length file)
   pub unended : cursor .mode ≢ End
-  pub said : f ≡ refusal 31 (length file)
+  pub said : f ≡ refusal fault.earlyEnd (length file)
 
 -- which word w is not taken, by what the reader expects there: v is the number
 abbrev pub Refuses : ℕ → (ℕ → ℕ) → Cursor → ℕ → ℕ → Mode → Type 0
-Refuses t size c w v Begin = (v ≡ 35) × (w ≢ 0x3E8) × (w ≢ 0x3E9) × (w ≢ 0x3EA) × (w ≢ 0x3EB)
-Refuses t size c w v Body = (v ≡ 35) × (w ≢ 0x3E9) × (w ≢ 0x3EA) × (w ≢ 0x3EB)
-Refuses t size c w v (Length k) = (v ≡ 36) × (size (c .hunk) < w)
-Refuses t size c w v Part = (v ≡ 35) × (w ≢ 0x3EC) × (w ≢ 0x3F0) × (w ≢ 0x3F1) × (w ≢ 0x3F2)
-Refuses t size c w v (Number n) = (v ≡ 38) × (t ≤ w)
-Refuses t size c w v (Offset n k) = (v ≡ 38) × ((w % 2 ≢ 0) ⊎ (4 * c .stored < w + 4))
-Refuses t size c w v Symbol = (v ≡ 37) × (0x1000000 ≤ w)
-Refuses t size c w v End = v ≡ 39
+Refuses t size c w v Begin = (v ≡ fault.misplacedBlock) × (w ≢ type.name) × (w ≢ type.code) × (w ≢ type.stores) × (w ≢ type.bss)
+Refuses t size c w v Body = (v ≡ fault.misplacedBlock) × (w ≢ type.code) × (w ≢ type.stores) × (w ≢ type.bss)
+Refuses t size c w v (Length k) = (v ≡ fault.bodyLength) × (size (c .hunk) < w)
+Refuses t size c w v Part = (v ≡ fault.misplacedBlock) × (w ≢ type.relocation) × (w ≢ type.symbols) × (w ≢ type.debug) × (w ≢ type.end)
+Refuses t size c w v (Number n) = (v ≡ fault.badTarget) × (t ≤ w)
+Refuses t size c w v (Offset n k) = (v ≡ fault.badTarget) × ((w % 2 ≢ 0) ⊎ (4 * c .stored < w + 4))
+Refuses t size c w v Symbol = (v ≡ fault.symbolType) × (0x1000000 ≤ w)
+Refuses t size c w v End = v ≡ fault.trailingWords
 Refuses t size c w v NameLength = ⊥
 Refuses t size c w v (Stored i) = ⊥
 Refuses t size c w v Count = ⊥
@@ -56,6 +58,6 @@ Refuses t size c w v (Skip n a) = ⊥
 -- any refusal, by the reader: `Refusing.refused-exactly` turns it into `Says`
 abbrev pub Because : List ℕ → Refusal → Type 0
 Because file f =
-    (BadLength file × (f ≡ refusal 30 0))
+    (BadLength file × (f ≡ refusal fault.fileLength 0))
     ⊎ (GoodLength file × HeadWord file f)
     ⊎ (GoodLength file × Headed file × (HunkWord file f ⊎ Missing file f))

@@ -8,6 +8,8 @@ use native.Mathlib.Decide.{decLt}
 use lib.ListN.{length, getD}
 use lib.Dec.{ltb, leb, eqb}
 use borrow.Author.Tests.{le-ltb, le-leb, eq-eqb, ne-eqb, ltb-false, leb-true, eqb-true, eqb-false}
+use Rattle.answers.specs.Numbers as fault
+use Rattle.program.specs.Types as type
 use Rattle.words.specs.Word.{wordAt, wordsAt}
 use Rattle.answers.specs.Tests.{pick, must}
 use Rattle.answers.proofs.Tests.{must-passed, pick-passed}
@@ -15,7 +17,7 @@ use Rattle.answers.specs.declared.Tested.{Tested}
 use Rattle.answers.specs.declared.Tested.the-variants.{Passed}
 use Rattle.answers.proofs.Clashes.{impossible}
 use Rattle.program.specs.Header.{totalOf, headFault, judge, heads}
-use Rattle.program.specs.Verdicts.{Fine}
+use Rattle.program.specs.Verdicts.{HeadPasses}
 
 -- ---- words
 
@@ -69,7 +71,7 @@ heads-pass file (suc n) i l f =
     (judged _ _ _ (f i (omega arith) (omega arith)) ∙ heads-pass file n (i + 1) (omega arith) (λ j a b. f j (omega arith) (omega arith)))
 
 module _ (t w : ℕ) where
-  pub fault-0 : w ≡ 0x3F3 → headFault t 0 w ≡ 0
+  pub fault-0 : w ≡ type.header → headFault t 0 w ≡ 0
   unfolding pick must
   fault-0 e = rw e
 
@@ -89,55 +91,55 @@ module _ (t w : ℕ) where
   unfolding pick must
   fault-4 e = rw (eq-eqb (w + 1) t e)
 
-  size-test : (i : ℕ) → headFault t (5 + i) w ≡ must (leb w 65536) 34
+  size-test : (i : ℕ) → headFault t (5 + i) w ≡ must (leb w type.largestHunk) 34
   unfolding pick
   size-test i = rw (ne-eqb (5 + i) 0 (omega arith), ne-eqb (5 + i) 1 (omega arith), ne-eqb (5 + i) 2 (omega arith), ne-eqb (5 + i) 3 (omega arith), ne-eqb (5 + i) 4 (omega arith))
 
-  pub fault-size : (i : ℕ) → w ≤ 65536 → headFault t (5 + i) w ≡ 0
+  pub fault-size : (i : ℕ) → w ≤ type.largestHunk → headFault t (5 + i) w ≡ 0
   unfolding must
-  fault-size i l = size-test i ∙ rw (le-leb w 65536 l)
+  fault-size i l = size-test i ∙ rw (le-leb w type.largestHunk l)
 
   -- ---- what they say
 
-  pub is-0 : headFault t 0 w ≡ 0 → w ≡ 0x3F3
+  pub is-0 : headFault t 0 w ≡ 0 → w ≡ type.header
   unfolding pick
-  is-0 e = eqb-true w 0x3F3 (must-passed _ 31 e)
+  is-0 e = eqb-true w type.header (must-passed _ _ e)
 
   pub is-1 : headFault t 1 w ≡ 0 → w ≡ 0
   unfolding pick
-  is-1 e = eqb-true w 0 (must-passed _ 32 e)
+  is-1 e = eqb-true w 0 (must-passed _ _ e)
 
-  pub is-2 : headFault t 2 w ≡ 0 → (1 ≤ w) × (w ≤ 64)
+  pub is-2 : headFault t 2 w ≡ 0 → (1 ≤ w) × (w ≤ type.mostHunks)
   unfolding pick
   is-2 e = go (eqb w 0) refl e
     where
-      go : (b : Bool) → eqb w 0 ≡ b → pick b 32 (must (leb w 64) 32) ≡ 0 → (1 ≤ w) × (w ≤ 64)
+      go : (b : Bool) → eqb w 0 ≡ b → pick b fault.headerWord (must (leb w type.mostHunks) fault.headerWord) ≡ 0 → (1 ≤ w) × (w ≤ type.mostHunks)
       go true q x = absurd (omega arith)
-      go false q x = let z = eqb-false w 0 q in (omega (arith, z), leb-true w 64 (must-passed _ 31 x))
+      go false q x = let z = eqb-false w 0 q in (omega (arith, z), leb-true w type.mostHunks (must-passed _ _ x))
 
   pub is-3 : headFault t 3 w ≡ 0 → w ≡ 0
   unfolding pick
-  is-3 e = eqb-true w 0 (must-passed _ 31 e)
+  is-3 e = eqb-true w 0 (must-passed _ _ e)
 
   pub is-4 : headFault t 4 w ≡ 0 → w + 1 ≡ t
   unfolding pick
-  is-4 e = eqb-true (w + 1) t (must-passed _ 31 e)
+  is-4 e = eqb-true (w + 1) t (must-passed _ _ e)
 
-  pub is-size : (i : ℕ) → headFault t (5 + i) w ≡ 0 → w ≤ 65536
-  is-size i e = leb-true w 65536 (must-passed _ 33 (sym (size-test i) ∙ e))
+  pub is-size : (i : ℕ) → headFault t (5 + i) w ≡ 0 → w ≤ type.largestHunk
+  is-size i e = leb-true w type.largestHunk (must-passed _ _ (sym (size-test i) ∙ e))
 
 judge-pass : (v at : ℕ) (r : Tested) → judge v at r ≡ Passed → (v ≡ 0) × (r ≡ Passed)
 judge-pass zero at r e = (refl, e)
 judge-pass (suc v) at r e = impossible cc
 
-pub each-fine : (file : List ℕ) (n i : ℕ) → heads file i n ≡ Passed → (j : ℕ) → i ≤ j → j < i + n → Fine file j
+pub each-passes : (file : List ℕ) (n i : ℕ) → heads file i n ≡ Passed → (j : ℕ) → i ≤ j → j < i + n → HeadPasses file j
 unfolding heads
-each-fine file zero i e j l h = absurd (omega arith)
-each-fine file (suc n) i e j l h =
+each-passes file zero i e j l h = absurd (omega arith)
+each-passes file (suc n) i e j l h =
     let a = pick-passed (ltb (length file) (4 * i + 4)) _ _ e in
     let b = judge-pass (headFault (totalOf file) i (wordAt file (4 * i))) (4 * i) _ (a .1) in
-    go (decLt i j) (ltb-false (length file) (4 * i + 4) (a .0), b .0) (λ q. each-fine file n (i + 1) (b .1) j (omega arith) (omega arith))
+    go (decLt i j) (ltb-false (length file) (4 * i + 4) (a .0), b .0) (λ q. each-passes file n (i + 1) (b .1) j (omega arith) (omega arith))
   where
-    go : Dec (i < j) → Fine file i → (i < j → Fine file j) → Fine file j
+    go : Dec (i < j) → HeadPasses file i → (i < j → HeadPasses file j) → HeadPasses file j
     go (yes q) f more = more q
-    go (no q) f more = let d : i ≡ j = omega arith in subst (Fine file) d f
+    go (no q) f more = let d : i ≡ j = omega arith in subst (HeadPasses file) d f

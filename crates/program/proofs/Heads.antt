@@ -5,16 +5,17 @@ use mathlib.Core.List.{List}
 use native.Mathlib.Omega.{arith}
 use lib.ListN.{length}
 use borrow.Author.Tests.{lt-ltb, le-ltb}
+use Rattle.answers.specs.Numbers as fault
 use Rattle.words.specs.Word.{wordAt}
 use Rattle.answers.specs.Tests.{pick}
 use Rattle.answers.specs.Refusals.{refusal}
 use Rattle.answers.specs.declared.Tested.the-variants.{Passed, Failed}
 use Rattle.program.specs.Header.{totalOf, sizeOf, headFault, judge, heads}
-use Rattle.program.specs.Sane.{Sound}
-use Rattle.program.proofs.Heading.{each-fine, is-2, is-size}
+use Rattle.program.specs.Cursors.{HeaderFits}
+use Rattle.program.proofs.Heading.{each-passes, is-2, is-size}
 
 module _ (file : List ℕ) (i n : ℕ) where
-  pub heads-short : 0 < n → length file < 4 * i + 4 → heads file i n ≡ Failed (refusal 31 (length file))
+  pub heads-short : 0 < n → length file < 4 * i + 4 → heads file i n ≡ Failed (refusal fault.earlyEnd (length file))
   unfolding heads pick
   heads-short p h = let e : n ≡ suc (n - 1) = omega arith in rw (e, lt-ltb _ _ h)
 
@@ -37,21 +38,21 @@ pub heads-none : (file : List ℕ) (i n : ℕ) → n ≤ 0 → heads file i n �
 unfolding heads
 heads-none file i n h = let e : n ≡ 0 = omega arith in rw e
 
--- ---- a sound header
+-- ---- a header that passed
 
 pub few-hunks : (file : List ℕ) → heads file 0 5 ≡ Passed → (20 ≤ length file) × (1 ≤ totalOf file) × (totalOf file ≤ 64)
 few-hunks file e =
-    let f = is-2 (totalOf file) (totalOf file) (each-fine file 5 0 e 2 (omega arith) (omega arith) .1) in
-    (omega (arith, each-fine file 5 0 e 4 (omega arith) (omega arith) .0), f .0, f .1)
+    let f = is-2 (totalOf file) (totalOf file) (each-passes file 5 0 e 2 (omega arith) (omega arith) .1) in
+    (omega (arith, each-passes file 5 0 e 4 (omega arith) (omega arith) .0), f .0, f .1)
 
-pub sound-header : (file : List ℕ) → heads file 0 5 ≡ Passed → heads file 5 (totalOf file) ≡ Passed → Sound file
+pub header-fits : (file : List ℕ) → heads file 0 5 ≡ Passed → heads file 5 (totalOf file) ≡ Passed → HeaderFits file
 unfolding sizeOf
-sound-header file e g =
+header-fits file e g =
     let f = few-hunks file e in
-    let last = each-fine file (totalOf file) 5 g (4 + totalOf file) (omega (arith, f .1)) (omega arith) in
+    let last = each-passes file (totalOf file) 5 g (4 + totalOf file) (omega (arith, f .1)) (omega arith) in
     record {
       few = f .2;
       some = f .1;
       long = omega (arith, last .0);
-      small = λ i h. is-size (totalOf file) (sizeOf file i) i (subst (λ (p : ℕ). headFault (totalOf file) (5 + i) (wordAt file p) ≡ 0) (omega arith) (each-fine file (totalOf file) 5 g (5 + i) (omega arith) (omega arith) .1));
+      small = λ i h. is-size (totalOf file) (sizeOf file i) i (subst (λ (p : ℕ). headFault (totalOf file) (5 + i) (wordAt file p) ≡ 0) (omega arith) (each-passes file (totalOf file) 5 g (5 + i) (omega arith) (omega arith) .1));
     }

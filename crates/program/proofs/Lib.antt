@@ -5,8 +5,8 @@ pub mod Answers
 pub mod Heading
 -- the header in code, and what holds after it
 pub mod Heads
--- what holds while a file is read
-pub mod Sanes
+-- what holds of the cursor while a file is read
+pub mod CursorsFit
 -- what a match on the reader's mode leaves
 pub mod Modes
 -- the walk over the words, and the whole check

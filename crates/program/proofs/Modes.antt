@@ -10,6 +10,7 @@ use lib.ListN.{length}
 use types.Run.{OneOf}
 use denote.Enum.Declared.{tagOf}
 use borrow.Author.Tests.{eq-eqb}
+use Rattle.answers.specs.Numbers as fault
 use Rattle.answers.specs.Tests.{pick}
 use Rattle.program.proofs.reader.Mode.{the-type}
 use Rattle.program.specs.declared.act.Act.{Act}
@@ -23,7 +24,7 @@ use Rattle.program.specs.Header.{totalOf}
 use Rattle.program.specs.Reader.{turn, stepOf}
 use Rattle.program.specs.Check.{refuse, endedOf}
 use Rattle.program.specs.Acts.{asks, actOf}
-use Rattle.program.specs.Sane.{ModeFits, Sane}
+use Rattle.program.specs.Cursors.{ModeFits, CursorFits}
 
 abbrev absent : List ℕ → ℕ → Bool
 absent [] x = true
@@ -69,7 +70,7 @@ rest-quiet c at w = go (c .mode)
 abbrev missing : List ℕ
 missing = 0 ∷ 1 ∷ 2 ∷ 3 ∷ 4 ∷ 5 ∷ 6 ∷ 7 ∷ 8 ∷ 9 ∷ 10 ∷ 11 ∷ []
 
-pub rest-open : (end : ℕ) (c : Cursor) (m : Mode) → OneOf missing (tagOf the-type m) → refuse 31 end ≡ endedOf end c m
+pub rest-open : (end : ℕ) (c : Cursor) (m : Mode) → OneOf missing (tagOf the-type m) → refuse fault.earlyEnd end ≡ endedOf end c m
 unfolding pick
 rest-open end c End h = absurd (none missing 12 tt h)
 rest-open end c Begin h = refl
@@ -99,12 +100,12 @@ pub by-end : (end : ℕ) (c : Cursor) (m : Mode) (r : Answer) → c .mode ≡ m 
 by-end end c m r e h = h ∙ sym (ap (endedOf end c) e)
 
 -- the header's words are there while a hunk is read
-pub in-header : (file : List ℕ) (c : Cursor) (m : Mode) → Sane file c → c .mode ≡ m → (ModeFits (totalOf file) (c .hunk) (c .stored) m → c .hunk < totalOf file) → (24 + 4 * c .hunk ≤ length file) × (c .hunk < 64) × (c .place ≤ 4294967296)
+pub in-header : (file : List ℕ) (c : Cursor) (m : Mode) → CursorFits file c → c .mode ≡ m → (ModeFits (totalOf file) (c .hunk) (c .stored) m → c .hunk < totalOf file) → (24 + 4 * c .hunk ≤ length file) × (c .hunk < 64) × (c .place ≤ 4294967296)
 in-header file c m s e f =
     let h : c .hunk < totalOf file = f (subst (ModeFits (totalOf file) (c .hunk) (c .stored)) e (s .mode)) in
-    (omega (arith, s .sound .long), omega (arith, s .sound .few), omega (arith, s .low, s .sound .few))
+    (omega (arith, s .header .long), omega (arith, s .header .few), omega (arith, s .low, s .header .few))
 
-pub stored-fits : (file : List ℕ) (c : Cursor) (i : ℕ) → Sane file c → c .mode ≡ Stored i → i + 1 < 4294967296
+pub stored-fits : (file : List ℕ) (c : Cursor) (i : ℕ) → CursorFits file c → c .mode ≡ Stored i → i + 1 < 4294967296
 stored-fits file c i s e =
     let h : (c .hunk < totalOf file) × (i < c .stored) = subst (ModeFits (totalOf file) (c .hunk) (c .stored)) e (s .mode) in
-    omega (arith, h .1, s .fits, s .sound .small (c .hunk) (h .0))
+    omega (arith, h .1, s .fits, s .header .small (c .hunk) (h .0))

@@ -8,6 +8,7 @@ use mathlib.Core.Bool.{Bool, true, false}
 use native.Mathlib.Omega.{arith}
 use lib.ListN.{length, length-map, getD}
 use borrow.Author.Tests.{eq-eqb, ne-eqb, eqb-true}
+use Rattle.program.specs.Types as type
 use Rattle.words.specs.Word.{wordAt, wordsAt}
 use Rattle.answers.specs.Tests.{pick}
 use Rattle.answers.specs.declared.Refusal.{Refusal}
@@ -19,15 +20,15 @@ use Rattle.program.specs.declared.reader.Cursor.{Cursor}
 use Rattle.program.specs.Page.{Hunk, joined, hunkWords, headWords, written, Each, HunkFits, Program, Holds, total}
 use Rattle.program.specs.Header.{totalOf, sizeOf, startAt, headFault, heads}
 use Rattle.program.specs.Check.{walkOf, and, checkOf}
-use Rattle.program.specs.Sane.{Sound}
+use Rattle.program.specs.Cursors.{HeaderFits}
 use Rattle.program.specs.Verdicts.{OfSizes, AllHunks}
 use Rattle.program.proofs.Answers.{not-accepted}
 use Rattle.program.proofs.Taken.{Sized, hunks-on}
 use Rattle.program.proofs.Beginnings.{unended}
 use Rattle.program.proofs.Standing.{cons, Within, Past, comes-stands}
 use Rattle.program.proofs.Stops.{Ends, ended, Stops, walk-stops}
-use Rattle.program.proofs.Heads.{sound-header}
-use Rattle.program.proofs.Heading.{words-add, Split, split, heads-pass, fault-0, fault-1, fault-2, fault-3, fault-4, fault-size, is-0, is-1, is-3, is-4, each-fine}
+use Rattle.program.proofs.Heads.{header-fits}
+use Rattle.program.proofs.Heading.{words-add, Split, split, heads-pass, fault-0, fault-1, fault-2, fault-3, fault-4, fault-size, is-0, is-1, is-3, is-4, each-passes}
 
 -- ---- sizes
 
@@ -60,7 +61,7 @@ sizes-words t file (x ∷ xs) h f =
 
 -- ---- what is written is accepted
 
-module _ (file : List ℕ) (hs : List Hunk) (p : Program hs) (even : length file % 4 ≡ 0) (e : wordsAt file 0 (length file / 4) ≡ written hs) where
+module _ (file : List ℕ) (hs : List Hunk) (p : Program hs) (whole : length file % 4 ≡ 0) (e : wordsAt file 0 (length file / 4) ≡ written hs) where
   cut : Split file (headWords hs) (joined hunkWords hs) 0 (length file / 4)
   cut = split file (headWords hs) (joined hunkWords hs) 0 (length file / 4) e
 
@@ -124,11 +125,11 @@ module _ (file : List ℕ) (hs : List Hunk) (p : Program hs) (even : length file
   is-accepted : checkOf file ≡ Accepted (length hs) (4 * total hs)
   unfolding checkOf pick
   is-accepted =
-      rw (ne-eqb (length file) 0 (omega (arith, is-long)), eq-eqb (length file % 4) 0 even, heads-first, heads-second)
+      rw (ne-eqb (length file) 0 (omega (arith, is-long)), eq-eqb (length file % 4) 0 whole, heads-first, heads-second)
       (walk-taken ∙ ap (λ (k : ℕ). Accepted k (4 * total hs)) is-total)
 
 pub page-accepted : (file : List ℕ) (hs : List Hunk) → Holds file hs → checkOf file ≡ Accepted (length hs) (4 * total hs)
-page-accepted file hs h = is-accepted file hs (h .fits) (h .even) (h .words)
+page-accepted file hs h = is-accepted file hs (h .fits) (h .whole) (h .words)
 
 -- ---- what is accepted is written
 
@@ -148,7 +149,7 @@ and-both (Failed r) a t n e = not-accepted e
 
 -- what the check has found
 record Read (file : List ℕ) (t n : ℕ) : Type 0 where
-  even : length file % 4 ≡ 0
+  whole : length file % 4 ≡ 0
   five : heads file 0 5 ≡ Passed
   sized : heads file 5 (totalOf file) ≡ Passed
   hunks : walkOf file ≡ Accepted t n
@@ -160,31 +161,31 @@ accepted-read file t n e =
     let b = pick-yes _ _ _ t n (a .1) in
     let c = and-both _ _ t n (b .1) in
     let d = and-both _ _ t n (c .1) in
-    record { even = eqb-true (length file % 4) 0 (b .0); five = c .0; sized = d .0; hunks = d .1 }
+    record { whole = eqb-true (length file % 4) 0 (b .0); five = c .0; sized = d .0; hunks = d .1 }
 
 module _ (file : List ℕ) (t n : ℕ) (r : Read file t n) where
-  word-0 : wordAt file 0 ≡ 0x3F3
-  word-0 = is-0 (totalOf file) (wordAt file 0) (each-fine file 5 0 (r .five) 0 (omega arith) (omega arith) .1)
+  word-0 : wordAt file 0 ≡ type.header
+  word-0 = is-0 (totalOf file) (wordAt file 0) (each-passes file 5 0 (r .five) 0 (omega arith) (omega arith) .1)
 
   word-1 : wordAt file 4 ≡ 0
-  word-1 = is-1 (totalOf file) (wordAt file 4) (each-fine file 5 0 (r .five) 1 (omega arith) (omega arith) .1)
+  word-1 = is-1 (totalOf file) (wordAt file 4) (each-passes file 5 0 (r .five) 1 (omega arith) (omega arith) .1)
 
   word-3 : wordAt file 12 ≡ 0
-  word-3 = is-3 (totalOf file) (wordAt file 12) (each-fine file 5 0 (r .five) 3 (omega arith) (omega arith) .1)
+  word-3 = is-3 (totalOf file) (wordAt file 12) (each-passes file 5 0 (r .five) 3 (omega arith) (omega arith) .1)
 
   word-4 : wordAt file 16 + 1 ≡ totalOf file
-  word-4 = is-4 (totalOf file) (wordAt file 16) (each-fine file 5 0 (r .five) 4 (omega arith) (omega arith) .1)
+  word-4 = is-4 (totalOf file) (wordAt file 16) (each-passes file 5 0 (r .five) 4 (omega arith) (omega arith) .1)
 
-  sound : Sound file
-  sound = sound-header file (r .five) (r .sized)
+  headed : HeaderFits file
+  headed = header-fits file (r .five) (r .sized)
 
   -- the walk stops at the end, after all hunks
   past : (hs : List Hunk) × AllHunks file hs (length file)
-  past = stop (walk-stops file (r .even) sound)
+  past = stop (walk-stops file (r .whole) headed)
     where
       stop : Stops file (walkOf file) → (hs : List Hunk) × AllHunks file hs (length file)
       stop (inr k) = not-accepted (sym (k .2) ∙ r .hunks)
-      stop (inl k) = over (ended (length file) (k .0) (k .0 .mode)) (comes-stands file (r .even) sound (k .0) (length file) (k .1))
+      stop (inl k) = over (ended (length file) (k .0) (k .0 .mode)) (comes-stands file (r .whole) headed (k .0) (length file) (k .1))
         where
           over : Ends (length file) (k .0) (k .0 .mode) → Within file (k .0) (length file) ⊎ Past file (k .0) (length file)
               → (hs : List Hunk) × AllHunks file hs (length file)
@@ -197,7 +198,7 @@ module _ (file : List ℕ) (t n : ℕ) (r : Read file t n) where
     unfolding wordsAt
     all-written =
         let k : ℕ = length (joined hunkWords hs) in
-        let q : length file / 4 ≡ suc (suc (suc (suc (suc (length hs + k))))) = omega (arith, z .all, z .stand .place) in
+        let q : length file / 4 ≡ suc (suc (suc (suc (suc (length hs + k))))) = omega (arith, z .all, z .stand .reaches) in
         let s : 20 + 4 * length hs ≡ startAt file = omega (arith, z .all) in
         ap (wordsAt file 0) q
         ∙ cons word-0 (cons word-1 (cons (sym (z .all)) (cons word-3 (cons (omega (arith, word-4, z .all))
@@ -205,10 +206,10 @@ module _ (file : List ℕ) (t n : ℕ) (r : Read file t n) where
 
     is-program : Program hs
     is-program =
-        record { least = omega (arith, z .all, sound .some); most = omega (arith, z .all, sound .few); hunks = rw (z .all) (sizes-fit (totalOf file) (sizeOf file) hs 0 (z .hunks)) }
+        record { least = omega (arith, z .all, headed .some); most = omega (arith, z .all, headed .few); hunks = rw (z .all) (sizes-fit (totalOf file) (sizeOf file) hs 0 (z .hunks)) }
 
   read : (hs : List Hunk) × Holds file hs
-  read = (past .0, record { fits = is-program (past .0) (past .1); even = r .even; words = all-written (past .0) (past .1) })
+  read = (past .0, record { fits = is-program (past .0) (past .1); whole = r .whole; words = all-written (past .0) (past .1) })
 
 pub accepted-page : (file : List ℕ) (t n : ℕ) → checkOf file ≡ Accepted t n → (hs : List Hunk) × Holds file hs
 accepted-page file t n e = read file t n (accepted-read file t n e)

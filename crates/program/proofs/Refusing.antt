@@ -10,6 +10,8 @@ use native.Mathlib.Decide.{decLt}
 use lib.Dec.{ltb, leb, eqb}
 use lib.ListN.{length}
 use borrow.Author.Tests.{eqb-true, eqb-false, ltb-true, ltb-false, leb-true, lt-ltb, le-ltb, le-leb, eq-eqb, ne-eqb}
+use Rattle.program.specs.Types as type
+use Rattle.answers.specs.Numbers as fault
 use Rattle.words.specs.Word.{wordAt}
 use Rattle.answers.specs.Tests.{pick}
 use Rattle.answers.specs.Refusals.{refusal}
@@ -26,16 +28,16 @@ use Rattle.program.specs.declared.reader.Next.the-variants.{On, Bad}
 use Rattle.program.specs.Header.{totalOf, sizeOf, judge, heads}
 use Rattle.program.specs.Reader.{on, bodyOf, endOf, turn, stepOf}
 use Rattle.program.specs.Check.{refuse, endedOf, walkOf, and, checkOf}
-use Rattle.program.specs.Sane.{Sound}
+use Rattle.program.specs.Cursors.{HeaderFits}
 use Rattle.program.specs.Page.{Hunk, storedWords, OffsetFits, Holds, total}
 use Rattle.program.specs.Begun.{PartBegun, Begun, aPart, aCount, aNumber, anOffset, aSymbol, symbolWord, debugLength, debugWord, first, nameLength, nameWord, aBody, bodyLength, bodyWord, afterBody, PartWrong, Wrong}
-use Rattle.program.specs.Verdicts.{WrongWord, MoreWords, MissingWord, Says, BadLength, GoodLength, OfHeader, Fine, faultAt, HeadFails, HeadWord, Headed}
+use Rattle.program.specs.Verdicts.{WrongWord, MoreWords, MissingWord, Says, BadLength, GoodLength, OfHeader, HeadPasses, faultAt, HeadFails, HeadWord, Headed}
 use Rattle.program.proofs.Coming.{HunkWord, Missing, Refuses, Because}
 use Rattle.program.proofs.Answers.{not-refused, not-failed}
-use Rattle.program.proofs.Heading.{each-fine, heads-pass}
-use Rattle.program.proofs.Heads.{sound-header}
+use Rattle.program.proofs.Heading.{each-passes, heads-pass}
+use Rattle.program.proofs.Heads.{header-fits}
 use Rattle.program.proofs.Pages.{accepted-page, page-accepted}
-use Rattle.program.proofs.Sanes.{pick-on}
+use Rattle.program.proofs.CursorsFit.{pick-on}
 use Rattle.program.proofs.Taken.{cursor}
 use Rattle.program.proofs.Beginnings.{partMode, modeOf, unended, cursorIn, cursorOf, cursorPast, before-comes, whole-comes}
 use Rattle.program.proofs.Standing.{Within, Past, comes-stands}
@@ -47,28 +49,28 @@ use Rattle.program.proofs.Walks.{walk-bad, walk-end}
 failed-same : (r f : Refusal) → Failed r ≡ Failed f → f ≡ r
 failed-same r f e = cc
 
-fine-more : (file : List ℕ) (i : ℕ) → ((j : ℕ) → j < i → Fine file j) → Fine file i → (j : ℕ) → j < i + 1 → Fine file j
-fine-more file i b x j h = go (decLt j i)
+passes-more : (file : List ℕ) (i : ℕ) → ((j : ℕ) → j < i → HeadPasses file j) → HeadPasses file i → (j : ℕ) → j < i + 1 → HeadPasses file j
+passes-more file i b x j h = go (decLt j i)
   where
-    go : Dec (j < i) → Fine file j
+    go : Dec (j < i) → HeadPasses file j
     go (yes q) = b j q
-    go (no q) = let e : i ≡ j = omega arith in subst (Fine file) e x
+    go (no q) = let e : i ≡ j = omega arith in subst (HeadPasses file) e x
 
-heads-why : (file : List ℕ) (f : Refusal) (n i : ℕ) → ((j : ℕ) → i ≤ j → j < i + n → OfHeader file j) → ((j : ℕ) → j < i → Fine file j)
+heads-why : (file : List ℕ) (f : Refusal) (n i : ℕ) → ((j : ℕ) → i ≤ j → j < i + n → OfHeader file j) → ((j : ℕ) → j < i → HeadPasses file j)
     → heads file i n ≡ Failed f → HeadWord file f
 unfolding heads pick
 heads-why file f zero i w b e = not-failed e
 heads-why file f (suc n) i w b e = long (ltb (length file) (4 * i + 4)) refl e (heads-why file f n (i + 1) (λ j l h. w j (omega arith) (omega arith)))
   where
     wrong : (v : ℕ) → faultAt file i ≡ v → 4 * i + 4 ≤ length file → judge v (4 * i) (heads file (i + 1) n) ≡ Failed f
-        → (((j : ℕ) → j < i + 1 → Fine file j) → heads file (i + 1) n ≡ Failed f → HeadWord file f) → HeadWord file f
-    wrong zero q l x k = k (fine-more file i b (l, q)) x
+        → (((j : ℕ) → j < i + 1 → HeadPasses file j) → heads file (i + 1) n ≡ Failed f → HeadWord file f) → HeadWord file f
+    wrong zero q l x k = k (passes-more file i b (l, q)) x
     wrong (suc v) q l x k =
         record { word = i; within = w i (omega arith) (omega arith); before = b; cause = inr (l, (λ z. omega (arith, q, z)), failed-same _ f x ∙ ap (λ u. refusal u (4 * i)) (sym q)) }
 
     long : (t : Bool) → ltb (length file) (4 * i + 4) ≡ t
-        → pick t (Failed (refusal 31 (length file))) (judge (faultAt file i) (4 * i) (heads file (i + 1) n)) ≡ Failed f
-        → (((j : ℕ) → j < i + 1 → Fine file j) → heads file (i + 1) n ≡ Failed f → HeadWord file f) → HeadWord file f
+        → pick t (Failed (refusal fault.earlyEnd (length file))) (judge (faultAt file i) (4 * i) (heads file (i + 1) n)) ≡ Failed f
+        → (((j : ℕ) → j < i + 1 → HeadPasses file j) → heads file (i + 1) n ≡ Failed f → HeadWord file f) → HeadWord file f
     long true q x k = record { word = i; within = w i (omega arith) (omega arith); before = b; cause = inl (ltb-true _ _ q, failed-same _ f x) }
     long false q x k = wrong _ refl (ltb-false _ _ q) x k
 
@@ -90,19 +92,19 @@ walk-why file f a (inl k) e = go (ended (length file) (k .0) (k .0 .mode))
 
 -- ---- the whole check
 
-all-fine : (file : List ℕ) → heads file 0 5 ≡ Passed → heads file 5 (totalOf file) ≡ Passed → Headed file
-all-fine file p q j h = go (decLt j 5)
+all-pass : (file : List ℕ) → heads file 0 5 ≡ Passed → heads file 5 (totalOf file) ≡ Passed → Headed file
+all-pass file p q j h = go (decLt j 5)
   where
-    go : Dec (j < 5) → Fine file j
-    go (yes l) = each-fine file 5 0 p j (omega arith) l
-    go (no l) = each-fine file (totalOf file) 5 q j (omega arith) h
+    go : Dec (j < 5) → HeadPasses file j
+    go (yes l) = each-passes file 5 0 p j (omega arith) l
+    go (no l) = each-passes file (totalOf file) 5 q j (omega arith) h
 
 module _ (file : List ℕ) (f : Refusal) where
   all-why : GoodLength file → (a b : Tested) → heads file 0 5 ≡ a → heads file 5 (totalOf file) ≡ b → and a (and b (walkOf file)) ≡ Refused f → Because file f
   all-why w (Failed r) b p q e = inr (inl (w, heads-why file f 5 0 (λ j l h. omega arith) (λ j h. absurd (omega arith)) (p ∙ ap Failed (sym (refused-same r f e)))))
-  all-why w Passed (Failed r) p q e = inr (inl (w, heads-why file f (totalOf file) 5 (λ j l h. h) (λ j h. each-fine file 5 0 p j (omega arith) h) (q ∙ ap Failed (sym (refused-same r f e)))))
+  all-why w Passed (Failed r) p q e = inr (inl (w, heads-why file f (totalOf file) 5 (λ j l h. h) (λ j h. each-passes file 5 0 p j (omega arith) h) (q ∙ ap Failed (sym (refused-same r f e)))))
   all-why w Passed Passed p q e =
-      inr (inr (w, all-fine file p q, walk-why file f (walkOf file) (walk-stops file (w .1) (sound-header file p q)) e))
+      inr (inr (w, all-pass file p q, walk-why file f (walkOf file) (walk-stops file (w .1) (header-fits file p q)) e))
 
   -- the check refuses for one of these reasons
   pub check-why : checkOf file ≡ Refused f → Because file f
@@ -110,7 +112,7 @@ module _ (file : List ℕ) (f : Refusal) where
   check-why e = empty (eqb (length file) 0) refl (eqb (length file % 4) 0) refl e
     where
       empty : (x : Bool) → eqb (length file) 0 ≡ x → (y : Bool) → eqb (length file % 4) 0 ≡ y
-          → pick x (refuse 30 0) (pick y (and (heads file 0 5) (and (heads file 5 (totalOf file)) (walkOf file))) (refuse 30 0)) ≡ Refused f → Because file f
+          → pick x (refuse fault.fileLength 0) (pick y (and (heads file 0 5) (and (heads file 5 (totalOf file)) (walkOf file))) (refuse fault.fileLength 0)) ≡ Refused f → Because file f
       empty true p y q e = inl (inl (eqb-true _ _ p), refused-same _ f e)
       empty false p false q e = inl (inr (eqb-false _ _ q), refused-same _ f e)
       empty false p true q e = all-why (eqb-false _ _ p, eqb-true _ _ q) (heads file 0 5) (heads file 5 (totalOf file)) refl refl e
@@ -119,15 +121,15 @@ module _ (file : List ℕ) (f : Refusal) where
 
 -- the five words, then the sizes
 module _ (file : List ℕ) where
-  pass-five : ((j : ℕ) → j < 5 → Fine file j) → heads file 0 5 ≡ Passed
+  pass-five : ((j : ℕ) → j < 5 → HeadPasses file j) → heads file 0 5 ≡ Passed
   pass-five g = heads-pass file 5 0 (omega (arith, g 4 (omega arith) .0)) (λ j l q. g j q .1)
 
   pass-sizes : Headed file → heads file 5 (totalOf file) ≡ Passed
   pass-sizes g =
       heads-pass file (totalOf file) 5 (omega (arith, g (4 + totalOf file) (omega arith) .0)) (λ j l q. g j q .1)
 
-  headed-sound : Headed file → Sound file
-  headed-sound g = sound-header file (pass-five (λ j q. g j (omega arith))) (pass-sizes g)
+  headed-fits : Headed file → HeaderFits file
+  headed-fits g = header-fits file (pass-five (λ j q. g j (omega arith))) (pass-sizes g)
 
 module _ (file : List ℕ) (f : Refusal) where
   heads-fail : (w : HeadWord file f) (n i : ℕ) → i ≤ w .word → w .word < i + n → heads file i n ≡ Failed f
@@ -148,7 +150,7 @@ module _ (file : List ℕ) (f : Refusal) where
       go (no q) k = here (omega arith) (w .cause)
 
   -- a reader that comes there refuses there
-  walk-refuses : GoodLength file → Sound file → HunkWord file f ⊎ Missing file f → walkOf file ≡ Refused f
+  walk-refuses : GoodLength file → HeaderFits file → HunkWord file f ⊎ Missing file f → walkOf file ≡ Refused f
   walk-refuses w s (inl c) =
       let r = comes-reads file (w .1) s (c .comes) in
       r .rest ∙ walk-bad file (c .at) (c .cursor) (wordAt file (c .at)) _ (w .1) (r .aligned) (c .there) refl refl (c .number) (c .refuses) ∙ ap Refused (sym (c .said))
@@ -156,7 +158,7 @@ module _ (file : List ℕ) (f : Refusal) where
       let r = comes-reads file (w .1) s (c .comes) in
       r .rest ∙ walk-end file (length file) (c .cursor) (omega arith) ∙ go (ended (length file) (c .cursor) (c .cursor .mode)) ∙ ap Refused (sym (c .said))
     where
-      go : Ends (length file) (c .cursor) (c .cursor .mode) → endedOf (length file) (c .cursor) (c .cursor .mode) ≡ refuse 31 (length file)
+      go : Ends (length file) (c .cursor) (c .cursor .mode) → endedOf (length file) (c .cursor) (c .cursor .mode) ≡ refuse fault.earlyEnd (length file)
       go (inl x) = absurd (c .unended (x .0))
       go (inr x) = x .1
 
@@ -176,17 +178,17 @@ module _ (file : List ℕ) (f : Refusal) where
   unfolding checkOf pick
   why-check (inl u) = short (u .0) ∙ ap Refused (sym (u .1))
     where
-      short : BadLength file → checkOf file ≡ refuse 30 0
+      short : BadLength file → checkOf file ≡ refuse fault.fileLength 0
       short (inl h) = rw (eq-eqb _ _ h)
       short (inr h) = go (eqb (length file) 0)
         where
           go : (b : Bool)
-              → pick b (refuse 30 0) (pick (eqb (length file % 4) 0) (and (heads file 0 5) (and (heads file 5 (totalOf file)) (walkOf file))) (refuse 30 0)) ≡ refuse 30 0
+              → pick b (refuse fault.fileLength 0) (pick (eqb (length file % 4) 0) (and (heads file 0 5) (and (heads file 5 (totalOf file)) (walkOf file))) (refuse fault.fileLength 0)) ≡ refuse fault.fileLength 0
           go true = refl
           go false = rw (ne-eqb _ _ h)
   why-check (inr (inl c)) = whole-check (c .0) ∙ head-refuses (c .1)
   why-check (inr (inr c)) =
-      whole-check (c .0) ∙ rw (pass-five file (λ j q. c .1 j (omega arith)), pass-sizes file (c .1)) (walk-refuses (c .0) (headed-sound file (c .1)) (c .2))
+      whole-check (c .0) ∙ rw (pass-five file (λ j q. c .1 j (omega arith)), pass-sizes file (c .1)) (walk-refuses (c .0) (headed-fits file (c .1)) (c .2))
 
 -- ---- which word is not taken, by what the reader expects: both ways
 
@@ -200,57 +202,57 @@ module _ (t : ℕ) (size : ℕ → ℕ) (c : Cursor) (w v : ℕ) where
   both-on true x y e = on-bad x v e
   both-on false x y e = on-bad y v e
 
-  body-why : bodyOf c w ≡ Bad v → (v ≡ 35) × (w ≢ 0x3E9) × (w ≢ 0x3EA) × (w ≢ 0x3EB)
+  body-why : bodyOf c w ≡ Bad v → (v ≡ fault.misplacedBlock) × (w ≢ type.code) × (w ≢ type.stores) × (w ≢ type.bss)
   body-why =
-      pick-on (eqb w 0x3E9) (on c (Length w)) _ (Bad v) (λ _. on-bad _ v)
-      (λ p. pick-on (eqb w 0x3EA) (on c (Length w)) _ (Bad v) (λ _. on-bad _ v)
-      (λ q. pick-on (eqb w 0x3EB) (on c (Length w)) (Bad 35) (Bad v) (λ _. on-bad _ v)
-      (λ r e. (bad-same 35 v e, eqb-false _ _ p, eqb-false _ _ q, eqb-false _ _ r))))
+      pick-on (eqb w type.code) (on c (Length w)) _ (Bad v) (λ _. on-bad _ v)
+      (λ p. pick-on (eqb w type.stores) (on c (Length w)) _ (Bad v) (λ _. on-bad _ v)
+      (λ q. pick-on (eqb w type.bss) (on c (Length w)) (Bad fault.misplacedBlock) (Bad v) (λ _. on-bad _ v)
+      (λ r e. (bad-same fault.misplacedBlock v e, eqb-false _ _ p, eqb-false _ _ q, eqb-false _ _ r))))
 
   turn-why : (m : Mode) → turn t size c w m ≡ Bad v → Refuses t size c w v m
   turn-why Begin =
-      pick-on (eqb w 0x3E8) (on c NameLength) (bodyOf c w) (Bad v) (λ _. on-bad _ v)
+      pick-on (eqb w type.name) (on c NameLength) (bodyOf c w) (Bad v) (λ _. on-bad _ v)
       (λ p e. let b = body-why e in (b .0, eqb-false _ _ p, b .1, b .2, b .3))
   turn-why NameLength = λ e. both-on (eqb w 0) _ _ e
   turn-why Body = λ e. body-why e
   turn-why (Length k) =
-      pick-on (ltb (size (c .hunk)) w) (Bad 36) _ (Bad v) (λ p e. (bad-same 36 v e, ltb-true _ _ p)) (λ p e. both-on _ _ _ e)
+      pick-on (ltb (size (c .hunk)) w) (Bad fault.bodyLength) _ (Bad v) (λ p e. (bad-same fault.bodyLength v e, ltb-true _ _ p)) (λ p e. both-on _ _ _ e)
   turn-why (Stored i) = λ e. both-on _ _ _ e
   turn-why Part =
-      pick-on (eqb w 0x3EC) (on c Count) _ (Bad v) (λ _. on-bad _ v)
-      (λ p. pick-on (eqb w 0x3F0) (on c Symbol) _ (Bad v) (λ _. on-bad _ v)
-      (λ q. pick-on (eqb w 0x3F1) (on c DebugLength) _ (Bad v) (λ _. on-bad _ v)
-      (λ r. pick-on (eqb w 0x3F2) (endOf t size c) (Bad 35) (Bad v) (λ _. on-bad _ v)
-      (λ s e. (bad-same 35 v e, eqb-false _ _ p, eqb-false _ _ q, eqb-false _ _ r, eqb-false _ _ s)))))
+      pick-on (eqb w type.relocation) (on c Count) _ (Bad v) (λ _. on-bad _ v)
+      (λ p. pick-on (eqb w type.symbols) (on c Symbol) _ (Bad v) (λ _. on-bad _ v)
+      (λ q. pick-on (eqb w type.debug) (on c DebugLength) _ (Bad v) (λ _. on-bad _ v)
+      (λ r. pick-on (eqb w type.end) (endOf t size c) (Bad fault.misplacedBlock) (Bad v) (λ _. on-bad _ v)
+      (λ s e. (bad-same fault.misplacedBlock v e, eqb-false _ _ p, eqb-false _ _ q, eqb-false _ _ r, eqb-false _ _ s)))))
   turn-why Count = λ e. both-on _ _ _ e
-  turn-why (Number n) = pick-on (ltb w t) (on c (Offset n w)) (Bad 38) (Bad v) (λ _. on-bad _ v) (λ p e. (bad-same 38 v e, ltb-false _ _ p))
+  turn-why (Number n) = pick-on (ltb w t) (on c (Offset n w)) (Bad fault.badTarget) (Bad v) (λ _. on-bad _ v) (λ p e. (bad-same fault.badTarget v e, ltb-false _ _ p))
   turn-why (Offset n k) =
-      pick-on (eqb (w % 2) 0) _ (Bad 38) (Bad v)
-      (λ _. pick-on (ltb (4 * c .stored) (w + 4)) (Bad 38) _ (Bad v) (λ p e. (bad-same 38 v e, inr (ltb-true _ _ p))) (λ p e. both-on _ _ _ e))
-      (λ p e. (bad-same 38 v e, inl (eqb-false _ _ p)))
+      pick-on (eqb (w % 2) 0) _ (Bad fault.badTarget) (Bad v)
+      (λ _. pick-on (ltb (4 * c .stored) (w + 4)) (Bad fault.badTarget) _ (Bad v) (λ p e. (bad-same fault.badTarget v e, inr (ltb-true _ _ p))) (λ p e. both-on _ _ _ e))
+      (λ p e. (bad-same fault.badTarget v e, inl (eqb-false _ _ p)))
   turn-why Symbol =
       pick-on (eqb w 0) (on c Part) _ (Bad v) (λ _. on-bad _ v)
-      (λ _. pick-on (leb 0x1000000 w) (Bad 37) _ (Bad v) (λ p e. (bad-same 37 v e, leb-true _ _ p)) (λ _. on-bad _ v))
+      (λ _. pick-on (leb 0x1000000 w) (Bad fault.symbolType) _ (Bad v) (λ p e. (bad-same fault.symbolType v e, leb-true _ _ p)) (λ _. on-bad _ v))
   turn-why DebugLength = λ e. both-on _ _ _ e
   turn-why (Skip n a) = λ e. both-on _ _ _ e
-  turn-why End = λ e. bad-same 39 v e
+  turn-why End = λ e. bad-same fault.trailingWords v e
 
-  body-refused : v ≡ 35 → w ≢ 0x3E9 → w ≢ 0x3EA → w ≢ 0x3EB → bodyOf c w ≡ Bad v
+  body-refused : v ≡ fault.misplacedBlock → w ≢ type.code → w ≢ type.stores → w ≢ type.bss → bodyOf c w ≡ Bad v
   unfolding pick
-  body-refused e p q r = rw (ne-eqb w 0x3E9 p, ne-eqb w 0x3EA q, ne-eqb w 0x3EB r, e)
+  body-refused e p q r = rw (ne-eqb w type.code p, ne-eqb w type.stores q, ne-eqb w type.bss r, e)
 
   -- the same from right to left
   why-turn : (m : Mode) → Refuses t size c w v m → turn t size c w m ≡ Bad v
   unfolding pick
-  why-turn Begin h = rw (ne-eqb w 0x3E8 (h .1)) (body-refused (h .0) (h .2) (h .3) (h .4))
+  why-turn Begin h = rw (ne-eqb w type.name (h .1)) (body-refused (h .0) (h .2) (h .3) (h .4))
   why-turn Body h = body-refused (h .0) (h .1) (h .2) (h .3)
   why-turn (Length k) h = rw (lt-ltb _ _ (h .1), h .0)
-  why-turn Part h = rw (ne-eqb w 0x3EC (h .1), ne-eqb w 0x3F0 (h .2), ne-eqb w 0x3F1 (h .3), ne-eqb w 0x3F2 (h .4), h .0)
+  why-turn Part h = rw (ne-eqb w type.relocation (h .1), ne-eqb w type.symbols (h .2), ne-eqb w type.debug (h .3), ne-eqb w type.end (h .4), h .0)
   why-turn (Number n) h = rw (le-ltb _ _ (h .1), h .0)
   why-turn (Offset n k) h = go (eqb (w % 2) 0) refl (h .1)
     where
       go : (b : Bool) → eqb (w % 2) 0 ≡ b → (w % 2 ≢ 0) ⊎ (4 * c .stored < w + 4)
-          → pick b (pick (ltb (4 * c .stored) (w + 4)) (Bad 38) (pick (eqb n 0) (on c Count) (on c (Offset (n - 1) k)))) (Bad 38) ≡ Bad v
+          → pick b (pick (ltb (4 * c .stored) (w + 4)) (Bad fault.badTarget) (pick (eqb n 0) (on c Count) (on c (Offset (n - 1) k)))) (Bad fault.badTarget) ≡ Bad v
       go false q x = ap Bad (sym (h .0))
       go true q (inl x) = absurd (x (eqb-true _ _ q))
       go true q (inr x) = rw (lt-ltb _ _ x, h .0)
@@ -303,10 +305,10 @@ module _ (t : ℕ) (size : ℕ → ℕ) (h p w v : ℕ) where
   begun-wrong (bodyWord x k n ws) = Iff·rfl
   begun-wrong (afterBody x b ps q) = part-wrong (length (storedWords b)) q
 
-module _ (file : List ℕ) (even : length file % 4 ≡ 0) (s : Sound file) where
+module _ (file : List ℕ) (whole : length file % 4 ≡ 0) (s : HeaderFits file) where
   module _ (f : Refusal) where
     word-says : HunkWord file f → WrongWord file f ⊎ MoreWords file f
-    word-says r = go (comes-stands file even s (r .cursor) (r .at) (r .comes))
+    word-says r = go (comes-stands file whole s (r .cursor) (r .at) (r .comes))
       where
         why : Refuses (totalOf file) (sizeOf file) (r .cursor) (wordAt file (r .at)) (r .number) (r .cursor .mode)
         why = step-why (totalOf file) (sizeOf file) (r .cursor) (wordAt file (r .at)) (r .number) .0 (r .refuses)
@@ -325,7 +327,7 @@ module _ (file : List ℕ) (even : length file % 4 ≡ 0) (s : Sound file) where
               said = r .said;
             })
         go (inr k) =
-            let x : r .number ≡ 39 = subst (λ (c : Cursor). Refuses (totalOf file) (sizeOf file) c (wordAt file (r .at)) (r .number) (c .mode)) (sym (k .is)) why in
+            let x : r .number ≡ fault.trailingWords = subst (λ (c : Cursor). Refuses (totalOf file) (sizeOf file) c (wordAt file (r .at)) (r .number) (c .mode)) (sym (k .is)) why in
             inr (record { hunks = k .hunks; at = r .at; whole = k .whole; there = r .there; said = r .said ∙ ap (λ (n : ℕ). refusal n (r .at)) x })
 
     says-word : WrongWord file f ⊎ MoreWords file f → HunkWord file f
@@ -349,13 +351,13 @@ module _ (file : List ℕ) (even : length file % 4 ≡ 0) (s : Sound file) where
           at = r .at;
           comes = whole-comes file (s .some) (r .hunks) (r .at) (r .whole);
           there = r .there;
-          number = 39;
-          refuses = step-why (totalOf file) (sizeOf file) c (wordAt file (r .at)) 39 .1 refl;
+          number = fault.trailingWords;
+          refuses = step-why (totalOf file) (sizeOf file) c (wordAt file (r .at)) fault.trailingWords .1 refl;
           said = r .said;
         }
 
     missing-says : Missing file f → MissingWord file f
-    missing-says r = go (comes-stands file even s (r .cursor) (length file) (r .comes))
+    missing-says r = go (comes-stands file whole s (r .cursor) (length file) (r .comes))
       where
         go : Within file (r .cursor) (length file) ⊎ Past file (r .cursor) (length file) → MissingWord file f
         go (inl k) = record { hunks = k .hunks; begun = k .begun; before = k .before; said = r .said }
@@ -374,9 +376,9 @@ module _ (file : List ℕ) (f : Refusal) where
   because-says : Because file f → Says file f
   because-says (inl r) = inl r
   because-says (inr (inl r)) = inr (inl r)
-  because-says (inr (inr r)) = inr (inr (r .0, r .1, go (headed-sound file (r .1)) (r .2)))
+  because-says (inr (inr r)) = inr (inr (r .0, r .1, go (headed-fits file (r .1)) (r .2)))
     where
-      go : Sound file → HunkWord file f ⊎ Missing file f → WrongWord file f ⊎ MoreWords file f ⊎ MissingWord file f
+      go : HeaderFits file → HunkWord file f ⊎ Missing file f → WrongWord file f ⊎ MoreWords file f ⊎ MissingWord file f
       go s (inl k) = found (word-says file (r .0 .1) s f k)
         where
           found : WrongWord file f ⊎ MoreWords file f → WrongWord file f ⊎ MoreWords file f ⊎ MissingWord file f
@@ -387,9 +389,9 @@ module _ (file : List ℕ) (f : Refusal) where
   says-because : Says file f → Because file f
   says-because (inl r) = inl r
   says-because (inr (inl r)) = inr (inl r)
-  says-because (inr (inr r)) = inr (inr (r .0, r .1, go (headed-sound file (r .1)) (r .2)))
+  says-because (inr (inr r)) = inr (inr (r .0, r .1, go (headed-fits file (r .1)) (r .2)))
     where
-      go : Sound file → WrongWord file f ⊎ MoreWords file f ⊎ MissingWord file f → HunkWord file f ⊎ Missing file f
+      go : HeaderFits file → WrongWord file f ⊎ MoreWords file f ⊎ MissingWord file f → HunkWord file f ⊎ Missing file f
       go s (inl k) = inl (says-word file (r .0 .1) s f (inl k))
       go s (inr (inl k)) = inl (says-word file (r .0 .1) s f (inr k))
       go s (inr (inr k)) = inr (says-missing file (r .0 .1) s f k)

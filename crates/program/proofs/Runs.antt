@@ -1,5 +1,5 @@
 -- Words that are stored or passed over lead on (`past-stored`, `past-skipped`), and what a reader or a pass makes of the rest stays
--- (`leads-reads`, `going-past`). Assumes nothing.
+-- (`leads-reads`, `passing-turn`). Assumes nothing.
 use Prim.Native.Nat.{ℕ, zero, suc, _+_, _-_, _*_, _/_, _%_, _<_, _≤_, min}
 use mathlib.Core.Path.{_≡_, refl, sym, ap, subst, _∙_}
 use mathlib.Core.List.{List, _∷_}
@@ -13,13 +13,16 @@ use Rattle.program.specs.declared.act.Act.{Act}
 use Rattle.program.specs.declared.reader.After.{After}
 use Rattle.program.specs.declared.reader.Cursor.{Cursor}
 use Rattle.program.specs.declared.reader.Mode.the-variants.{Stored, Part, Skip}
+use Rattle.program.specs.declared.reader.Next.{Next}
 use Rattle.program.specs.declared.reader.Next.the-variants.{On}
+use Rattle.words.specs.Word.{wordAt}
+use Rattle.program.specs.Header.{totalOf, sizeOf}
 use Rattle.program.specs.Reader.{on, resume, skip, storedFrom, stepOf}
 use Rattle.program.specs.Acts.{actOf, actsFrom, pass}
-use Rattle.program.specs.Sane.{Sane}
-use Rattle.program.specs.Runs.{modedOf, skipAt, storedAt, Calm, Leads, here, along}
+use Rattle.program.specs.Cursors.{CursorFits}
+use Rattle.program.specs.Runs.{modedOf, skipAt, storedAt, QuietOrStore, Leads, here, along}
 use Rattle.program.proofs.Walks.{Reads, reads-on}
-use Rattle.program.proofs.Passes.{acts-on, Going}
+use Rattle.program.proofs.Passes.{acts-on, Passing, passing-on}
 
 -- ---- where a step takes the cursor
 
@@ -81,11 +84,14 @@ module _ (file : List ℕ) where
 
   -- ---- as the code counts them
 
-  pub stored-some : (c : Cursor) (i : ℕ) → Sane file c → c .mode ≡ Stored i → i < c .stored
+  stored-some : (c : Cursor) (i : ℕ) → CursorFits file c → c .mode ≡ Stored i → i < c .stored
   stored-some c i s e = (rw e at (s .mode)) .1
 
+  pub stored-left : (c : Cursor) (i : ℕ) → CursorFits file c → c .mode ≡ Stored i → i ≤ c .stored
+  stored-left c i s e = omega (arith, stored-some c i s e)
+
   module _ (c : Cursor) (i at left n : ℕ) (d : Cursor) (there : at < length file) (words : left ≡ (length file - at) / 4) where
-    pub past-stored : Sane file c → c .mode ≡ Stored i → n ≡ min (c .stored - i) left → d ≡ storedAt c (i + n) → Leads file c at d (at + 4 * n)
+    pub past-stored : CursorFits file c → c .mode ≡ Stored i → n ≡ min (c .stored - i) left → d ≡ storedAt c (i + n) → Leads file c at d (at + 4 * n)
     past-stored s m e f =
         let l = stored-some c i s m in rw f (stored-leads c i n at (i + n) (at + 4 * n) m l refl refl (omega arith) (omega arith))
 
@@ -94,26 +100,44 @@ module _ (file : List ℕ) where
 
   -- ---- what stays
 
-  pub leads-far : {c d : Cursor} {at to : ℕ} → Leads file c at d to → at ≤ to
+  leads-far : {c d : Cursor} {at to : ℕ} → Leads file c at d to → at ≤ to
   leads-far here = omega arith
   leads-far (along l e a k) = let h = leads-far k in omega arith
 
-  pub leads-reads : {c d : Cursor} {at to : ℕ} → length file % 4 ≡ 0 → Leads file c at d to → Reads file c at → Reads file d to
-  leads-reads h here i = i
-  leads-reads h (along {c = c} {d = d} {at = at} l e a k) i = leads-reads h k (reads-on file c at _ _ d i h l refl refl e)
+  pub leads-reads : {c d : Cursor} {at to : ℕ} → Leads file c at d to → Reads file c at → Reads file d to
+  leads-reads here i = i
+  leads-reads (along {c = c} {d = d} {at = at} l e a k) i = leads-reads k (reads-on file c at _ _ d i l refl refl e)
 
--- what makes nothing of calm acts makes the same of the acts from here and from there
-pub leads-acts : {Y : Type 0} (f : List Act → Y) (file : List ℕ) → ((a : Act) (us : List Act) → Calm a → f (a ∷ us) ≡ f us) → {c d : Cursor} {at to : ℕ} → length file % 4 ≡ 0 → Leads file c at d to → Reads file c at → f (actsFrom file at c) ≡ f (actsFrom file to d)
-leads-acts f file calm h here i = refl
-leads-acts f file calm h (along {c = c} {d = d} {at = at} l e a k) i =
-    ap f (acts-on file at c _ _ h i l refl refl d _ e refl)
-    ∙ calm _ _ a
-    ∙ leads-acts f file calm h k (reads-on file c at _ _ d i h l refl refl e)
+-- what makes nothing of quiet acts and stores makes the same of the acts from here and from there
+pub leads-acts : {Y : Type 0} (f : List Act → Y) (file : List ℕ) → ((a : Act) (us : List Act) → QuietOrStore a → f (a ∷ us) ≡ f us) → {c d : Cursor} {at to : ℕ} → Leads file c at d to → Reads file c at → f (actsFrom file at c) ≡ f (actsFrom file to d)
+leads-acts f file quiet here i = refl
+leads-acts f file quiet (along {c = c} {d = d} {at = at} l e a k) i =
+    ap f (acts-on file at c _ _ i l refl refl d _ e refl)
+    ∙ quiet _ _ a
+    ∙ leads-acts f file quiet k (reads-on file c at _ _ d i l refl refl e)
 
-pub going-past : {X : Type 0} (g : X → Act → X) → ((x : X) (a : Act) → Calm a → g x a ≡ x) → (file : List ℕ) (x₀ x : X) {c d : Cursor} {at to : ℕ} → length file % 4 ≡ 0 → Going g file x₀ x c at → Leads file c at d to → Going g file x₀ x d to
+-- ---- a turn of a loop that goes on past such words
+
+pub turn-less : (file : List ℕ) (d e : Cursor) (at to : ℕ) → at < length file → Leads file d (at + 4) e to → length file - to < length file - at
+turn-less file d e at to h k = omega (arith, leads-far file k)
+
+module _ (file : List ℕ) (c : Cursor) (at : ℕ) (i : Reads file c at) where
+  pub turn-aligned : (at + 4) % 4 ≡ 0
+  turn-aligned = omega (arith, i .aligned)
+
+  module _ (w : ℕ) (r : Next) (d : Cursor) (l : at < length file) (p : w ≡ wordAt file at) (q : r ≡ stepOf (totalOf file) (sizeOf file) c w) (n : r ≡ On d) where
+    pub turn-fits : CursorFits file d
+    turn-fits = reads-on file c at w r d i l p q n .fits
+
+    pub reads-turn : (e : Cursor) (to : ℕ) → Leads file d (at + 4) e to → Reads file e to
+    reads-turn e to k = leads-reads file k (reads-on file c at w r d i l p q n)
+
+pub passing-turn : (g : List ℕ → Act → List ℕ) (file x₀ x : List ℕ) (c d e : Cursor) (at w : ℕ) (r : Next) (a : Act) (y : List ℕ) (to : ℕ) → Passing g file x₀ x c at → at < length file → w ≡ wordAt file at → r ≡ stepOf (totalOf file) (sizeOf file) c w → r ≡ On d → a ≡ actOf c at w → y ≡ g x a → Leads file d (at + 4) e to → ((z : List ℕ) (b : Act) → length (g z b) ≡ length z) → ((z : List ℕ) (b : Act) → QuietOrStore b → g z b ≡ z) → Passing g file x₀ y e to
 unfolding pass
-going-past g calm file x₀ x h i k =
+passing-turn g file x₀ x c d e at w r a y to i l p q n z k f long quiet =
+    let j = passing-on g file x₀ x c at i w r l p q d a y n z k long in
     record {
-      reads = leads-reads file h k (i .reads);
-      left = i .left ∙ leads-acts (pass g x) file (λ a us m. ap (λ y. pass g y us) (calm x a m)) h k (i .reads);
+      reads = leads-reads file f (j .reads);
+      left = j .left ∙ leads-acts (pass g y) file (λ b us m. ap (λ u. pass g u us) (quiet y b m)) f (j .reads);
+      long = j .long;
     }

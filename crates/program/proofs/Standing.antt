@@ -9,6 +9,8 @@ use native.Mathlib.Numerals.{add-one}
 use lib.ListN.{length, length-append}
 use lib.Dec.{ltb, leb, eqb}
 use borrow.Author.Tests.{ltb-true, ltb-false, leb-false, eqb-true, eqb-false}
+use Rattle.program.specs.Types as type
+use Rattle.answers.specs.Numbers as fault
 use Rattle.words.specs.Word.{wordAt, wordsAt}
 use Rattle.answers.specs.Tests.{pick}
 use Rattle.program.specs.declared.reader.After.{After}
@@ -20,11 +22,11 @@ use Rattle.program.specs.Page.{Name, Body, Group, Symbol, Part, Hunk, no
 use Rattle.program.specs.Begun.{PartBegun, Begun, aPart, aCount, aNumber, anOffset, aSymbol, symbolWord, debugLength, debugWord, first, nameLength, nameWord, aBody, bodyLength, bodyWord, afterBody, partSoFar, soFar, PartBegunFits, BegunFits}
 use Rattle.program.specs.Header.{totalOf, sizeOf, startAt}
 use Rattle.program.specs.Reader.{resume, skip, bodyOf, storedFrom, endOf, turn, stepOf}
-use Rattle.program.specs.Sane.{Sound}
+use Rattle.program.specs.Cursors.{HeaderFits}
 use Rattle.program.specs.Verdicts.{Stand, OfSizes, Before, AllHunks}
 use Rattle.program.proofs.Coming.{Comes, begins, takes}
 use Rattle.program.proofs.Heading.{words-add}
-use Rattle.program.proofs.Sanes.{pick-on, on-on, bad-on}
+use Rattle.program.proofs.CursorsFit.{pick-on, on-on, bad-on}
 use Rattle.program.proofs.Taken.{cursor}
 use Rattle.program.proofs.Beginnings.{partMode, modeOf, cursorIn, cursorOf, cursorPast, before-comes, whole-comes}
 
@@ -92,7 +94,7 @@ module _ (t : ℕ) (size : ℕ → ℕ) (h p w : ℕ) (d : Cursor) where
     PartStep q =
         ((r : PartBegun) × PartBegunFits t s r × (partSoFar q ▹ w ≡ partSoFar r) × (cursor (partMode r) h p s ≡ d))
         ⊎ ((x : Part) × PartFits t s x × (partSoFar q ▹ w ≡ partWords x) × (cursor mode.Part h p s ≡ d))
-        ⊎ ((partSoFar q ▹ w ≡ 0x3F2 ∷ []) × (endOf t size (cursor mode.Part h p s) ≡ On d))
+        ⊎ ((partSoFar q ▹ w ≡ type.end ∷ []) × (endOf t size (cursor mode.Part h p s) ≡ On d))
 
     offset-step : (gs : List Group) (n k : ℕ) (os : List ℕ) → PartBegunFits t s (anOffset gs n k os) → OffsetFits s w
         → pick (eqb (n - suc (length os)) 0) (On (cursor mode.Count h p s)) (On (cursor (mode.Offset (n - suc (length os) - 1) k) h p s)) ≡ On d → PartStep (anOffset gs n k os)
@@ -107,7 +109,7 @@ module _ (t : ℕ) (size : ℕ → ℕ) (h p w : ℕ) (d : Cursor) where
         inl (
           anOffset gs n k (os ▹ w),
           (f .0, f .1, each-snoc (OffsetFits s) os w (f .2) o, omega (arith, long, f .3, z)),
-          ap (λ (l : List ℕ). 0x3EC ∷ l) (append-assoc (joined groupWords gs) (n ∷ k ∷ os) (w ∷ [])),
+          ap (λ (l : List ℕ). type.relocation ∷ l) (append-assoc (joined groupWords gs) (n ∷ k ∷ os) (w ∷ [])),
           ap (λ (i : ℕ). cursor (mode.Offset i k) h p s) y ∙ on-on _ d x,
         ))
       where
@@ -124,34 +126,34 @@ module _ (t : ℕ) (size : ℕ → ℕ) (h p w : ℕ) (d : Cursor) where
 
         last : length (os ▹ w) ≡ n → partSoFar (anOffset gs n k os) ▹ w ≡ partSoFar (aCount (gs ▹ groupOf k (os ▹ w)))
         last e =
-            ap (λ (l : List ℕ). 0x3EC ∷ l)
+            ap (λ (l : List ℕ). type.relocation ∷ l)
             (append-assoc (joined groupWords gs) (n ∷ k ∷ os) (w ∷ []) ∙ ap (λ (i : ℕ). joined groupWords gs ++ (i ∷ k ∷ os ▹ w)) (sym e)
             ∙ sym (joined-snoc groupWords gs (groupOf k (os ▹ w))))
 
     part-step : (q : PartBegun) → PartBegunFits t s q → turn t size (cursor (partMode q) h p s) w (partMode q) ≡ On d → PartStep q
     part-step aPart f =
-        pick-on (eqb w 0x3EC) _ _ (On d) (λ e x. inl (aCount [], tt, cons (eqb-true _ _ e) refl, on-on _ d x))
-        (λ _. pick-on (eqb w 0x3F0) _ _ (On d) (λ e x. inl (aSymbol [], tt, cons (eqb-true _ _ e) refl, on-on _ d x))
-        (λ _. pick-on (eqb w 0x3F1) _ _ (On d) (λ e x. inl (debugLength, tt, cons (eqb-true _ _ e) refl, on-on _ d x))
-        (λ _. pick-on (eqb w 0x3F2) _ _ (On d) (λ e x. inr (inr (cons (eqb-true _ _ e) refl, x))) (λ _. bad-on 35 d))))
+        pick-on (eqb w type.relocation) _ _ (On d) (λ e x. inl (aCount [], tt, cons (eqb-true _ _ e) refl, on-on _ d x))
+        (λ _. pick-on (eqb w type.symbols) _ _ (On d) (λ e x. inl (aSymbol [], tt, cons (eqb-true _ _ e) refl, on-on _ d x))
+        (λ _. pick-on (eqb w type.debug) _ _ (On d) (λ e x. inl (debugLength, tt, cons (eqb-true _ _ e) refl, on-on _ d x))
+        (λ _. pick-on (eqb w type.end) _ _ (On d) (λ e x. inr (inr (cons (eqb-true _ _ e) refl, x))) (λ _. bad-on fault.misplacedBlock d))))
     part-step (aCount gs) f =
         pick-on (eqb w 0) _ _ (On d)
-        (λ e x. inr (inl (relocation gs, f, ap (λ (i : ℕ). 0x3EC ∷ joined groupWords gs ++ (i ∷ [])) (eqb-true w 0 e), on-on _ d x)))
+        (λ e x. inr (inl (relocation gs, f, ap (λ (i : ℕ). type.relocation ∷ joined groupWords gs ++ (i ∷ [])) (eqb-true w 0 e), on-on _ d x)))
         (λ e x. let z = eqb-false w 0 e in inl (aNumber gs w, (f, omega (arith, z)), refl, on-on _ d x))
     part-step (aNumber gs n) f =
         pick-on (ltb w t) _ _ (On d)
         (λ e x.
-        let words = ap (λ (l : List ℕ). 0x3EC ∷ l) (append-assoc (joined groupWords gs) (n ∷ []) (w ∷ [])) in
+        let words = ap (λ (l : List ℕ). type.relocation ∷ l) (append-assoc (joined groupWords gs) (n ∷ []) (w ∷ [])) in
         inl (anOffset gs n w [], (f .0, ltb-true w t e, tt, f .1), words, on-on _ d x))
-        (λ _. bad-on 38 d)
+        (λ _. bad-on fault.badTarget d)
     part-step (anOffset gs n k os) f =
         pick-on (eqb (w % 2) 0) _ _ (On d)
-        (λ e. pick-on (ltb (4 * s) (w + 4)) _ _ (On d) (λ _. bad-on 38 d) (λ g x. offset-step gs n k os f (eqb-true _ _ e, ltb-false _ _ g) x))
-        (λ _. bad-on 38 d)
+        (λ e. pick-on (ltb (4 * s) (w + 4)) _ _ (On d) (λ _. bad-on fault.badTarget d) (λ g x. offset-step gs n k os f (eqb-true _ _ e, ltb-false _ _ g) x))
+        (λ _. bad-on fault.badTarget d)
     part-step (aSymbol us) f =
         pick-on (eqb w 0) _ _ (On d)
-        (λ e x. inr (inl (symbols us, f, ap (λ (i : ℕ). 0x3F0 ∷ joined symbolWords us ++ (i ∷ [])) (eqb-true w 0 e), on-on _ d x)))
-        (λ e. pick-on (leb 0x1000000 w) _ _ (On d) (λ _. bad-on 37 d)
+        (λ e x. inr (inl (symbols us, f, ap (λ (i : ℕ). type.symbols ∷ joined symbolWords us ++ (i ∷ [])) (eqb-true w 0 e), on-on _ d x)))
+        (λ e. pick-on (leb 0x1000000 w) _ _ (On d) (λ _. bad-on fault.symbolType d)
         (λ g x.
         let z = eqb-false w 0 e in
         let y : w + 1 - 1 ≡ w = omega arith in
@@ -163,8 +165,8 @@ module _ (t : ℕ) (size : ℕ → ℕ) (h p w : ℕ) (d : Cursor) where
         )))
     part-step (symbolWord us n ws) f = λ e. go (passes s after.Symbol (n + 1) ws (f .3) e)
       where
-        words : partSoFar (symbolWord us n ws) ▹ w ≡ 0x3F0 ∷ joined symbolWords us ++ (n ∷ ws ▹ w)
-        words = ap (λ (l : List ℕ). 0x3F0 ∷ l) (append-assoc (joined symbolWords us) (n ∷ ws) (w ∷ []))
+        words : partSoFar (symbolWord us n ws) ▹ w ≡ type.symbols ∷ joined symbolWords us ++ (n ∷ ws ▹ w)
+        words = ap (λ (l : List ℕ). type.symbols ∷ l) (append-assoc (joined symbolWords us) (n ∷ ws) (w ∷ []))
 
         go : Passes s after.Symbol (n + 1) ws → PartStep (symbolWord us n ws)
         go (inl r) =
@@ -173,19 +175,19 @@ module _ (t : ℕ) (size : ℕ → ℕ) (h p w : ℕ) (d : Cursor) where
             inl (
               aSymbol (us ▹ u),
               each-snoc SymbolFits us u (f .0) (omega (arith, f .1), omega (arith, f .2)),
-              words ∙ ap (λ (l : List ℕ). 0x3F0 ∷ l) (ap (λ (i : ℕ). joined symbolWords us ++ (i ∷ ws ▹ w)) (sym k) ∙ sym (joined-snoc symbolWords us u)),
+              words ∙ ap (λ (l : List ℕ). type.symbols ∷ l) (ap (λ (i : ℕ). joined symbolWords us ++ (i ∷ ws ▹ w)) (sym k) ∙ sym (joined-snoc symbolWords us u)),
               r .1,
             )
         go (inr r) = inl (symbolWord us n (ws ▹ w), (f .0, f .1, f .2, r .0), words, r .1)
     part-step debugLength f = λ e. go (counts s after.Part e)
       where
         go : Counts s after.Part → PartStep debugLength
-        go (inl r) = inr (inl (debug [], tt, ap (λ (i : ℕ). 0x3F1 ∷ i ∷ []) (r .0), r .1))
+        go (inl r) = inr (inl (debug [], tt, ap (λ (i : ℕ). type.debug ∷ i ∷ []) (r .0), r .1))
         go (inr r) = inl (debugWord w [], r .0, refl, r .1)
     part-step (debugWord n ws) f = λ e. go (passes s after.Part n ws f e)
       where
         go : Passes s after.Part n ws → PartStep (debugWord n ws)
-        go (inl r) = inr (inl (debug (ws ▹ w), tt, ap (λ (i : ℕ). 0x3F1 ∷ i ∷ ws ▹ w) (sym (r .0)), r .1))
+        go (inl r) = inr (inl (debug (ws ▹ w), tt, ap (λ (i : ℕ). type.debug ∷ i ∷ ws ▹ w) (sym (r .0)), r .1))
         go (inr r) = inl (debugWord n (ws ▹ w), r .0, refl, r .1)
 
   -- the hunk goes on; or it ends
@@ -193,13 +195,13 @@ module _ (t : ℕ) (size : ℕ → ℕ) (h p w : ℕ) (d : Cursor) where
   Step b =
       ((r : Begun) × BegunFits t (size h) r × (soFar b ▹ w ≡ soFar r) × (cursorIn r h p ≡ d))
       ⊎ ((x : Name) × (y : Body) × (ps : List Part) × (bodyCount y ≤ size h) × Each (PartFits t (length (storedWords y))) ps
-      × (soFar b ▹ w ≡ nameWords x ++ bodyWords y ++ joined partWords ps ++ (0x3F2 ∷ [])) × (endOf t size (cursor mode.Part h p (length (storedWords y))) ≡ On d))
+      × (soFar b ▹ w ≡ nameWords x ++ bodyWords y ++ joined partWords ps ++ (type.end ∷ [])) × (endOf t size (cursor mode.Part h p (length (storedWords y))) ≡ On d))
 
-  type-step : (s : ℕ) → bodyOf (cursor mode.Part h p s) w ≡ On d → ((w ≡ 0x3E9) ⊎ (w ≡ 0x3EA) ⊎ (w ≡ 0x3EB)) × (cursor (mode.Length w) h p s ≡ d)
+  type-step : (s : ℕ) → bodyOf (cursor mode.Part h p s) w ≡ On d → ((w ≡ type.code) ⊎ (w ≡ type.stores) ⊎ (w ≡ type.bss)) × (cursor (mode.Length w) h p s ≡ d)
   type-step s =
-      pick-on (eqb w 0x3E9) _ _ (On d) (λ e x. (inl (eqb-true _ _ e), on-on _ d x))
-      (λ _. pick-on (eqb w 0x3EA) _ _ (On d) (λ e x. (inr (inl (eqb-true _ _ e)), on-on _ d x))
-      (λ _. pick-on (eqb w 0x3EB) _ _ (On d) (λ e x. (inr (inr (eqb-true _ _ e)), on-on _ d x)) (λ _. bad-on 35 d)))
+      pick-on (eqb w type.code) _ _ (On d) (λ e x. (inl (eqb-true _ _ e), on-on _ d x))
+      (λ _. pick-on (eqb w type.stores) _ _ (On d) (λ e x. (inr (inl (eqb-true _ _ e)), on-on _ d x))
+      (λ _. pick-on (eqb w type.bss) _ _ (On d) (λ e x. (inr (inr (eqb-true _ _ e)), on-on _ d x)) (λ _. bad-on fault.misplacedBlock d)))
 
   -- of n stored words, i stand there
   abbrev Stores : ℕ → ℕ → Type 0
@@ -217,12 +219,12 @@ module _ (t : ℕ) (size : ℕ → ℕ) (h p w : ℕ) (d : Cursor) where
   -- code or data: a body of type k whose words are all stored
   abbrev Full : ℕ → (List ℕ → Body) → Type 0
   Full k c =
-      ((k ≡ 0x3E9) ⊎ (k ≡ 0x3EA)) × ((us : List ℕ) → (bodyWords (c us) ≡ k ∷ length us ∷ us) × (bodyCount (c us) ≡ length us) × (storedWords (c us) ≡ us))
+      ((k ≡ type.code) ⊎ (k ≡ type.stores)) × ((us : List ℕ) → (bodyWords (c us) ≡ k ∷ length us ∷ us) × (bodyCount (c us) ≡ length us) × (storedWords (c us) ≡ us))
 
-  as-code : (k : ℕ) → k ≡ 0x3E9 → Full k code
+  as-code : (k : ℕ) → k ≡ type.code → Full k code
   as-code k e = (inl e, λ us. (ap (λ (i : ℕ). i ∷ length us ∷ us) (sym e), refl, refl))
 
-  as-data : (k : ℕ) → k ≡ 0x3EA → Full k stores
+  as-data : (k : ℕ) → k ≡ type.stores → Full k stores
   as-data k e = (inr e, λ us. (ap (λ (i : ℕ). i ∷ length us ∷ us) (sym e), refl, refl))
 
   -- a body's number of words
@@ -241,7 +243,7 @@ module _ (t : ℕ) (size : ℕ → ℕ) (h p w : ℕ) (d : Cursor) where
             )
         go b (inr r) = let z = r .0 in inl (bodyWord x k w [], (f .0, l, omega (arith, z)), append-assoc (nameWords x) (k ∷ []) (w ∷ []), r .1)
 
-    length-step : (k : ℕ) → (k ≡ 0x3E9) ⊎ (k ≡ 0x3EA) ⊎ (k ≡ 0x3EB) → storedFrom (cursor mode.Part h p (pick (eqb k 0x3EB) 0 w)) 0 ≡ On d
+    length-step : (k : ℕ) → (k ≡ type.code) ⊎ (k ≡ type.stores) ⊎ (k ≡ type.bss) → storedFrom (cursor mode.Part h p (pick (eqb k type.bss) 0 w)) 0 ≡ On d
         → Step (bodyLength x k)
     unfolding pick
     length-step k (inl e) q = full-step k code (as-code k e) (rw e at q)
@@ -277,23 +279,23 @@ module _ (t : ℕ) (size : ℕ → ℕ) (h p w : ℕ) (d : Cursor) where
 
   begun-step : (b : Begun) → BegunFits t (size h) b → turn t size (cursorIn b h p) w (modeOf b) ≡ On d → Step b
   begun-step first f =
-      pick-on (eqb w 0x3E8) _ _ (On d) (λ e x. inl (nameLength, tt, cons (eqb-true _ _ e) refl, on-on _ d x))
+      pick-on (eqb w type.name) _ _ (On d) (λ e x. inl (nameLength, tt, cons (eqb-true _ _ e) refl, on-on _ d x))
       (λ _ x. let y = type-step 0 x in inl (bodyLength none w, y .0, refl, y .1))
   begun-step nameLength f = λ e. go (counts 0 after.Body e)
     where
       go : Counts 0 after.Body → Step nameLength
-      go (inl r) = inl (aBody [], tt, ap (λ (i : ℕ). 0x3E8 ∷ i ∷ []) (r .0), r .1)
+      go (inl r) = inl (aBody [], tt, ap (λ (i : ℕ). type.name ∷ i ∷ []) (r .0), r .1)
       go (inr r) = inl (nameWord w [], r .0, refl, r .1)
   begun-step (nameWord n ws) f = λ e. go (passes 0 after.Body n ws f e)
     where
       go : Passes 0 after.Body n ws → Step (nameWord n ws)
-      go (inl r) = inl (aBody (ws ▹ w), tt, ap (λ (i : ℕ). 0x3E8 ∷ i ∷ ws ▹ w) (sym (r .0)), r .1)
+      go (inl r) = inl (aBody (ws ▹ w), tt, ap (λ (i : ℕ). type.name ∷ i ∷ ws ▹ w) (sym (r .0)), r .1)
       go (inr r) = inl (nameWord n (ws ▹ w), r .0, refl, r .1)
   begun-step (aBody ws) f = λ e. let y = type-step 0 e in inl (bodyLength (named ws) w, y .0, refl, y .1)
-  begun-step (bodyLength x k) f = pick-on (ltb (size h) w) _ _ (On d) (λ _. bad-on 36 d) (λ q e. length-step x (ltb-false _ _ q) k f e)
+  begun-step (bodyLength x k) f = pick-on (ltb (size h) w) _ _ (On d) (λ _. bad-on fault.bodyLength d) (λ q e. length-step x (ltb-false _ _ q) k f e)
   begun-step (bodyWord x k n ws) f = go (f .0)
     where
-      go : (k ≡ 0x3E9) ⊎ (k ≡ 0x3EA) → storedFrom (cursor mode.Part h p n) (length ws + 1) ≡ On d → Step (bodyWord x k n ws)
+      go : (k ≡ type.code) ⊎ (k ≡ type.stores) → storedFrom (cursor mode.Part h p n) (length ws + 1) ≡ On d → Step (bodyWord x k n ws)
       go (inl q) e = word-step x k n ws code (as-code k q) (f .1) (f .2) e
       go (inr q) e = word-step x k n ws stores (as-data k q) (f .1) (f .2) e
   begun-step (afterBody x b ps q) f = λ e. go (part-step (length (storedWords b)) q (f .2) e)
@@ -319,7 +321,7 @@ module _ (t : ℕ) (size : ℕ → ℕ) (h p w : ℕ) (d : Cursor) where
             grown (partWords (r .0)) (r .2) ∙ parted (r .0),
             r .3,
           )
-      go (inr (inr r)) = inr (x, b, ps, f .0, f .1, grown (0x3F2 ∷ []) (r .0), r .1)
+      go (inr (inr r)) = inr (x, b, ps, f .0, f .1, grown (type.end ∷ []) (r .0), r .1)
 
 -- ---- the words before a byte
 
@@ -339,24 +341,24 @@ pub record Past (file : List ℕ) (c : Cursor) (at : ℕ) : Type 0 where
 after-hunks : (hs : List Hunk) (us : List ℕ) (w : ℕ) (vs : List ℕ) → us ▹ w ≡ vs → (joined hunkWords hs ++ us) ▹ w ≡ joined hunkWords hs ++ vs
 after-hunks hs us w vs e = append-assoc (joined hunkWords hs) us (w ∷ []) ∙ ap (λ (k : List ℕ). joined hunkWords hs ++ k) e
 
-module _ (file : List ℕ) (even : length file % 4 ≡ 0) (s : Sound file) where
+module _ (file : List ℕ) (whole : length file % 4 ≡ 0) (s : HeaderFits file) where
   stand-on : (ws vs : List ℕ) (at : ℕ) → Stand file ws at → at < length file → ws ▹ wordAt file at ≡ vs → Stand file vs (at + 4)
   unfolding wordsAt
   stand-on ws vs at r l e =
       let n : length vs ≡ length ws + 1 = ap length (sym e) ∙ simp length-append in
-      let a : startAt file + 4 * length ws ≡ at = sym (r .place) in
+      let a : startAt file + 4 * length ws ≡ at = sym (r .reaches) in
       record {
-        place = omega (arith, r .place);
-        within = omega (arith, r .place);
+        reaches = omega (arith, r .reaches);
+        within = omega (arith, r .reaches);
         words = ap (wordsAt file (startAt file)) n ∙ words-add file (length ws) (startAt file) 1 ∙ rw (a, r .words) e;
       }
 
   -- the last word of a hunk
-  whole : (hs : List Hunk) (b : Begun) (at : ℕ) → Before file hs b at → at < length file → (x : Hunk) → x .size ≡ sizeOf file (length hs)
+  whole-hunk : (hs : List Hunk) (b : Begun) (at : ℕ) → Before file hs b at → at < length file → (x : Hunk) → x .size ≡ sizeOf file (length hs)
       → HunkFits (totalOf file) x
       → soFar b ▹ wordAt file at ≡ hunkWords x → (n : ℕ) (d : Cursor) → endOf (totalOf file) (sizeOf file) (cursor mode.Part (length hs) (4 * total hs) n) ≡ On d → Within file d (at + 4) ⊎ Past file d (at + 4)
   unfolding pick
-  whole hs b at r l x z f e n d q = go (eqb (length hs + 1) (totalOf file)) refl (on-on _ d q)
+  whole-hunk hs b at r l x z f e n d q = go (eqb (length hs + 1) (totalOf file)) refl (on-on _ d q)
     where
       long : length (hs ▹ x) ≡ length hs + 1
       long = length-snoc hs x ∙ sym (add-one (length hs))
@@ -410,13 +412,13 @@ module _ (file : List ℕ) (even : length file % 4 ≡ 0) (s : Sound file) where
           let n = sizeOf file (length (r .hunks)) in
           let x : Hunk = record { size = n; name = k .0; body = k .1; parts = k .2 } in
           let f : HunkFits (totalOf file) x = record { size = s .small (length (r .hunks)) (r .before .next); body = k .3; parts = k .4 } in
-          whole (r .hunks) (r .begun) at (r .before) l x refl f (k .5) (length (storedWords (k .1))) d (k .6)
-  word-on c d at l e (inr r) = bad-on 39 d (rw (← r .is) at e)
+          whole-hunk (r .hunks) (r .begun) at (r .before) l x refl f (k .5) (length (storedWords (k .1))) d (k .6)
+  word-on c d at l e (inr r) = bad-on fault.trailingWords d (rw (← r .is) at e)
 
   pub comes-stands : (c : Cursor) (at : ℕ) → Comes file c at → Within file c at ⊎ Past file c at
   unfolding wordsAt
   comes-stands c at begins =
-      let b : Before file [] first (startAt file) = record { next = s .some; hunks = tt; begun = tt; stand = record { place = omega arith; within = s .long; words = refl } } in
+      let b : Before file [] first (startAt file) = record { next = s .some; hunks = tt; begun = tt; stand = record { reaches = omega arith; within = s .long; words = refl } } in
       inl (record { hunks = []; begun = first; before = b; is = refl })
   comes-stands c at (takes {c = c′} {d = d} {at = i} r l e) = word-on c′ d i l e (comes-stands c′ i r)
 

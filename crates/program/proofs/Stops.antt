@@ -5,6 +5,7 @@ use mathlib.Core.Logic.{_≢_, _⊎_, inl, inr}
 use mathlib.Core.List.{List}
 use native.Mathlib.Omega.{arith}
 use lib.ListN.{length}
+use Rattle.answers.specs.Numbers as fault
 use Rattle.words.specs.Word.{wordAt}
 use Rattle.answers.specs.Refusals.{refusal}
 use Rattle.answers.specs.declared.Refusal.{Refusal}
@@ -19,7 +20,7 @@ use Rattle.program.specs.declared.reader.Next.the-variants.{On, Bad}
 use Rattle.program.specs.Header.{totalOf, sizeOf, startAt}
 use Rattle.program.specs.Reader.{start, stepOf}
 use Rattle.program.specs.Check.{refuse, endedOf, restOf, walkOf}
-use Rattle.program.specs.Sane.{Sound}
+use Rattle.program.specs.Cursors.{HeaderFits}
 use Rattle.program.proofs.Coming.{Comes, begins, takes, HunkWord}
 use Rattle.program.proofs.Walks.{Reads, reads-start, reads-on, walk-on, walk-bad, walk-end}
 
@@ -27,7 +28,7 @@ use Rattle.program.proofs.Walks.{Reads, reads-start, reads-on, walk-on,
 
 abbrev pub Ends : ℕ → Cursor → Mode → Type 0
 Ends end c m =
-    ((m ≡ End) × (endedOf end c m ≡ Accepted (c .hunk) (c .place))) ⊎ ((m ≢ End) × (endedOf end c m ≡ refuse 31 end))
+    ((m ≡ End) × (endedOf end c m ≡ Accepted (c .hunk) (c .place))) ⊎ ((m ≢ End) × (endedOf end c m ≡ refuse fault.earlyEnd end))
 
 pub ended : (end : ℕ) (c : Cursor) (m : Mode) → Ends end c m
 ended end c End = inl (refl, refl)
@@ -51,7 +52,7 @@ abbrev pub Stops : List ℕ → Answer → Type 0
 Stops file a =
     ((c : Cursor) × Comes file c (length file) × (a ≡ endedOf (length file) c (c .mode))) ⊎ ((f : Refusal) × HunkWord file f × (a ≡ Refused f))
 
-module _ (file : List ℕ) (even : length file % 4 ≡ 0) where
+module _ (file : List ℕ) (whole : length file % 4 ≡ 0) where
   -- n words are left
   stops : (n at : ℕ) (c : Cursor) → length file ≡ at + 4 * n → Comes file c at → Stops file (restOf file at c)
   stops zero at c l r =
@@ -67,14 +68,14 @@ module _ (file : List ℕ) (even : length file % 4 ≡ 0) where
 
       go : (x : Next) → stepOf (totalOf file) (sizeOf file) c (wordAt file at) ≡ x
           → ((d : Cursor) → length file ≡ at + 4 + 4 * n → Comes file d (at + 4) → Stops file (restOf file (at + 4) d)) → Stops file (restOf file at c)
-      go (On d) q more = rw (walk-on file at c (wordAt file at) _ even k h refl refl d q) (more d (omega arith) (takes r h q))
+      go (On d) q more = rw (walk-on file at c (wordAt file at) _ whole k h refl refl d q) (more d (omega arith) (takes r h q))
       go (Bad v) q more =
-          inr (refusal v at, record { cursor = c; at = at; comes = r; there = h; number = v; refuses = q; said = refl }, walk-bad file at c (wordAt file at) _ even k h refl refl v q)
+          inr (refusal v at, record { cursor = c; at = at; comes = r; there = h; number = v; refuses = q; said = refl }, walk-bad file at c (wordAt file at) _ whole k h refl refl v q)
 
-  pub walk-stops : Sound file → Stops file (walkOf file)
-  walk-stops s = stops ((length file - startAt file) / 4) (startAt file) start (omega (arith, s .long, even)) begins
+  pub walk-stops : HeaderFits file → Stops file (walkOf file)
+  walk-stops s = stops ((length file - startAt file) / 4) (startAt file) start (omega (arith, s .long, whole)) begins
 
   -- where the reader comes to, the rest of the file gives the file's answer
-  pub comes-reads : Sound file → {c : Cursor} {at : ℕ} → Comes file c at → Reads file c at
-  comes-reads s begins = reads-start file start (startAt file) (totalOf file) s refl refl refl
-  comes-reads s (takes {c} {d} {at} r h q) = reads-on file c at (wordAt file at) _ d (comes-reads s r) even h refl refl q
+  pub comes-reads : HeaderFits file → {c : Cursor} {at : ℕ} → Comes file c at → Reads file c at
+  comes-reads s begins = reads-start file start (startAt file) (totalOf file) s whole refl refl refl
+  comes-reads s (takes {c} {d} {at} r h q) = reads-on file c at (wordAt file at) _ d (comes-reads s r) h refl refl q

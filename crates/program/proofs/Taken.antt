@@ -8,6 +8,7 @@ use native.Mathlib.Omega.{arith}
 use lib.ListN.{length, length-append}
 use lib.Dec.{eqb}
 use borrow.Author.Tests.{lt-ltb, le-ltb, lt-leb, eq-eqb, ne-eqb}
+use Rattle.program.specs.Types as type
 use Rattle.answers.specs.Tests.{pick}
 use Rattle.program.specs.declared.check.Answer.the-variants.{Accepted}
 use Rattle.program.specs.declared.reader.After.{After}
@@ -158,37 +159,37 @@ module _ (t : ℕ) (size : ℕ → ℕ) (Taken : Cursor → List ℕ → Type 0)
     all-stored m rest (u ∷ us) g =
         rw (ne-eqb 0 (suc (length us)) (omega arith)) (stored-on h p (suc (length us)) rest us u 0 (omega arith) g)
 
-    full-on : (k : ℕ) (ws : List ℕ) (s : ℕ) (rest : List ℕ) → eqb k 0x3EB ≡ false → length ws ≤ size h → Taken (cursor mode.Part h p (length ws)) rest
+    full-on : (k : ℕ) (ws : List ℕ) (s : ℕ) (rest : List ℕ) → eqb k type.bss ≡ false → length ws ≤ size h → Taken (cursor mode.Part h p (length ws)) rest
         → Taken (cursor (mode.Length k) h p s) (length ws ∷ ws ++ rest)
     unfolding pick
     full-on k ws s rest e l g = step _ _ _ (rw (le-ltb (size h) (length ws) l, e) (all-stored mode.Part rest ws g))
 
     -- a body's type, after a name or none
-    kind-goes : (m : Mode) (k s : ℕ) (rest : List ℕ) → (k ≡ 0x3E9) ⊎ (k ≡ 0x3EA) ⊎ (k ≡ 0x3EB) → Taken (cursor (mode.Length k) h p s) rest
+    kind-goes : (m : Mode) (k s : ℕ) (rest : List ℕ) → (k ≡ type.code) ⊎ (k ≡ type.stores) ⊎ (k ≡ type.bss) → Taken (cursor (mode.Length k) h p s) rest
         → Goes Taken (bodyOf (cursor m h p s) k) rest
     unfolding pick
-    kind-goes m k s rest (inl e) g = rw (eq-eqb k 0x3E9 e) g
-    kind-goes m k s rest (inr (inl e)) g = rw (ne-eqb k 0x3E9 (omega arith), eq-eqb k 0x3EA e) g
-    kind-goes m k s rest (inr (inr e)) g = rw (ne-eqb k 0x3E9 (omega arith), ne-eqb k 0x3EA (omega arith), eq-eqb k 0x3EB e) g
+    kind-goes m k s rest (inl e) g = rw (eq-eqb k type.code e) g
+    kind-goes m k s rest (inr (inl e)) g = rw (ne-eqb k type.code (omega arith), eq-eqb k type.stores e) g
+    kind-goes m k s rest (inr (inr e)) g = rw (ne-eqb k type.code (omega arith), ne-eqb k type.stores (omega arith), eq-eqb k type.bss e) g
 
-    no-name : (k : ℕ) → (k ≡ 0x3E9) ⊎ (k ≡ 0x3EA) ⊎ (k ≡ 0x3EB) → k ≡ 0x3E8 → ⊥
+    no-name : (k : ℕ) → (k ≡ type.code) ⊎ (k ≡ type.stores) ⊎ (k ≡ type.bss) → k ≡ type.name → ⊥
     no-name k (inl e) = omega arith
     no-name k (inr (inl e)) = omega arith
     no-name k (inr (inr e)) = omega arith
 
-    pub type-on : (x : Name) (k s : ℕ) (rest : List ℕ) → (k ≡ 0x3E9) ⊎ (k ≡ 0x3EA) ⊎ (k ≡ 0x3EB) → Taken (cursor (mode.Length k) h p s) rest
+    pub type-on : (x : Name) (k s : ℕ) (rest : List ℕ) → (k ≡ type.code) ⊎ (k ≡ type.stores) ⊎ (k ≡ type.bss) → Taken (cursor (mode.Length k) h p s) rest
         → Taken (cursor mode.Begin h p s) (nameWords x ++ (k ∷ rest))
     unfolding pick
-    type-on none k s rest f g = step _ k _ (rw (ne-eqb k 0x3E8 (no-name k f)) (kind-goes mode.Begin k s rest f g))
+    type-on none k s rest f g = step _ k _ (rw (ne-eqb k type.name (no-name k f)) (kind-goes mode.Begin k s rest f g))
     type-on (named us) k s rest f g =
         step _ _ _ (step _ _ _ (skipped h p s mode.NameLength after.Body (k ∷ rest) us (step _ k _ (kind-goes mode.Body k s rest f g))))
 
     pub begin-on : (x : Name) (b : Body) (s : ℕ) (rest : List ℕ) → bodyCount b ≤ size h → Taken (cursor mode.Part h p (length (storedWords b))) rest
         → Taken (cursor mode.Begin h p s) (nameWords x ++ (bodyWords b ++ rest))
     unfolding pick
-    begin-on x (code ws) s rest l g = type-on x 0x3E9 s _ (inl refl) (full-on 0x3E9 ws s rest refl l g)
-    begin-on x (stores ws) s rest l g = type-on x 0x3EA s _ (inr (inl refl)) (full-on 0x3EA ws s rest refl l g)
-    begin-on x (bss m) s rest l g = type-on x 0x3EB s _ (inr (inr refl)) (step _ _ _ (rw (le-ltb (size h) m l) g))
+    begin-on x (code ws) s rest l g = type-on x type.code s _ (inl refl) (full-on type.code ws s rest refl l g)
+    begin-on x (stores ws) s rest l g = type-on x type.stores s _ (inr (inl refl)) (full-on type.stores ws s rest refl l g)
+    begin-on x (bss m) s rest l g = type-on x type.bss s _ (inr (inr refl)) (step _ _ _ (rw (le-ltb (size h) m l) g))
 
   hunk-on : (h p : ℕ) (x : Hunk) (rest : List ℕ) → x .size ≡ size h → HunkFits t x → Front Taken t (h + 1) (p + 4 * size h) rest
       → Taken (cursor mode.Begin h p 0) (hunkWords x ++ rest)
@@ -196,8 +197,8 @@ module _ (t : ℕ) (size : ℕ → ℕ) (Taken : Cursor → List ℕ → Type 0)
   hunk-on h p x rest e f g =
       let n : ℕ = length (storedWords (x .body)) in
       let l : bodyCount (x .body) ≤ size h = omega (arith, f .body) in
-      let y = parts-on h p n (x .parts) (0x3F2 ∷ rest) (f .parts) (step _ _ _ g) in
-      simp append-assoc (begin-on h p (x .name) (x .body) 0 (joined partWords (x .parts) ++ (0x3F2 ∷ rest)) l y)
+      let y = parts-on h p n (x .parts) (type.end ∷ rest) (f .parts) (step _ _ _ g) in
+      simp append-assoc (begin-on h p (x .name) (x .body) 0 (joined partWords (x .parts) ++ (type.end ∷ rest)) l y)
 
   pub fronts-on : (hs : List Hunk) (h p i q : ℕ) (rest : List ℕ) → OfSizes t size h hs → h + length hs ≡ i → i ≤ t → p + 4 * total hs ≡ q
       → Front Taken t i q rest → Front Taken t h p (joined hunkWords hs ++ rest)

@@ -4,6 +4,7 @@ use mathlib.Core.Path.{_≡_, refl, sym, subst, _∙_}
 use mathlib.Core.List.{List, [], _∷_, _++_, append-assoc, map}
 use native.Mathlib.Omega.{arith}
 use lib.ListN.{length, length-map}
+use Rattle.program.specs.Types as type
 use Rattle.answers.proofs.Clashes.{impossible}
 use Rattle.program.specs.Page.{Name, Body, Group, Symbol, Part, Hunk, none, named, code, stores, bss, relocation, symbols, debug, joined, nameWords, bodyWords, groupWords, symbolWords, partWords, hunkWords, written, Each, storedWords, GroupFits, SymbolFits, PartFits, HunkFits, Program, Holds}
 use Rattle.program.proofs.Standing.{cons}
@@ -91,36 +92,36 @@ module _ (t n : ℕ) where
 
   part-same : (x y : Part) (r s : List ℕ) → PartFits t n x → PartFits t n y → partWords x ++ r ≡ partWords y ++ s → (x ≡ y) × (r ≡ s)
   part-same (relocation a) (relocation b) r s p q e = let h = groups-same a b r s p q (cc) in let g = h .0 in (cc, h .1)
-  part-same (relocation a) (symbols b) r s p q e = differ 0x3EC 0x3F0 _ _ (omega arith) e
-  part-same (relocation a) (debug b) r s p q e = differ 0x3EC 0x3F1 _ _ (omega arith) e
-  part-same (symbols a) (relocation b) r s p q e = differ 0x3F0 0x3EC _ _ (omega arith) e
+  part-same (relocation a) (symbols b) r s p q e = differ type.relocation type.symbols _ _ (omega arith) e
+  part-same (relocation a) (debug b) r s p q e = differ type.relocation type.debug _ _ (omega arith) e
+  part-same (symbols a) (relocation b) r s p q e = differ type.symbols type.relocation _ _ (omega arith) e
   part-same (symbols a) (symbols b) r s p q e = let h = symbols-same a b r s p q (cc) in let g = h .0 in (cc, h .1)
-  part-same (symbols a) (debug b) r s p q e = differ 0x3F0 0x3F1 _ _ (omega arith) e
-  part-same (debug a) (relocation b) r s p q e = differ 0x3F1 0x3EC _ _ (omega arith) e
-  part-same (debug a) (symbols b) r s p q e = differ 0x3F1 0x3F0 _ _ (omega arith) e
+  part-same (symbols a) (debug b) r s p q e = differ type.symbols type.debug _ _ (omega arith) e
+  part-same (debug a) (relocation b) r s p q e = differ type.debug type.relocation _ _ (omega arith) e
+  part-same (debug a) (symbols b) r s p q e = differ type.debug type.symbols _ _ (omega arith) e
   part-same (debug a) (debug b) r s p q e = let h = counted-same a b r s (cc) in let g = h .0 in (cc, h .1)
 
-  part-ends : (x : Part) (r s : List ℕ) → PartFits t n x → partWords x ++ r ≡ 0x3F2 ∷ s → ⊥
-  part-ends (relocation a) r s f e = differ 0x3EC 0x3F2 _ _ (omega arith) e
-  part-ends (symbols a) r s f e = differ 0x3F0 0x3F2 _ _ (omega arith) e
-  part-ends (debug a) r s f e = differ 0x3F1 0x3F2 _ _ (omega arith) e
+  part-ends : (x : Part) (r s : List ℕ) → PartFits t n x → partWords x ++ r ≡ type.end ∷ s → ⊥
+  part-ends (relocation a) r s f e = differ type.relocation type.end _ _ (omega arith) e
+  part-ends (symbols a) r s f e = differ type.symbols type.end _ _ (omega arith) e
+  part-ends (debug a) r s f e = differ type.debug type.end _ _ (omega arith) e
 
 body-same : (x y : Body) (r s : List ℕ) → bodyWords x ++ r ≡ bodyWords y ++ s → (x ≡ y) × (r ≡ s)
 body-same (code a) (code b) r s e = let h = counted-same a b r s (cc) in let g = h .0 in (cc, h .1)
-body-same (code a) (stores b) r s e = differ 0x3E9 0x3EA _ _ (omega arith) e
-body-same (code a) (bss b) r s e = differ 0x3E9 0x3EB _ _ (omega arith) e
-body-same (stores a) (code b) r s e = differ 0x3EA 0x3E9 _ _ (omega arith) e
+body-same (code a) (stores b) r s e = differ type.code type.stores _ _ (omega arith) e
+body-same (code a) (bss b) r s e = differ type.code type.bss _ _ (omega arith) e
+body-same (stores a) (code b) r s e = differ type.stores type.code _ _ (omega arith) e
 body-same (stores a) (stores b) r s e = let h = counted-same a b r s (cc) in let g = h .0 in (cc, h .1)
-body-same (stores a) (bss b) r s e = differ 0x3EA 0x3EB _ _ (omega arith) e
-body-same (bss a) (code b) r s e = differ 0x3EB 0x3E9 _ _ (omega arith) e
-body-same (bss a) (stores b) r s e = differ 0x3EB 0x3EA _ _ (omega arith) e
+body-same (stores a) (bss b) r s e = differ type.stores type.bss _ _ (omega arith) e
+body-same (bss a) (code b) r s e = differ type.bss type.code _ _ (omega arith) e
+body-same (bss a) (stores b) r s e = differ type.bss type.stores _ _ (omega arith) e
 body-same (bss a) (bss b) r s e = (cc, cc)
 
 -- a body does not begin as a name does
-unnamed : {X : Type 0} (b : Body) (r s : List ℕ) → bodyWords b ++ r ≡ 0x3E8 ∷ s → X
-unnamed (code a) r s e = differ 0x3E9 0x3E8 _ _ (omega arith) e
-unnamed (stores a) r s e = differ 0x3EA 0x3E8 _ _ (omega arith) e
-unnamed (bss a) r s e = differ 0x3EB 0x3E8 _ _ (omega arith) e
+unnamed : {X : Type 0} (b : Body) (r s : List ℕ) → bodyWords b ++ r ≡ type.name ∷ s → X
+unnamed (code a) r s e = differ type.code type.name _ _ (omega arith) e
+unnamed (stores a) r s e = differ type.stores type.name _ _ (omega arith) e
+unnamed (bss a) r s e = differ type.bss type.name _ _ (omega arith) e
 
 name-same : (x y : Name) (b d : Body) (r s : List ℕ) → nameWords x ++ (bodyWords b ++ r) ≡ nameWords y ++ (bodyWords d ++ s)
     → (x ≡ y) × (bodyWords b ++ r ≡ bodyWords d ++ s)
@@ -132,7 +133,7 @@ name-same (named x) (named y) b d r s e = let h = counted-same x y (bodyWords b 
 -- ---- hunks
 
 -- a hunk's words and others, piece by piece
-grouped : (x : Hunk) (rest : List ℕ) → hunkWords x ++ rest ≡ nameWords (x .name) ++ (bodyWords (x .body) ++ (joined partWords (x .parts) ++ (0x3F2 ∷ rest)))
+grouped : (x : Hunk) (rest : List ℕ) → hunkWords x ++ rest ≡ nameWords (x .name) ++ (bodyWords (x .body) ++ (joined partWords (x .parts) ++ (type.end ∷ rest)))
 grouped x rest = simp append-assoc
 
 hunk-same : (t : ℕ) (x y : Hunk) (r s : List ℕ) → x .size ≡ y .size → HunkFits t x → HunkFits t y → hunkWords x ++ r ≡ hunkWords y ++ s → (x ≡ y) × (r ≡ s)
@@ -141,7 +142,7 @@ hunk-same t x y r s z p q e =
     let b = body-same (x .body) (y .body) _ _ (a .1) in
     let n = length (storedWords (x .body)) in
     let f : Each (PartFits t n) (y .parts) = subst (λ (d : Body). Each (PartFits t (length (storedWords d))) (y .parts)) (sym (b .0)) (q .parts) in
-    let d = joined-same partWords (PartFits t n) 0x3F2 (part-same t n) (part-ends t n) (x .parts) (y .parts) r s (p .parts) f (b .1) in
+    let d = joined-same partWords (PartFits t n) type.end (part-same t n) (part-ends t n) (x .parts) (y .parts) r s (p .parts) f (b .1) in
     (go _ _ _ _ _ _ _ _ z (a .0) (b .0) (d .0), d .1)
   where
     go : (k l : ℕ) (u v : Name) (b c : Body) (m n : List Part) → k ≡ l → u ≡ v → b ≡ c → m ≡ n

@@ -8,7 +8,9 @@ use Rattle.program.specs.declared.act.Act.{Act}
 use Rattle.program.specs.declared.act.Act.the-variants as act
 use Rattle.program.specs.declared.reader.Cursor.{Cursor}
 use Rattle.program.specs.declared.reader.Mode.{Mode}
-use Rattle.program.specs.declared.reader.Mode.the-variants.{Begin, NameLength, Body, Length, Stored, Part, Count, Number, Offset, Symbol, DebugLength, Skip, End}
+use Rattle.program.specs.declared.reader.Mode.the-variants.{Begin, NameLength, Body, Length, Stored, Part}
+use Rattle.program.specs.declared.reader.Mode.the-variants.{Count, Number, Offset, Symbol, DebugLength, Skip}
+use Rattle.program.specs.declared.reader.Mode.the-variants.{End}
 use Rattle.program.specs.declared.reader.Next.{Next}
 use Rattle.program.specs.declared.reader.Next.the-variants.{On, Bad}
 use Rattle.program.specs.Header.{totalOf, sizeOf, startAt}

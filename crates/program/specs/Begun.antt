@@ -1,5 +1,5 @@
--- A hunk that is begun: what of it stands before a word of the file, and which word may not come next (docs/FORMAT.md, "The program file",
--- and "Numbers", 35 to 38). A case is named after the word that comes next.
+-- A hunk that is begun: what of it stands before a word of the file, and which word may not come next
+-- (docs/FORMAT.md, "The program file", and "Numbers", 35 to 38). A case is named after the word that comes next.
 use Prim.Native.Nat.{ℕ, _+_, _^_, _<_, _≤_}
 use mathlib.Core.Path.{_≡_}
 use mathlib.Core.Logic.{_≢_, _⊎_}
@@ -7,7 +7,9 @@ use mathlib.Core.List.{List, [], _∷_, _++_}
 use lib.ListN.{length}
 use Rattle.program.specs.Types as type
 use Rattle.answers.specs.Numbers as fault
-use Rattle.program.specs.Page.{Name, Body, Group, Symbol, Part, joined, counted, nameWords, bodyWords, groupWords, symbolWords, partWords, Each, bodyCount, storedWords, OffsetFits, GroupFits, SymbolFits, PartFits}
+use Rattle.program.specs.Page.{Name, Body, Group, Symbol, Part, joined, counted, nameWords, bodyWords}
+use Rattle.program.specs.Page.{groupWords, symbolWords, partWords, Each, bodyCount, storedWords, OffsetFits}
+use Rattle.program.specs.Page.{GroupFits, SymbolFits, PartFits}
 
 -- ---- what stands there
 
@@ -96,7 +98,8 @@ BegunFits t size (afterBody x b ps p) =
 
 -- in one of t hunks, which stores m words
 abbrev pub PartWrong : ℕ → ℕ → ℕ → ℕ → PartBegun → Type 0
-PartWrong t m w v aPart = (v ≡ fault.misplacedBlock) × (w ≢ type.relocation) × (w ≢ type.symbols) × (w ≢ type.debug) × (w ≢ type.end)
+PartWrong t m w v aPart =
+    (v ≡ fault.misplacedBlock) × (w ≢ type.relocation) × (w ≢ type.symbols) × (w ≢ type.debug) × (w ≢ type.end)
 PartWrong t m w v (aNumber gs n) = (v ≡ fault.badTarget) × (t ≤ w)
 PartWrong t m w v (anOffset gs n k os) = (v ≡ fault.badTarget) × (OffsetFits m w → ⊥)
 PartWrong t m w v (aSymbol us) = (v ≡ fault.symbolType) × (2 ^ 24 ≤ w)
@@ -107,7 +110,8 @@ PartWrong t m w v (debugWord n ws) = ⊥
 
 -- in one of t hunks, of this size
 abbrev pub Wrong : ℕ → ℕ → ℕ → ℕ → Begun → Type 0
-Wrong t size w v first = (v ≡ fault.misplacedBlock) × (w ≢ type.name) × (w ≢ type.code) × (w ≢ type.stores) × (w ≢ type.bss)
+Wrong t size w v first =
+    (v ≡ fault.misplacedBlock) × (w ≢ type.name) × (w ≢ type.code) × (w ≢ type.stores) × (w ≢ type.bss)
 Wrong t size w v (aBody ws) = (v ≡ fault.misplacedBlock) × (w ≢ type.code) × (w ≢ type.stores) × (w ≢ type.bss)
 Wrong t size w v (bodyLength x k) = (v ≡ fault.bodyLength) × (size < w)
 Wrong t size w v (afterBody x b ps p) = PartWrong t (length (storedWords b)) w v p

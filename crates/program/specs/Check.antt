@@ -1,10 +1,12 @@
--- The check of a program file: its faults in file order, or the number of its hunks and the bytes that they take (docs/FORMAT.md, "Numbers").
+-- The check of a program file: its faults in file order, or the number of its hunks and the bytes that they take
+-- (docs/FORMAT.md, "Numbers").
 use Prim.Native.Nat.{ℕ, _+_, _-_, _/_, _%_}
 use mathlib.Core.Path.{_≡_}
 use mathlib.Core.List.{List, [], _∷_}
 use lib.Dec.{eqb}
 use lib.ListN.{length}
 use Rattle.words.specs.Word.{wordsAt}
+use Rattle.answers.specs.Answers.{AnswerNumbers, acceptedAs, refusedAs}
 use Rattle.answers.specs.Numbers as fault
 use Rattle.answers.specs.Tests.{pick}
 use Rattle.answers.specs.Refusals.{refusal}
@@ -14,26 +16,29 @@ use Rattle.program.specs.declared.check.Answer.{Answer}
 use Rattle.program.specs.declared.check.Answer.the-variants.{Accepted, Refused}
 use Rattle.program.specs.declared.reader.Cursor.{Cursor}
 use Rattle.program.specs.declared.reader.Mode.{Mode}
-use Rattle.program.specs.declared.reader.Mode.the-variants.{Begin, NameLength, Body, Length, Stored, Part, Count, Number, Offset, Symbol, DebugLength, Skip, End}
+use Rattle.program.specs.declared.reader.Mode.the-variants.{Begin, NameLength, Body, Length, Stored, Part}
+use Rattle.program.specs.declared.reader.Mode.the-variants.{Count, Number, Offset, Symbol, DebugLength, Skip}
+use Rattle.program.specs.declared.reader.Mode.the-variants.{End}
 use Rattle.program.specs.declared.reader.Next.{Next}
 use Rattle.program.specs.declared.reader.Next.the-variants.{On, Bad}
 use Rattle.program.specs.Header.{totalOf, sizeOf, startAt, heads}
 use Rattle.program.specs.Reader.{start, stepOf}
 
--- an answer's numbers: 0, 0 and the values where it accepts; the refusal's, and 0 for the values
-pub record Numbers : Type 0 where
-  pub number : ℕ
-  pub place : ℕ
+-- the values of an answer
+pub record Values : Type 0 where
   pub hunks : ℕ
   pub bytes : ℕ
 
-abbrev pub numbersOf : Answer → Numbers
-numbersOf (Accepted t n) = record { number = 0; place = 0; hunks = t; bytes = n }
-numbersOf (Refused r) = record { number = r .number; place = r .place; hunks = 0; bytes = 0 }
+-- an answer's numbers
+abbrev pub numbersOf : Answer → AnswerNumbers Values
+numbersOf (Accepted t n) = acceptedAs (record { hunks = t; bytes = n })
+numbersOf (Refused r) = refusedAs (record { hunks = 0; bytes = 0 }) r
 
 -- the numbers of all refusals of a check
 abbrev pub checkRefusals : List ℕ
-checkRefusals = fault.fileLength ∷ fault.earlyEnd ∷ fault.headerWord ∷ fault.library ∷ fault.hunkSize ∷ fault.misplacedBlock ∷ fault.bodyLength ∷ fault.symbolType ∷ fault.badTarget ∷ fault.trailingWords ∷ []
+checkRefusals =
+    fault.fileLength ∷ fault.earlyEnd ∷ fault.headerWord ∷ fault.library ∷ fault.hunkSize
+    ∷ fault.misplacedBlock ∷ fault.bodyLength ∷ fault.symbolType ∷ fault.badTarget ∷ fault.trailingWords ∷ []
 
 abbrev pub refuse : ℕ → ℕ → Answer
 refuse v at = Refused (refusal v at)
@@ -83,7 +88,9 @@ and (Failed r) a = Refused r
 unfoldable pub checkOf : List ℕ → Answer
 checkOf file =
     pick (eqb (length file) 0) (refuse fault.fileLength 0)
-    (pick (eqb (length file % 4) 0) (and (heads file 0 5) (and (heads file 5 (totalOf file)) (walkOf file))) (refuse fault.fileLength 0))
+    (pick (eqb (length file % 4) 0)
+    (and (heads file 0 5) (and (heads file 5 (totalOf file)) (walkOf file)))
+    (refuse fault.fileLength 0))
 
 -- ---- the promise
 

@@ -1,5 +1,5 @@
--- The header: 3F3, no library, T hunks from 0 to T - 1, and the size of each in words; with the faults of each of these words (the build
--- paper, "The program file" and "Numbers").
+-- The header: 3F3, no library, T hunks from 0 to T - 1, and the size of each in words; with the faults of each of
+-- these words (docs/FORMAT.md, "The program file" and "Numbers").
 use Prim.Native.Nat.{ℕ, zero, suc, _+_, _*_}
 use mathlib.Core.List.{List}
 use lib.Dec.{ltb, leb, eqb}

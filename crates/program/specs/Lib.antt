@@ -14,7 +14,7 @@ pub mod Check
 -- what a word asks of memory and table
 pub mod Acts
 -- what holds while a file is read
-pub mod Sane
+pub mod Cursors
 -- words after which a pass may go on
 pub mod Runs
 -- what a refusal of the check says

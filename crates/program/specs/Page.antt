@@ -1,4 +1,5 @@
--- A program file as the page shows it: hunks as data, and how they are written out to words (docs/FORMAT.md, "The program file").
+-- A program file as the page shows it: hunks as data, and how they are written out to words (docs/FORMAT.md, "The
+-- program file").
 use Prim.Native.Nat.{ℕ, _+_, _-_, _*_, _/_, _%_, _^_, _≤_, _<_}
 use mathlib.Core.Path.{_≡_}
 use mathlib.Core.Logic.{_≢_}
@@ -134,5 +135,5 @@ pub record Program (hs : List Hunk) : Type 0 where
 -- a file holds hunks: they are within the limits, and its words are theirs, written out
 pub record Holds (file : List ℕ) (hs : List Hunk) : Type 0 where
   pub fits : Program hs
-  pub even : length file % 4 ≡ 0
+  pub whole : length file % 4 ≡ 0
   pub words : wordsAt file 0 (length file / 4) ≡ written hs

@@ -1,5 +1,5 @@
--- The reader of the hunks: what it expects, and where each word takes it (docs/FORMAT.md, "The program file"). It knows the number t of hunks
--- and their sizes; a word that may not stand there gives a refusal's number.
+-- The reader of the hunks: what it expects, and where each word takes it (docs/FORMAT.md, "The program file"). It
+-- knows the number t of hunks and their sizes; a word that may not stand there gives a refusal's number.
 use Prim.Native.Nat.{ℕ, _+_, _-_, _*_, _%_}
 use lib.Dec.{ltb, leb, eqb}
 use Rattle.program.specs.Types as type
@@ -9,7 +9,9 @@ use Rattle.program.specs.declared.reader.Cursor.{Cursor}
 use Rattle.program.specs.declared.reader.After.{After}
 use Rattle.program.specs.declared.reader.After.the-variants as after
 use Rattle.program.specs.declared.reader.Mode.{Mode}
-use Rattle.program.specs.declared.reader.Mode.the-variants.{Begin, NameLength, Body, Length, Stored, Part, Count, Number, Offset, Symbol, DebugLength, Skip, End}
+use Rattle.program.specs.declared.reader.Mode.the-variants.{Begin, NameLength, Body, Length, Stored, Part}
+use Rattle.program.specs.declared.reader.Mode.the-variants.{Count, Number, Offset, Symbol, DebugLength, Skip}
+use Rattle.program.specs.declared.reader.Mode.the-variants.{End}
 use Rattle.program.specs.declared.reader.Next.{Next}
 use Rattle.program.specs.declared.reader.Next.the-variants.{On, Bad}
 
@@ -73,7 +75,13 @@ module _ (t : ℕ) (size : ℕ → ℕ) where
   -- on to the next hunk, or to the end of the file
   abbrev pub endOf : Cursor → Next
   endOf c =
-      On (record { mode = pick (eqb (c .hunk + 1) t) End Begin; hunk = c .hunk + 1; place = c .place + 4 * size (c .hunk); stored = 0 })
+      On
+      (record {
+        mode = pick (eqb (c .hunk + 1) t) End Begin;
+        hunk = c .hunk + 1;
+        place = c .place + 4 * size (c .hunk);
+        stored = 0;
+      })
 
   -- relocations, symbols, debug words, or the hunk's end
   abbrev pub partOf : Cursor → ℕ → Next

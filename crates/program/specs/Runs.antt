@@ -1,4 +1,5 @@
--- Words that the reader takes and that ask for nothing but their own store: where they lead. Code that does not store may go on after them.
+-- Words that the reader takes and that ask for nothing but their own store: where they lead. Code that does not store
+-- may go on after them.
 use Prim.Native.Nat.{ℕ, _+_, _-_, _<_}
 use mathlib.Core.Path.{_≡_}
 use mathlib.Core.List.{List}
@@ -33,13 +34,19 @@ storedAt c i = pick (eqb i (c .stored)) (modedOf c Part) (modedOf c (Stored i))
 
 -- ---- runs of words
 
-abbrev pub Calm : Act → Type 0
-Calm Quiet = Unit
-Calm (Store p w) = Unit
-Calm (Body h p k) = ⊥
-Calm (Add p k b) = ⊥
+-- an act that asks for nothing, or for a store only
+abbrev pub QuietOrStore : Act → Type 0
+QuietOrStore Quiet = Unit
+QuietOrStore (Store p w) = Unit
+QuietOrStore (Body h p k) = ⊥
+QuietOrStore (Add p k b) = ⊥
 
 -- from the cursor c at byte `at` to the cursor d at byte `to`
 pub data Leads (file : List ℕ) : Cursor → ℕ → Cursor → ℕ → Type 0 where
   here : {c : Cursor} {at : ℕ} → Leads file c at c at
-  along : {c d e : Cursor} {at to : ℕ} → at < length file → stepOf (totalOf file) (sizeOf file) c (wordAt file at) ≡ On d → Calm (actOf c at (wordAt file at)) → Leads file d (at + 4) e to → Leads file c at e to
+  along : {c d e : Cursor} {at to : ℕ}
+      → at < length file
+      → stepOf (totalOf file) (sizeOf file) c (wordAt file at) ≡ On d
+      → QuietOrStore (actOf c at (wordAt file at))
+      → Leads file d (at + 4) e to
+      → Leads file c at e to

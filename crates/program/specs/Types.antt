@@ -1,4 +1,5 @@
--- The words that begin the parts of a program file, and its limits, by name (docs/FORMAT.md, "The program file"). Files that use them say `type.code`.
+-- The words that begin the parts of a program file, and its limits, by name (docs/FORMAT.md, "The program file").
+-- Files that use them say `type.code`.
 use Prim.Native.Nat.{ℕ}
 
 -- the file's first word

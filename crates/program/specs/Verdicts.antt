@@ -31,8 +31,8 @@ abbrev pub faultAt : List ℕ → ℕ → ℕ
 faultAt file j = headFault (totalOf file) j (wordAt file (4 * j))
 
 -- word j is there, and has no fault
-abbrev pub Fine : List ℕ → ℕ → Type 0
-Fine file j = (4 * j + 4 ≤ length file) × (faultAt file j ≡ 0)
+abbrev pub HeadPasses : List ℕ → ℕ → Type 0
+HeadPasses file j = (4 * j + 4 ≤ length file) × (faultAt file j ≡ 0)
 
 -- word j is missing, or it is there and has a fault
 abbrev pub HeadFails : List ℕ → ℕ → Refusal → Type 0
@@ -43,18 +43,18 @@ HeadFails file j f =
 pub record HeadWord (file : List ℕ) (f : Refusal) : Type 0 where
   pub word : ℕ
   pub within : OfHeader file word
-  pub before : (i : ℕ) → i < word → Fine file i
+  pub before : (i : ℕ) → i < word → HeadPasses file i
   pub cause : HeadFails file word f
 
 -- no word of the header is missing or wrong
 abbrev pub Headed : List ℕ → Type 0
-Headed file = (j : ℕ) → OfHeader file j → Fine file j
+Headed file = (j : ℕ) → OfHeader file j → HeadPasses file j
 
 -- ---- 35 to 39, and 31 after the header: what stands before a byte of the file
 
 -- the words from the end of the header to byte `at` are these
 pub record Stand (file ws : List ℕ) (at : ℕ) : Type 0 where
-  pub place : at ≡ startAt file + 4 * length ws
+  pub reaches : at ≡ startAt file + 4 * length ws
   pub within : at ≤ length file
   pub words : wordsAt file (startAt file) (length ws) ≡ ws
 

@@ -8,11 +8,11 @@ ghost use Rattle.program.specs.Acts.{actOf};
 
 pub enum Act {
     Quiet,
-    // Hunk, place, kind.
+    // A hunk begins: its number, its place in memory, the kind of its body.
     Body(u32, usize, u32),
-    // Place, word.
+    // The byte in memory, the word.
     Store(usize, u32),
-    // Place, hunk, and the byte of the file where the offset stands.
+    // The byte in memory, the hunk whose base is added, and the byte of the file where the offset stands.
     Add(usize, u32, usize),
 }
 

@@ -15,7 +15,7 @@ ghost use mathlib.Core.Path.{_≡_};
 ghost use Prim.Native.Nat.{_%_};
 ghost use lib.ListN.{length};
 ghost use Rattle.program.specs.Check.{refuse, endedOf, walkOf, Checks};
-ghost use Rattle.program.specs.Sane.{Sound};
+ghost use Rattle.program.specs.Cursors.{HeaderFits};
 
 // What a check, a load and a move answer.
 pub enum Answer {
@@ -46,7 +46,7 @@ fn ended(file: &[u8], c: Cursor) -> Answer
 
 // The hunks, to the end of the file.
 fn hunks(file: &[u8]) -> Answer
-    requires { ⌜ (Sound (now file)) × (length (now file) % 4 ≡ 0) ⌝ }
+    requires { ⌜ (HeaderFits (now file)) × (length (now file) % 4 ≡ 0) ⌝ }
     ensures { λ r. ⌜ r ≡ walkOf (now (file .entry)) ⌝ }
 {
     let mut c = begin();

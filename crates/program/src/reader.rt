@@ -2,15 +2,16 @@
 use crate::header::size;
 use crate::header::total;
 use answers::Fault;
+use words::least;
 ghost use mathlib.Core.Path.{_≡_};
-ghost use Prim.Native.Nat.{_+_, _*_, _%_, _<_, _≤_, min};
+ghost use Prim.Native.Nat.{_+_, _*_, _%_, _<_, _≤_};
 ghost use lib.ListN.{length};
 ghost use lib.Dec.{eqb};
 ghost use Rattle.program.specs.Types as type;
 ghost use Rattle.answers.specs.Tests.{pick};
 ghost use Rattle.program.specs.Header.{totalOf, sizeOf};
 ghost use Rattle.program.specs.Reader.{on, resume, skip, bodyOf, beginOf, storedFrom, lengthOf, partOf, endOf, countOf, numberOf, offsetOf, symbolOf, stepOf, start};
-ghost use Rattle.program.specs.Sane.{Sane};
+ghost use Rattle.program.specs.Cursors.{CursorFits};
 ghost use Rattle.program.specs.Runs.{modedOf, skipAt, storedAt, Leads};
 
 // Types of blocks.
@@ -301,7 +302,7 @@ fn first(c: Cursor, w: u32) -> Next
 
 // The reader takes the word w.
 pub fn step(file: &[u8], c: Cursor, w: u32) -> Next
-    requires { ⌜ Sane (now file) c ⌝ }
+    requires { ⌜ CursorFits (now file) c ⌝ }
     ensures { λ r. ⌜ r ≡ stepOf (totalOf (now (file .entry))) (sizeOf (now (file .entry))) c w ⌝ }
 {
     let m = c.mode;
@@ -328,15 +329,10 @@ pub struct Spot {
     pub at: usize,
 }
 
-fn least(a: usize, b: usize) -> usize
-    ensures { λ r. ⌜ r ≡ min a b ⌝ }
-{
-    if a <= b { a } else { b }
-}
-
-// After the words from `at` on that the reader takes whatever they are: words that are stored or passed over, as many as there are.
+// After the words from `at` on that the reader takes whatever they are: words that are stored or passed over, as many
+// as there are.
 pub fn past(file: &[u8], c: Cursor, at: usize) -> Spot
-    requires { ⌜ (Sane (now file) c) × (length (now file) % 4 ≡ 0) × (at % 4 ≡ 0) ⌝ }
+    requires { ⌜ (CursorFits (now file) c) × (length (now file) % 4 ≡ 0) × (at % 4 ≡ 0) ⌝ }
     ensures { λ r. ⌜ Leads (now (file .entry)) c at (r .cursor) (r .at) ⌝ }
 {
     if file.len() <= at {

@@ -13,7 +13,7 @@ use Rattle.reach.proofs.Runs.{Run, end, stop, enter, passes}
 use Rattle.reach.proofs.Tree.{Item, at-number, number-at, tree, up, down, unfolded, told, InTree}
 use Rattle.reach.proofs.Found.{Found, found-all, distinct-one, now-here}
 use Rattle.reach.proofs.Kept.{Claim}
-use Rattle.reach.proofs.Whole.{Fit, fit-next, fit-start, whole, whole-runs, Fits, whole-fits, audit-whole}
+use Rattle.reach.proofs.WholeWalk.{Fit, fit-next, fit-start, whole, whole-runs, Fits, whole-fits, audit-whole}
 
 module _ {Node S : Type 0} (G : Graph Node S) where
   open References (G .references) using (root, key, refs)
@@ -22,7 +22,7 @@ module _ {Node S : Type 0} (G : Graph Node S) where
   -- ---- what is found at the end is the law
 
   sound : (c : List ℕ) (s : List (Item Node)) → Found G c s [] → Law G
-  sound c s i = record { fine = λ n r. i .good _ (found-all G c s i (up (G .references) r .1)); owned = record { once = once′; none = none′ } }
+  sound c s i = record { passes = λ n r. i .good _ (found-all G c s i (up (G .references) r .1)); owned = record { once = once′; none = none′ } }
     where
       child : (m n : Node) (j : ℕ) → (a : List (Node × ℕ)) → InTree G (a, m) → At j n (refs m) → InTree G ((m, 0 + j) ∷ a, n)
       child m n j a r h = ref j r (at-number 0 (a, m) (refs m) j n h)
@@ -64,7 +64,7 @@ module _ {Node S : Type 0} (G : Graph Node S) where
         r = i .kept .todo p (inl refl)
 
         g : (G .before (p .1) ≡ 0) × (G .after (p .1) ≡ 0)
-        g = w .fine (p .1) (down (G .references) r)
+        g = w .passes (p .1) (down (G .references) r)
 
         unclaimed : Claim G c s (K p) → getD c (K p) 1 ≡ 0
         unclaimed (inl z) = z

@@ -7,7 +7,7 @@ use mathlib.Core.List.{map}
 use Prim.Native.Nat.{ℕ}
 use Rattle.reach.specs.References.{References, At, Reached, top, ref, Owned}
 use Rattle.reach.specs.Walk.{Graph}
-use Rattle.reach.specs.Law.{Fine, Law}
+use Rattle.reach.specs.Law.{AllPass, Law}
 use Rattle.reach.proofs.Lists.{at-map, map-at}
 
 -- a node that is Ok refers to what its bare node refers to
@@ -69,5 +69,5 @@ module _ {Node Bare S : Type 0} (G : Graph Node S) (B : References Bare) (bare :
     }
 
   -- if passing its tests makes a node Ok
-  pub law-bare : (Fine G → (n : Node) → R n → Ok n) → Law G ↔ (Fine G × Owned B)
-  law-bare ok = ((λ w. (w .fine, lowered (ok (w .fine)) (w .owned))), (λ p. record { fine = p .0; owned = raised (ok (p .0)) (p .1) }))
+  pub law-bare : (AllPass G → (n : Node) → R n → Ok n) → Law G ↔ (AllPass G × Owned B)
+  law-bare ok = ((λ w. (w .passes, lowered (ok (w .passes)) (w .owned))), (λ p. record { passes = p .0; owned = raised (ok (p .0)) (p .1) }))

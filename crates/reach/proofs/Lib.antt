@@ -1,6 +1,6 @@
 -- That the walk decides the law. The theorems are `accepts`, `report`, `why`, `refused-first` and `law-bare`.
 
--- facts on lists: places, membership, nothing twice
+-- facts on lists: positions, membership, nothing twice
 pub mod Lists
 -- facts on claim bytes
 pub mod Claims
@@ -13,7 +13,7 @@ pub mod Found
 -- what the walk of the tree keeps true
 pub mod Kept
 -- the whole walk of the tree, and what holds at its end
-pub mod Whole
+pub mod WholeWalk
 -- `accepts`: the walk accepts if and only if the law holds
 pub mod Accepts
 -- `report`: an accepted walk hands back just what is reached

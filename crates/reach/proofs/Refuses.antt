@@ -9,13 +9,13 @@ use Rattle.reach.specs.References.{References, At, _∈_, top, ref}
 use Rattle.answers.specs.Tests.{first}
 use Rattle.answers.proofs.Tests.{first-refuses}
 use Rattle.reach.specs.Walk.{Graph, Outcome, done, refused, claimed, verdict, audit}
-use Rattle.reach.specs.Law.{Place, Twice, Why}
+use Rattle.reach.specs.Law.{Referral, Twice, Why}
 use Rattle.reach.proofs.Lists.{at-one}
 use Rattle.reach.proofs.Runs.{Run, end, stop, enter}
 use Rattle.reach.proofs.Tree.{Item, number-at, tree, down, unfolded, told, InTree}
 use Rattle.reach.proofs.Found.{distinct-one}
 use Rattle.reach.proofs.Kept.{Claim}
-use Rattle.reach.proofs.Whole.{Fit, fit-next, fit-start, whole, whole-runs, audit-whole}
+use Rattle.reach.proofs.WholeWalk.{Fit, fit-next, fit-start, whole, whole-runs, audit-whole}
 
 module _ {Node S : Type 0} (G : Graph Node S) where
   open References (G .references) using (key, refs)
@@ -23,15 +23,15 @@ module _ {Node S : Type 0} (G : Graph Node S) where
 
   -- ---- where a key is referred to
 
-  abbrev place : (p m : Item Node) (j : ℕ) (k : ℕ) → InTree G m → At j p (kids m) → K p ≡ k → Place (G .references) k
-  place p m j k r h e = record { from = m .1; to = p .1; nth = j; reached = down (G .references) r; stands = number-at 0 m (refs (m .1)) j p h .1; keyed = e }
+  abbrev referral : (p m : Item Node) (j : ℕ) (k : ℕ) → InTree G m → At j p (kids m) → K p ≡ k → Referral (G .references) k
+  referral p m j k r h e = record { from = m .1; to = p .1; nth = j; reached = down (G .references) r; stands = number-at 0 m (refs (m .1)) j p h .1; keyed = e }
 
   -- two items with one key, the one done and the other to do
   twice : (N : ℕ) (c : List ℕ) (s : List (Item Node)) (p q : Item Node) (ps : List (Item Node)) → Fit G N c s (p ∷ ps) → InTree G p → InTree G q → q ∈ s → K q ≡ K p → Twice (G .references) (K p)
   twice N c s p q ps i (top e) (top e′) m k = absurd (i .kept .apart p (inl refl) (subst (λ x. x ∈ s) (e′ ∙ sym e) m))
-  twice N c s p q ps i (top e) (ref {m = m′} {n = q′} j′ d′ h′) m k = (place q m′ j′ (K p) d′ h′ k, inl (ap K e))
-  twice N c s p q ps i (ref {m = m′} {n = p′} j d h) (top e) m k = (place p m′ j (K p) d h refl, inl (sym k ∙ ap K e))
-  twice N c s p q ps i (ref {m = m₁} {n = p′} j₁ d₁ h₁) (ref {m = m₂} {n = q′} j₂ d₂ h₂) m k = (place p m₁ j₁ (K p) d₁ h₁ refl, inr (place q m₂ j₂ (K p) d₂ h₂ k, two))
+  twice N c s p q ps i (top e) (ref {m = m′} {n = q′} j′ d′ h′) m k = (referral q m′ j′ (K p) d′ h′ k, inl (ap K e))
+  twice N c s p q ps i (ref {m = m′} {n = p′} j d h) (top e) m k = (referral p m′ j (K p) d h refl, inl (sym k ∙ ap K e))
+  twice N c s p q ps i (ref {m = m₁} {n = p′} j₁ d₁ h₁) (ref {m = m₂} {n = q′} j₂ d₂ h₂) m k = (referral p m₁ j₁ (K p) d₁ h₁ refl, inr (referral q m₂ j₂ (K p) d₂ h₂ k, two))
     where
       done₁ : m₁ ∈ s
       done₁ = i .kept .parent p (m₁ .1) _ (m₁ .0) (inl (inl refl)) (number-at 0 m₁ (refs (m₁ .1)) j₁ p h₁ .0)

@@ -12,7 +12,7 @@ use Rattle.reach.proofs.Lists.{in-map, map-in}
 use Rattle.reach.proofs.Tree.{Item, tree, up, down, told}
 use Rattle.reach.proofs.Found.{Distinct, found-all}
 use Rattle.reach.proofs.Kept.{Claim}
-use Rattle.reach.proofs.Whole.{whole, Fits, whole-fits, audit-whole}
+use Rattle.reach.proofs.WholeWalk.{whole, Fits, whole-fits, audit-whole}
 
 module _ {Node S : Type 0} (G : Graph Node S) where
   open References (G .references) using (key)

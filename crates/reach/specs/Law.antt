@@ -10,13 +10,13 @@ use Rattle.answers.specs.Tests.{pick, first}
 use Rattle.reach.specs.References.{References, At, _∈_, Uniq, Reached, Owned}
 use Rattle.reach.specs.Walk.{Graph, free}
 
--- ---- two places that refer to one key
+-- ---- two references to one key
 
 module _ {Node : Type 0} (R : References Node) where
   open References R using (root, key, refs)
 
-  -- a place that refers to the key k
-  pub record Place (k : ℕ) : Type 0 where
+  -- a reference to the key k, from a reached node
+  pub record Referral (k : ℕ) : Type 0 where
     pub from : Node
     pub to : Node
     pub nth : ℕ
@@ -24,9 +24,9 @@ module _ {Node : Type 0} (R : References Node) where
     pub stands : At nth to (refs from)
     pub keyed : key to ≡ k
 
-  -- two places refer to k, or one does and k is the root's key
+  -- two references lead to k, or one does and k is the root's key
   abbrev pub Twice : ℕ → Type 0
-  Twice k = (p : Place k) × ((k ≡ key root) ⊎ ((q : Place k) × ((key (p .from) ≡ key (q .from)) × (p .nth ≡ q .nth) → ⊥)))
+  Twice k = (p : Referral k) × ((k ≡ key root) ⊎ ((q : Referral k) × ((key (p .from) ≡ key (q .from)) × (p .nth ≡ q .nth) → ⊥)))
 
 -- ---- a graph
 
@@ -46,11 +46,11 @@ module _ {Node S : Type 0} (G : Graph Node S) where
       }
 
   -- every reached node passes its tests
-  abbrev pub Fine : Type 0
-  Fine = (n : Node) → Reached (G .references) n → (G .before n ≡ 0) × (G .after n ≡ 0)
+  abbrev pub AllPass : Type 0
+  AllPass = (n : Node) → Reached (G .references) n → (G .before n ≡ 0) × (G .after n ≡ 0)
 
   pub record Law : Type 0 where
-    pub fine : Fine
+    pub passes : AllPass
     pub owned : Owned (G .references)
 
   -- of claims c and counts s, from N keys and counts s₀: c has 1 at the reached keys and 0 elsewhere, and s notes each reached node once

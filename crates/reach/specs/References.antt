@@ -14,7 +14,7 @@ pub record References (Node : Type 0) : Type 0 where
 
 -- ---- lists
 
--- a stands at the place i
+-- a stands at position i
 abbrev pub At : {A : Type 0} → ℕ → A → List A → Type 0
 At i a [] = ⊥
 At zero a (x ∷ l) = a ≡ x
@@ -33,7 +33,7 @@ module _ {Node : Type 0} (R : References Node) where
     top : {n : Node} → n ≡ R .root → Reached n
     ref : {m n : Node} (i : ℕ) → Reached m → At i n (R .refs m) → Reached n
 
-  -- a place is a reached node's key and a position among its references: no key is referred to from two places, and the root's from none
+  -- no key is referred to twice, where a reference is known by its node's key and its position there; and the root is not referred to
   pub record Owned : Type 0 where
     pub once : (m m′ n n′ : Node) (i i′ : ℕ) → Reached m → Reached m′ → At i n (R .refs m) → At i′ n′ (R .refs m′) → R .key n ≡ R .key n′ → (R .key m ≡ R .key m′) × (i ≡ i′)
     pub none : (m n : Node) (i : ℕ) → Reached m → At i n (R .refs m) → R .key n ≢ R .key (R .root)

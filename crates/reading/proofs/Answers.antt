@@ -23,7 +23,7 @@ use Rattle.reading.specs.Reads.{tested, reads, readOf, Reads}
 use Rattle.reading.specs.Outcomes.{Gives, Filled}
 use Rattle.reading.proofs.Contents.{file-long, part-long}
 use Rattle.reading.proofs.Passing.{tested-exactly}
-use Rattle.reading.proofs.Readings.{followed, file-long as image-long, file-size}
+use Rattle.reading.proofs.Readings.{followed, image-long, file-size}
 
 -- ---- a copy, byte by byte
 
@@ -78,10 +78,10 @@ module _ (d : Disk) (s path : List ℕ) where
 
   module _ (k z c : ℕ) (e : findOf d s path ≡ found.File k z c) where
     pub found-long : length s ≡ imageBytes d
-    found-long = image-long d s path 0 [] (findOf d s path) refl k z c e
+    found-long = image-long d s path (findOf d s path) refl k z c e
 
     pub found-size : z ≡ sizeOf s k
-    found-size = file-size d s path 0 [] (findOf d s path) refl k z c e
+    found-size = file-size d s path (findOf d s path) refl k z c e
 
     pub count-found : blocksFault d s k ≡ Passed → (o n : ℕ) → length (part (fileBytes d s k) o n) ≡ min n (z - o)
     count-found p o n = rw found-size (count-is d s k found-long p o n)

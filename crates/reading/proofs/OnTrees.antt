@@ -17,8 +17,8 @@ use Rattle.volume.specs.declared.disk.Disk.{Disk}
 use Rattle.volume.specs.Disks.{rootOf}
 use Rattle.volume.specs.Blocks.{slots, wordOf, directory}
 use Rattle.volume.specs.Files.{keysHere, listBlocks, keysDown, listsFrom, keysFrom, sizeOf, blocksOf, listsOf, keysOf}
-use Rattle.volume.specs.References.{Kind, Ref, to, link, listed, slotRefs, refersTo, references}
-use Rattle.volume.specs.Law.{Lists, File, Tree}
+use Rattle.volume.specs.References.{Kind, Ref, to, link, keyRefs, slotRefs, refersTo, references}
+use Rattle.volume.specs.Law.{KeyCount, File, Tree}
 use Rattle.walk.specs.Nodes.{before}
 use Rattle.walk.proofs.Spreads.{Spread, here, file-spreads}
 use Rattle.lookup.specs.declared.find.Found.the-variants as found
@@ -33,7 +33,7 @@ use Rattle.reading.specs.declared.read.Reading.the-variants.{Bytes}
 use Rattle.reading.specs.FileTests.{blocksFault}
 use Rattle.reading.specs.Bytes.{fileBytes, part, filledBy}
 use Rattle.reading.specs.Reads.{refuse, readOf, Reads}
-use Rattle.reading.specs.Outcomes.{Intact, Whole, Refuses, of-lookup, of-directory, of-header, of-block}
+use Rattle.reading.specs.Outcomes.{Intact, FileWhole, Refuses, of-lookup, of-directory, of-header, of-block}
 use Rattle.reading.proofs.Answers.{bytes-long, found-size, read-exactly}
 use Rattle.reading.proofs.Passing.{passes-tested, tested-exactly}
 use Rattle.reading.proofs.Refusing.{refused-exactly}
@@ -51,16 +51,16 @@ module _ (d : Disk) (s : List ℕ) where
   link-in a zero h = absurd (h refl)
   link-in a (suc k) h = inl refl
 
-  module _ (b n : ℕ) (l : Lists s b n) (f : (y : Ref) → y ∈ listed s b → B y) where
+  module _ (b n : ℕ) (l : KeyCount s b n) (f : (y : Ref) → y ∈ keyRefs s b → B y) where
     keys-reached : (k : ℕ) → k ∈ keysDown s b 0 (keysHere n) → B (to Kind.datum k)
     keys-reached k a = f (to Kind.datum k) (in-left _ (map (to Kind.datum) (keysDown s b 0 (wordOf s b 2))) (link Kind.list (wordOf s b 126)) (in-map (to Kind.datum) k (keysDown s b 0 (wordOf s b 2)) (rw (l .count) a)))
 
     next-reached : wordOf s b 126 ≢ 0 → B (to Kind.list (wordOf s b 126))
     next-reached h = f _ (in-right _ (map (to Kind.datum) (keysDown s b 0 (wordOf s b 2))) (link Kind.list (wordOf s b 126)) (link-in Kind.list _ h))
 
-  listed-reached : (k : ℕ) → B (to Kind.list k) → (y : Ref) → y ∈ listed s k → B y
+  refs-reached : (k : ℕ) → B (to Kind.list k) → (y : Ref) → y ∈ keyRefs s k → B y
   unfolding refersTo
-  listed-reached k h y a = refers (to Kind.list k) y h a
+  refs-reached k h y a = refers (to Kind.list k) y h a
 
   -- ---- all blocks of a file
 
@@ -69,7 +69,7 @@ module _ (d : Disk) (s : List ℕ) where
     abbrev Blocks : ℕ → ℕ → ℕ → Type 0
     Blocks q b r = ((k : ℕ) → k ∈ listsFrom s b q → B (to Kind.list k)) × ((k : ℕ) → k ∈ keysFrom s r (b ∷ listsFrom s b q) → B (to Kind.datum k))
 
-    blocks-reached : (q b m c : ℕ) → q ≡ listBlocks (blocksOf d s h - m) → Spread d s h q b m c → ((y : Ref) → y ∈ listed s b → B y) → Blocks q b (blocksOf d s h - m)
+    blocks-reached : (q b m c : ℕ) → q ≡ listBlocks (blocksOf d s h - m) → Spread d s h q b m c → ((y : Ref) → y ∈ keyRefs s b → B y) → Blocks q b (blocksOf d s h - m)
     unfolding listsFrom keysFrom
     blocks-reached zero b m c e p f = ((λ k a. absurd a), λ k a. each k (in-either k (keysDown s b 0 (keysHere (blocksOf d s h - m))) [] a))
       where
@@ -79,7 +79,7 @@ module _ (d : Disk) (s : List ℕ) where
     blocks-reached (suc q) b m c e p f =
         let r = next-reached b (blocksOf d s h - m) (p .0) f (λ z. omega (arith, e, p .0 .more .0 z)) in
         let g : blocksOf d s h - (m + here d s h m) ≡ blocksOf d s h - m - slots = omega arith in
-        let w = blocks-reached q (wordOf s b 126) (m + here d s h m) (before s b c (here d s h m)) (omega (arith, e)) (p .3) (listed-reached (wordOf s b 126) r) in
+        let w = blocks-reached q (wordOf s b 126) (m + here d s h m) (before s b c (here d s h m)) (omega (arith, e)) (p .3) (refs-reached (wordOf s b 126) r) in
         join r (rw g at w)
       where
         join : B (to Kind.list (wordOf s b 126)) → Blocks q (wordOf s b 126) (blocksOf d s h - m - slots) → Blocks (suc q) b (blocksOf d s h - m)
@@ -93,9 +93,9 @@ module _ (d : Disk) (s : List ℕ) where
             each k (inl a) = keys-reached b _ (p .0) f k a
             each k (inr a) = w .1 k a
 
-    contents-reached : B (to Kind.entry h) → directory s h ≡ false → (y : Ref) → y ∈ listed s h → B y
+    contents-reached : B (to Kind.entry h) → directory s h ≡ false → (y : Ref) → y ∈ keyRefs s h → B y
     unfolding refersTo pick
-    contents-reached r e y a = refers (to Kind.entry h) y r (in-left y (pick (directory s h) (slotRefs s h 0 slots) (listed s h)) (link Kind.entry (wordOf s h 124)) (rw e a))
+    contents-reached r e y a = refers (to Kind.entry h) y r (in-left y (pick (directory s h) (slotRefs s h 0 slots) (keyRefs s h)) (link Kind.entry (wordOf s h 124)) (rw e a))
 
     -- The list blocks and the data blocks of a reached file are reached.
     pub file-reaches : B (to Kind.entry h) → directory s h ≡ false → File d s h → ((k : ℕ) → k ∈ listsOf d s h → B (to Kind.list k)) × ((k : ℕ) → k ∈ keysOf d s h → B (to Kind.datum k))
@@ -115,7 +115,7 @@ module _ (d : Disk) (s : List ℕ) (v : Tree d s) where
   intact a k r = record { low = v .keys (to a k) r .0; inside = v .keys (to a k) r .1; sum = v .sums (to a k) r }
 
   -- Every reached file is whole, and passes its tests.
-  pub tree-file-whole : (k : ℕ) → Reached (references d s) (to Kind.entry k) → directory s k ≡ false → Whole d s k
+  pub tree-file-whole : (k : ℕ) → Reached (references d s) (to Kind.entry k) → directory s k ≡ false → FileWhole d s k
   tree-file-whole k r e =
       let w = file-reaches d s k r e (v .files k r e) in
       record { file = v .files k r e; lists = λ b a. intact Kind.list b (w .0 b a); keys = λ b a. intact Kind.datum b (w .1 b a) }

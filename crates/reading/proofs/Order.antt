@@ -41,7 +41,7 @@ module _ (s : List ℕ) (h b : ℕ) where
     before-is c zero e l a = a
     before-is c (suc i) e l a = key-is i e l a
 
-    -- a place among the others
+    -- a position among the others
     key-after : (i k : ℕ) → At (n + i) k (keysDown s b 0 n ++ rest) → At i k rest
     key-after i k a = right-at k (n + i) i (keysDown s b 0 n) rest (rw (down-long s b 0 n)) a
 
@@ -125,13 +125,13 @@ module _ (d : Disk) (s : List ℕ) (h : ℕ) where
   all = omega arith
 
   -- data block i, and list block j
-  pub data-place : (i k c : ℕ) → IsData d s h i k c → At (i + i / slots) (datum k h (suc i) c) (fileNodes d s h)
-  data-place i k c p =
+  pub data-position : (i k c : ℕ) → IsData d s h i k c → At (i + i / slots) (datum k h (suc i) c) (fileNodes d s h)
+  data-position i k c p =
       let z : 0 + i ≡ i = omega arith in
       rw z at (data-node (listBlocks (blocksOf d s h)) h 0 h (blocksOf d s h) all refl i k c (p .here) (p .before))
 
-  pub list-place : (j k : ℕ) → At j k (listsOf d s h) → (c : ℕ) × At (slots * suc j + j) (list k h (slots * suc j) c) (fileNodes d s h)
-  list-place j k p =
+  pub list-position : (j k : ℕ) → At j k (listsOf d s h) → (c : ℕ) × At (slots * suc j + j) (list k h (slots * suc j) c) (fileNodes d s h)
+  list-position j k p =
       let z : 0 + slots * suc j ≡ slots * suc j = omega arith in
       rw z at (list-node (listBlocks (blocksOf d s h)) h 0 h (blocksOf d s h) all refl j k p)
 
@@ -153,10 +153,10 @@ module _ (d : Disk) (s : List ℕ) (h : ℕ) where
           let g = at-some i (h ∷ keysOf d s h) (rw (keys-long d s h) (omega (arith, few))) in
           let w : IsData d s h i (p .0) (g .0) = record { here = p .1; before = g .1 } in
           let e : t ≡ i + i / slots = omega arith in
-          is-data i (p .0) (g .0) w e (at-one t (fileNodes d s h) a (rw (← e) at (data-place i (p .0) (g .0) w)))
+          is-data i (p .0) (g .0) w e (at-one t (fileNodes d s h) a (rw (← e) at (data-position i (p .0) (g .0) w)))
       go (no l) =
           let j = t / suc slots in
           let p = at-some j (listsOf d s h) (rw (lists-long s h (listBlocks (blocksOf d s h))) (omega (arith, few))) in
           let e : t ≡ slots * suc j + j = omega arith in
-          let g = list-place j (p .0) (p .1) in
+          let g = list-position j (p .0) (p .1) in
           is-list j (p .0) (g .0) (p .1) e (at-one t (fileNodes d s h) a (rw (← e) at (g .1)))

@@ -41,7 +41,7 @@ module _ (p before output more : List ℕ) (done n : ℕ) (e : output ≡ take d
       let b : drop (done + n) output ≡ drop (done + n) before = sym (drop-drop n done output) ∙ rw e (rw (drop-at (take done p) (drop done before) done l) (drop-drop n done before)) in
       rw (a, b, m, take-add done n p) refl
 
--- ---- c elements of y ++ x from place i on: the first n of them end with y, or they are all
+-- ---- c elements of y ++ x from position i on: the first n of them end with y, or they are all
 
 module _ (l y x : List ℕ) (i c n : ℕ) (e : l ≡ take c (drop i (y ++ x))) (h : i ≤ length y) (m : n ≡ min (length y - i) c) where
   pub turn-front : take n l ≡ take n (drop i y)

@@ -14,15 +14,15 @@ use Rattle.reach.proofs.Lists.{in-left, in-right, in-either}
 use Rattle.volume.specs.declared.disk.Disk.{Disk}
 use Rattle.volume.specs.Blocks.{slots, wordOf, keyWord}
 use Rattle.volume.specs.Files.{keysHere, listBlocks, keysDown, listsFrom, keysFrom, blocksOf}
-use Rattle.volume.specs.Law.{ListBlock, Lists}
+use Rattle.volume.specs.Law.{ListBlock, KeyCount}
 use Rattle.volume.proofs.Passes.{_&_, file-passes, list-passes, data-passes}
 use Rattle.walk.specs.Nodes.{Node, list, datum, keyNodes, keyOf, faultOf}
 use Rattle.walk.proofs.Nodes.{in-keys}
 use Rattle.walk.proofs.Passes.{key-passes}
 use Rattle.walk.proofs.Spreads.{Follows, Run, Spread, here, spread-first, file-spreads}
-use Rattle.walk.proofs.Listed.{Sound, run-listed}
+use Rattle.walk.proofs.KeyRuns.{DataSound, run-nodes}
 use Rattle.reading.specs.FileTests.{nodeFault, firstFault, blocksFrom, fileNodes, blocksFault}
-use Rattle.reading.specs.Outcomes.{Intact, Whole}
+use Rattle.reading.specs.Outcomes.{Intact, FileWhole}
 use Rattle.reading.proofs.Tested.{Pass, tested-whole}
 
 module _ (d : Disk) (s : List ℕ) where
@@ -41,7 +41,7 @@ module _ (d : Disk) (s : List ℕ) where
     unfolding faultOf
     datum-passes k n c i f = key-passes d k (i .low, i .inside) & data-passes d s k h n (wordOf s c 4) (i .sum, f .0, (f .1, f .2))
 
-    list-there : (k m c : ℕ) → Intact d s k → ListBlock s h k → Lists s k (blocksOf d s h - m) → nodeFault d s (list k h m c) ≡ 0
+    list-there : (k m c : ℕ) → Intact d s k → ListBlock s h k → KeyCount s k (blocksOf d s h - m) → nodeFault d s (list k h m c) ≡ 0
     unfolding faultOf
     list-there k m c i f l = key-passes d k (i .low, i .inside) & list-passes s k h (blocksOf d s h - m) (i .sum, f, l)
 
@@ -57,7 +57,7 @@ module _ (d : Disk) (s : List ℕ) where
     keys-pass b m c r f x a =
         let w = in-keys s h b m c 0 (here d s h m) x a in
         let i = subst (λ y. Intact d s (keyOf d y)) (w .3) (f (keyOf d x) (key-down b m c 0 (here d s h m) x a)) in
-        subst (λ y. nodeFault d s y ≡ 0) (sym (w .3)) (datum-passes (w .0) (w .1) (w .2) i (subst (Sound d s) (w .3) (run-listed d s h b m c .0 r x a)))
+        subst (λ y. nodeFault d s y ≡ 0) (sym (w .3)) (datum-passes (w .0) (w .1) (w .2) i (subst (DataSound d s) (w .3) (run-nodes d s h b m c .0 r x a)))
 
     -- ---- and of those after it, r keys still to come
 
@@ -90,7 +90,7 @@ module _ (d : Disk) (s : List ℕ) where
 
     -- ---- the whole file
 
-    pub passes-tested : Whole d s h → blocksFault d s h ≡ Passed
+    pub passes-tested : FileWhole d s h → blocksFault d s h ≡ Passed
     unfolding blocksFault pick
     passes-tested w =
         let p = file-spreads d s h .0 (w .file) in
@@ -100,5 +100,5 @@ module _ (d : Disk) (s : List ℕ) where
         rw (eq-eqb _ 0 e) (pass-all (fileNodes d s h) (spread-passes q h 0 h (blocksOf d s h) (ap listBlocks z) z (p .2) (w .lists) (w .keys)))
 
     -- The blocks of a file pass if and only if it is whole.
-    pub tested-exactly : (blocksFault d s h ≡ Passed) ↔ Whole d s h
+    pub tested-exactly : (blocksFault d s h ≡ Passed) ↔ FileWhole d s h
     tested-exactly = (tested-whole d s h, passes-tested)

@@ -16,7 +16,7 @@ use Rattle.answers.specs.declared.Refusal.{Refusal}
 use Rattle.answers.specs.declared.Tested.{Tested}
 use Rattle.answers.specs.declared.Tested.the-variants.{Passed, Failed}
 use Rattle.volume.specs.declared.disk.Disk.{Disk}
-use Rattle.volume.specs.Disks.{imageBytes}
+use Rattle.volume.specs.Disks.{floppy, imageBytes}
 use Rattle.volume.specs.Files.{sizeOf}
 use Rattle.lookup.specs.declared.find.Found.{Found}
 use Rattle.lookup.specs.declared.find.Found.the-variants as found
@@ -30,7 +30,7 @@ use Rattle.reading.specs.FileTests.{blocksFault}
 use Rattle.reading.specs.Bytes.{fileBytes}
 use Rattle.reading.specs.Parts.{Followed, Copied, handed}
 use Rattle.lookup.proofs.find.Found.{the-type}
-use Rattle.reading.specs.Reads.{numbersOf, refuse, lastComponent, readOf, leaves, Reads}
+use Rattle.reading.specs.Reads.{numbersOf, refuse, lastComponent, readOf, outputAfter, Reads}
 use Rattle.reading.proofs.Tested.{tested-whole}
 
 -- ---- the last component
@@ -106,25 +106,26 @@ followed d s k t e q =
     let w = tested-whole d s k p in
     record { size = w .file .size; keys = λ b a. w .keys b a .inside; following = w .file .following }
 
+-- what is found is a file with a key in the volume
+module _ (d : Disk) (s path : List ℕ) (f : Found) (e : f ≡ findOf d s path) (k z c : ℕ) (g : f ≡ found.File k z c) where
+  abbrev is : IsFile d s path k z c
+  is = file-exactly d s path k z c .0 (sym e ∙ g)
+
+  pub image-long : length s ≡ imageBytes d
+  image-long = is .opened .long
+
+  pub file-inside : k < d .blocks
+  file-inside = rw (is .key) at (is .found .tests .inside .high)
+
+  pub file-size : z ≡ sizeOf s k
+  file-size = sym (is .size) ∙ ap (sizeOf s) (is .key)
+
 module _ (d : Disk) (s path : List ℕ) (o : ℕ) (output : List ℕ) (f : Found) (e : f ≡ findOf d s path) where
   -- the answer's numbers are those of the answer
-  promised : (r : Reading) (output′ : List ℕ) → r ≡ readOf d s path o (length output) → output′ ≡ leaves d s path o output r → Reads d s path o output r output′
+  promised : (r : Reading) (output′ : List ℕ) → r ≡ readOf d s path o (length output) → output′ ≡ outputAfter d s path o output r → Reads d s path o output r output′
   promised r output′ a l = record { answer = a; numbers = ap numbersOf a; left = l }
 
-  -- what is found is a file with a key in the volume
   module _ (k z c : ℕ) (g : f ≡ found.File k z c) where
-    abbrev is : IsFile d s path k z c
-    is = file-exactly d s path k z c .0 (sym e ∙ g)
-
-    pub file-long : length s ≡ imageBytes d
-    file-long = is .opened .long
-
-    pub file-inside : k < d .blocks
-    file-inside = rw (is .key) at (is .found .tests .inside .high)
-
-    pub file-size : z ≡ sizeOf s k
-    file-size = sym (is .size) ∙ ap (sizeOf s) (is .key)
-
     pub read-failed : (t : Tested) (x : Refusal) → t ≡ blocksFault d s k → t ≡ Failed x → Reads d s path o output (Refused x) output
     unfolding readOf
     read-failed t x h q = promised (Refused x) output (rw (← e, g, ← h, q) refl) refl
@@ -143,11 +144,14 @@ module _ (d : Disk) (s path : List ℕ) (o : ℕ) (output : List ℕ) (f : Found
       go (found.Directory k c) e h q = promised r output (q ∙ rw (← e) refl) (rw q refl)
       go (found.Refused x) e h q = promised r output (q ∙ rw (← e) refl) (rw q refl)
 
+pub on-floppy : (d : Disk) (s path : List ℕ) (o : ℕ) (output : List ℕ) (r : Reading) (a : List ℕ) → d ≡ floppy → Reads d s path o output r a → Reads floppy s path o output r a
+on-floppy d s path o output r a e h = rw e at h
+
 -- one input has one outcome
 pub read-determined : (d : Disk) (s path : List ℕ) (o : ℕ) (output : List ℕ) (r r′ : Reading) (a a′ : List ℕ) → Reads d s path o output r a → Reads d s path o output r′ a′ → (numbersOf r ≡ numbersOf r′) × (r ≡ r′) × (a ≡ a′)
 read-determined d s path o output r r′ a a′ h h′ =
     let e = h .answer ∙ sym (h′ .answer) in
-    (ap numbersOf e, e, h .left ∙ ap (leaves d s path o output) e ∙ sym (h′ .left))
+    (ap numbersOf e, e, h .left ∙ ap (outputAfter d s path o output) e ∙ sym (h′ .left))
 
 -- a directory is no file
 pub handed-directory : (path : List ℕ) (f : Found) (n : ℕ) → OneOf (0 ∷ 1 ∷ []) (tagOf the-type f) → n ≡ lastComponent path → refuse 20 n ≡ handed path f

@@ -30,8 +30,8 @@ use Rattle.lookup.specs.Lookup.{findOf}
 use Rattle.lookup.proofs.Deciding.{number-is, place-is}
 use Rattle.reading.specs.FileTests.{nodeFault, firstFault, fileNodes, blocksFault}
 use Rattle.reading.specs.Reads.{refuse, lastComponent, tested, reads, readOf}
-use Rattle.reading.specs.Outcomes.{GoodData, BadData, data-key, data-itself, GoodList, BadList, list-key, list-itself, Good, Fails, at-data, at-list, Refuses, of-lookup, of-directory, of-header, of-block}
-use Rattle.reading.proofs.Order.{data-place, list-place, Stands, is-data, is-list, stands}
+use Rattle.reading.specs.Outcomes.{GoodData, BadData, data-key, data-itself, GoodList, BadList, list-key, list-itself, BlocksGood, Fails, at-data, at-list, Refuses, of-lookup, of-directory, of-header, of-block}
+use Rattle.reading.proofs.Order.{data-position, list-position, Stands, is-data, is-list, stands}
 
 -- ---- a block's tests begin with its key's
 
@@ -106,13 +106,13 @@ module _ (d : Disk) (s : List ℕ) (h : ℕ) where
         from (list-key p e) = (first-key d k _ v (out p e), λ z. omega arith)
         from (list-itself p b) = let e = list-breaks s k h left v .1 b in (first-key d k _ v (own p (e .0) (e .1)), e .1)
 
--- ---- blocks in order: the first that fails, by its place
+-- ---- blocks in order: the first that fails, by its position
 
 record FailsAt (d : Disk) (s : List ℕ) (blocks : List Node) (v k : ℕ) : Type 0 where
-  place : ℕ
+  position : ℕ
   node : Node
-  there : At place node blocks
-  before : (u : ℕ) (x : Node) → u < place → At u x blocks → nodeFault d s x ≡ 0
+  there : At position node blocks
+  before : (u : ℕ) (x : Node) → u < position → At u x blocks → nodeFault d s x ≡ 0
   fault : (nodeFault d s node ≡ v) × (v ≢ 0)
   key : keyOf d node ≡ k
 
@@ -126,14 +126,14 @@ module _ (d : Disk) (s : List ℕ) (v k : ℕ) where
       go true q e later = further (later e)
         where
           further : FailsAt d s ns v k → FailsAt d s (n ∷ ns) v k
-          further w = record { place = suc (w .place); node = w .node; there = w .there; before = before′; fault = w .fault; key = w .key }
+          further w = record { position = suc (w .position); node = w .node; there = w .there; before = before′; fault = w .fault; key = w .key }
             where
-              before′ : (u : ℕ) (x : Node) → u < suc (w .place) → At u x (n ∷ ns) → nodeFault d s x ≡ 0
+              before′ : (u : ℕ) (x : Node) → u < suc (w .position) → At u x (n ∷ ns) → nodeFault d s x ≡ 0
               before′ zero x l a = rw a (eqb-true _ 0 q)
               before′ (suc u) x l a = w .before u x (omega arith) a
       go false q e later =
           let x : refusal (nodeFault d s n) (keyOf d n) ≡ refusal v k = cc in
-          record { place = 0; node = n; there = refl; before = λ u x l a. absurd (omega arith); fault = (number-is x, λ z. eqb-false _ 0 q (number-is x ∙ z)); key = place-is x }
+          record { position = 0; node = n; there = refl; before = λ u x l a. absurd (omega arith); fault = (number-is x, λ z. eqb-false _ 0 q (number-is x ∙ z)); key = place-is x }
 
   fails-back : (ns : List Node) (t : ℕ) (x : Node) → At t x ns → ((u : ℕ) (y : Node) → u < t → At u y ns → nodeFault d s y ≡ 0) → nodeFault d s x ≡ v → v ≢ 0 → keyOf d x ≡ k → firstFault d s ns ≡ Failed (refusal v k)
   unfolding firstFault pick
@@ -147,16 +147,16 @@ module _ (d : Disk) (s : List ℕ) (v k : ℕ) where
   -- of a file's blocks
   module _ (h : ℕ) where
     to-fails : FailsAt d s (fileNodes d s h) v k → Fails d s h v k
-    to-fails w = go (stands d s h (w .place) (w .node) (w .there))
+    to-fails w = go (stands d s h (w .position) (w .node) (w .there))
       where
-        good : (n m : ℕ) → ((i : ℕ) → i < n → i + i / slots < w .place) → ((j : ℕ) → j < m → slots * suc j + j < w .place) → Good d s h n m
+        good : (n m : ℕ) → ((i : ℕ) → i < n → i + i / slots < w .position) → ((j : ℕ) → j < m → slots * suc j + j < w .position) → BlocksGood d s h n m
         good n m f g =
             record {
-              keys = λ i b c l p. data-good d s h i b c .0 (w .before _ _ (f i l) (data-place d s h i b c p));
-              lists = λ j b l p. let q = list-place d s h j b p in list-good d s h j b (q .0) .0 (w .before _ _ (g j l) (q .1));
+              keys = λ i b c l p. data-good d s h i b c .0 (w .before _ _ (f i l) (data-position d s h i b c p));
+              lists = λ j b l p. let q = list-position d s h j b p in list-good d s h j b (q .0) .0 (w .before _ _ (g j l) (q .1));
             }
 
-        go : Stands d s h (w .place) (w .node) → Fails d s h v k
+        go : Stands d s h (w .position) (w .node) → Fails d s h v k
         go (is-data i b c p e x) =
             let y : b ≡ k = sym (ap (keyOf d) x) ∙ w .key in
             let f = data-bad d s h i b c v .0 (sym (ap (nodeFault d s) x) ∙ w .fault .0, w .fault .1) in
@@ -166,8 +166,8 @@ module _ (d : Disk) (s : List ℕ) (v k : ℕ) where
             let f = list-bad d s h j b c v .0 (sym (ap (nodeFault d s) x) ∙ w .fault .0, w .fault .1) in
             rw y at (at-list j p (good (slots * suc j) j (λ u l. omega (arith, e)) (λ u l. omega (arith, e))) f)
 
-    -- what stands before a place is good
-    passes : (n m t : ℕ) → Good d s h n m → ((i : ℕ) → i + i / slots < t → i < n) → ((j : ℕ) → slots * suc j + j < t → j < m) → (u : ℕ) (y : Node) → u < t → At u y (fileNodes d s h) → nodeFault d s y ≡ 0
+    -- what stands before a position is good
+    passes : (n m t : ℕ) → BlocksGood d s h n m → ((i : ℕ) → i + i / slots < t → i < n) → ((j : ℕ) → slots * suc j + j < t → j < m) → (u : ℕ) (y : Node) → u < t → At u y (fileNodes d s h) → nodeFault d s y ≡ 0
     passes n m t g f f′ u y l a = go (stands d s h u y a)
       where
         go : Stands d s h u y → nodeFault d s y ≡ 0
@@ -177,9 +177,9 @@ module _ (d : Disk) (s : List ℕ) (v k : ℕ) where
     from-fails : Fails d s h v k → firstFault d s (fileNodes d s h) ≡ Failed (refusal v k)
     from-fails (at-data i c p g b) =
         let e = data-bad d s h i k c v .1 b in
-        fails-back (fileNodes d s h) (i + i / slots) _ (data-place d s h i k c p) (passes i (i / slots) (i + i / slots) g (λ u l. omega arith) (λ u l. omega arith)) (e .0) (e .1) refl
+        fails-back (fileNodes d s h) (i + i / slots) _ (data-position d s h i k c p) (passes i (i / slots) (i + i / slots) g (λ u l. omega arith) (λ u l. omega arith)) (e .0) (e .1) refl
     from-fails (at-list j p g b) =
-        let q = list-place d s h j k p in
+        let q = list-position d s h j k p in
         let e = list-bad d s h j k (q .0) v .1 b in
         fails-back (fileNodes d s h) (slots * suc j + j) _ (q .1) (passes (slots * suc j) j (slots * suc j + j) g (λ u l. omega arith) (λ u l. omega arith)) (e .0) (e .1) refl
 

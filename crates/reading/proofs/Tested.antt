@@ -18,15 +18,15 @@ use Rattle.reach.proofs.Lists.{in-left, in-right, in-either}
 use Rattle.volume.specs.declared.disk.Disk.{Disk}
 use Rattle.volume.specs.Blocks.{slots, wordOf, keyWord}
 use Rattle.volume.specs.Files.{keysHere, listBlocks, keysDown, listsFrom, keysFrom, blocksOf}
-use Rattle.volume.specs.Law.{Lists, File}
+use Rattle.volume.specs.Law.{KeyCount, File}
 use Rattle.volume.specs.Rules.{fileFault}
 use Rattle.volume.proofs.Passes.{file-passed, list-passed, data-passed}
 use Rattle.walk.specs.Nodes.{Node, root, bitmap, entry, list, datum, before, keyNodes, keyOf, keyFault, faultOf}
 use Rattle.walk.proofs.Passes.{key-passed, in-tree, sum-passed}
 use Rattle.walk.proofs.Spreads.{Run, Spread, here, file-spreads}
-use Rattle.walk.proofs.Listed.{Sound, run-listed}
+use Rattle.walk.proofs.KeyRuns.{DataSound, run-nodes}
 use Rattle.reading.specs.FileTests.{nodeFault, firstFault, blocksFrom, fileNodes, blocksFault}
-use Rattle.reading.specs.Outcomes.{Intact, Whole}
+use Rattle.reading.specs.Outcomes.{Intact, FileWhole}
 
 module _ (d : Disk) (s : List ℕ) where
   abbrev pub Pass : List Node → Type 0
@@ -51,7 +51,7 @@ module _ (d : Disk) (s : List ℕ) where
       record { low = r .0; inside = r .1; sum = sum-passed d s x (in-tree d s x (own x e)) }
 
   -- a data block that passes is as the law says
-  sound : (x : Node) → faultOf d s x ≡ 0 → Sound d s x
+  sound : (x : Node) → faultOf d s x ≡ 0 → DataSound d s x
   unfolding faultOf
   sound root e = tt
   sound (bitmap k) e = tt
@@ -69,13 +69,13 @@ module _ (d : Disk) (s : List ℕ) where
     keysPart (suc q) b m c f = λ x a. f x (in-left x (keyNodes s h b m c 0 (keysHere (blocksOf d s h - m))) (next b m ∷ blocksFrom d s h (wordOf s b 126) (m + slots) (keyWord s b 71) q) a)
 
     runs : (q b m c : ℕ) → Pass (blocksFrom d s h b m c q) → Run d s h m c (keysDown s b 0 (here d s h m))
-    runs q b m c f = run-listed d s h b m c .1 (λ x a. sound x (own x (keysPart q b m c f x a)))
+    runs q b m c f = run-nodes d s h b m c .1 (λ x a. sound x (own x (keysPart q b m c f x a)))
 
     rest : (q b m c : ℕ) → Pass (blocksFrom d s h b m c (suc q)) → Pass (next b m ∷ blocksFrom d s h (wordOf s b 126) (m + slots) (keyWord s b 71) q)
     unfolding blocksFrom
     rest q b m c f x a = f x (in-right x (keyNodes s h b m c 0 (keysHere (blocksOf d s h - m))) _ a)
 
-    spread-tested : (q b m c : ℕ) → q ≡ listBlocks (blocksOf d s h - m) → Lists s b (blocksOf d s h - m) → Pass (blocksFrom d s h b m c q) → Spread d s h q b m c
+    spread-tested : (q b m c : ℕ) → q ≡ listBlocks (blocksOf d s h - m) → KeyCount s b (blocksOf d s h - m) → Pass (blocksFrom d s h b m c q) → Spread d s h q b m c
     unfolding faultOf
     spread-tested zero b m c e l f = (l, runs zero b m c f)
     spread-tested (suc q) b m c e l f =
@@ -135,10 +135,10 @@ module _ (d : Disk) (s : List ℕ) where
       pub tested-file : File d s h
       tested-file =
           let p = file-passed d s h header-passes in
-          file-spreads d s h .1 (p .0, p .2, spread-tested (listBlocks (blocksOf d s h)) h 0 h (ap listBlocks nothing-done) (subst (Lists s h) nothing-done (p .1)) blocks-pass)
+          file-spreads d s h .1 (p .0, p .2, spread-tested (listBlocks (blocksOf d s h)) h 0 h (ap listBlocks nothing-done) (subst (KeyCount s h) nothing-done (p .1)) blocks-pass)
 
       -- and whole
-      pub tested-whole : Whole d s h
+      pub tested-whole : FileWhole d s h
       tested-whole =
           let q = listBlocks (blocksOf d s h) in
           record { file = tested-file; lists = λ k a. lists-intact q h 0 h k blocks-pass a; keys = λ k a. keys-intact q h 0 h (blocksOf d s h) k nothing-done blocks-pass a }

@@ -14,50 +14,33 @@ use Rattle.answers.specs.declared.Tested.{Tested}
 use Rattle.answers.specs.declared.Tested.the-variants.{Passed, Failed}
 use Rattle.answers.proofs.Tests.{first-zero, must-passed}
 use Rattle.answers.proofs.Clashes.{impossible}
+use Rattle.answers.specs.Numbers as fault
 use Rattle.volume.specs.declared.disk.Disk.{Disk}
-use Rattle.volume.specs.Disks.{Sized, inRange, imageBytes, fileLimit}
-use Rattle.volume.specs.Blocks.{slots, Holds, wordOf, keyWord}
-use Rattle.volume.specs.Files.{dataBlocks, sizeOf, blocksOf, keysHere, listBlocks}
-use Rattle.volume.specs.Rules.{fileFault, listFault, dataFault}
+use Rattle.volume.specs.Disks.{Sized, inRange, imageBytes}
+use Rattle.volume.specs.Blocks.{slots, Holds, keyWord}
+use Rattle.volume.specs.Files.{blocksOf, listBlocks}
+use Rattle.volume.specs.Rules.{fileFault}
 use Rattle.volume.proofs.Sizes.{range-is}
-use Rattle.volume.proofs.Passes.{list-passed}
-use Rattle.walk.specs.declared.Lister.{Lister}
-use Rattle.walk.specs.Nodes.{Node, list, datum, keyNodes, keyOf, keyFault, faultOf}
-use Rattle.walk.specs.Listings.{Listing}
-use Rattle.walk.proofs.Links.{is-listed}
-use Rattle.walk.proofs.Loops.{nodes, next, Turn, turn-few, turn-next, turn-again, turn-all, headerOf, Link, link-start, link-none, link-more, link-last, link-again}
+use Rattle.walk.specs.declared.file.KeyBlock.{KeyBlock}
+use Rattle.walk.specs.Nodes.{Node, datum, keyNodes, keyOf, keyFault, faultOf}
+use Rattle.walk.specs.KeyBlocks.{headerOf, nextOf, listNode, dataNodes, InFile, KeysReady, InImage, NextReady}
+use Rattle.walk.proofs.Loops.{nodes, next, Turn, turn-next, turn-again, turn-end, list-ready, ready-image}
 use Rattle.reading.specs.FileTests.{nodeFault, firstFault, blocksFrom, fileNodes, blocksFault}
 use Rattle.reading.specs.Parts.{KeysTested, ListTested}
 
 -- ---- one block
 
-module _ (d : Disk) (k : ℕ) (b : Bool) (e : b ≡ inRange d k) where
-  pub range-holds : (s : List ℕ) → b ≡ true → length s ≡ imageBytes d → Holds s k
-  range-holds s h l = omega (arith, range-is d k (sym e ∙ h))
+pub range-holds : (d : Disk) (s : List ℕ) (k : ℕ) (b : Bool) → b ≡ inRange d k → b ≡ true → length s ≡ imageBytes d → Holds s k
+range-holds d s k b e h l = omega (arith, range-is d k (sym e ∙ h))
 
-  module _ (f v : ℕ) where
-    out : b ≡ false → 5 ≡ first (must (inRange d k) 5) v
-    unfolding first must
-    out h = rw (sym e ∙ h)
+module _ (d : Disk) (s : List ℕ) (n : Node) (b : Bool) (e : b ≡ inRange d (keyOf d n)) where
+  pub node-out : b ≡ false → fault.badKey ≡ nodeFault d s n
+  unfolding first must
+  node-out h = rw (sym e ∙ h)
 
-    inside : b ≡ true → f ≡ v → f ≡ first (must (inRange d k) 5) v
-    unfolding first must
-    inside h q = rw (sym e ∙ h) q
-
-  module _ (s : List ℕ) (h : ℕ) where
-    pub datum-out : (n c : ℕ) → b ≡ false → 5 ≡ nodeFault d s (datum k h n c)
-    datum-out n c q = out 0 _ q
-
-    pub datum-is : (n c z w f : ℕ) → b ≡ true → z ≡ sizeOf s h → w ≡ wordOf s c 4 → f ≡ dataFault d s k h z n w → f ≡ nodeFault d s (datum k h n c)
-    unfolding faultOf
-    datum-is n c z w f q g g′ x = inside f _ q (rw (← g, ← g′) x)
-
-    pub list-out : (m c : ℕ) → b ≡ false → 5 ≡ nodeFault d s (list k h m c)
-    list-out m c q = out 0 _ q
-
-    pub list-is : (m c z n f : ℕ) → b ≡ true → z ≡ sizeOf s h → n ≡ dataBlocks d z → f ≡ listFault s k h (n - m) → f ≡ nodeFault d s (list k h m c)
-    unfolding faultOf
-    list-is m c z n f q g g′ x = inside f _ q (rw (← g, ← g′) x)
+  pub node-in : (f : ℕ) → b ≡ true → f ≡ faultOf d s n → f ≡ nodeFault d s n
+  unfolding first must
+  node-in f h q = rw (sym e ∙ h) q
 
 node-inside : (d : Disk) (s : List ℕ) (n : Node) → nodeFault d s n ≡ 0 → keyOf d n < d .blocks
 node-inside d s n e = range-is d (keyOf d n) (must-passed _ 4 (first-zero (keyFault d (keyOf d n)) _ e .0)) .1
@@ -91,7 +74,7 @@ module _ (d : Disk) (s : List ℕ) where
 
 -- ---- the data blocks that one block lists
 
-module _ (d : Disk) (s : List ℕ) (b : Lister) where
+module _ (d : Disk) (s : List ℕ) (b : KeyBlock) where
   pub record KeysInv (count last i : ℕ) : Type 0 where
     pub turn : Turn d s b count last i
     pub tested : firstFault d s (nodes d s b 0 count) ≡ firstFault d s (nodes d s b i (count - i))
@@ -100,13 +83,9 @@ module _ (d : Disk) (s : List ℕ) (b : Lister) where
   keys-start count v = let y : count - 0 ≡ count = omega arith in record { turn = v; tested = rw y refl }
 
   module _ (count last i : ℕ) (v : KeysInv count last i) where
-    pub keys-asks : Sized d → length s ≡ imageBytes d → i < count → (n : ℕ) → n ≡ b .done + i + 1
-        → (Sized d) × (length s ≡ imageBytes d) × (b .header < d .blocks) × (last < d .blocks) × (sizeOf s (b .header) ≤ fileLimit d) × (1 ≤ n) × (n ≤ blocksOf d s (b .header))
-    keys-asks y l h n e = (y, l, v .turn .lister .header, v .turn .inside, v .turn .lister .size, omega arith, rw e (turn-few d s b count last i (v .turn) h y .1))
-
     module _ (k f : ℕ) (h : i < count) (e : k ≡ keyWord s (b .key) i) (g : f ≡ nodeFault d s (datum k (b .header) (b .done + i + 1) last)) where
-      abbrev fault : f ≡ nodeFault d s (next d s b i last)
-      fault = rw e at g
+      abbrev found : f ≡ nodeFault d s (next d s b i last)
+      found = rw e at g
 
       on : firstFault d s (nodes d s b 0 count) ≡ firstFault d s (next d s b i last ∷ nodes d s b (i + 1) (count - (i + 1)))
       on = v .tested ∙ ap (firstFault d s) (turn-next d s b count last i (v .turn) h)
@@ -114,106 +93,126 @@ module _ (d : Disk) (s : List ℕ) (b : Lister) where
       pub keys-out : (r : Tested) → (f ≡ 0 → ⊥) → r ≡ Failed (refusal f k) → KeysTested d s b r
       keys-out r t q =
           record {
-            told = q ∙ rw e (fault-stops d s (next d s b i last) _ f fault t) ∙ sym on ∙ ap (λ (j : ℕ). firstFault d s (nodes d s b 0 j)) (v .turn .counted);
-            keys = λ p. impossible cc;
+            told = q ∙ rw e (fault-stops d s (next d s b i last) _ f found t) ∙ sym on ∙ ap (λ (j : ℕ). firstFault d s (nodes d s b 0 j)) (v .turn .counted);
+            next = λ p. impossible cc;
           }
 
       pub keys-step : f ≡ 0 → KeysInv count k (i + 1)
       keys-step z =
           record {
-            turn = turn-again d s b count last i (v .turn) h k e (rw e (node-inside d s (next d s b i last) (sym fault ∙ z)));
-            tested = on ∙ fault-goes d s (next d s b i last) (nodes d s b (i + 1) (count - (i + 1))) f fault z;
+            turn = turn-again d s b count last i (v .turn) h k e (rw e (node-inside d s (next d s b i last) (sym found ∙ z)));
+            tested = on ∙ fault-goes d s (next d s b i last) (nodes d s b (i + 1) (count - (i + 1))) f found z;
           }
 
     pub keys-end : count ≤ i → KeysTested d s b Passed
     unfolding keyNodes firstFault
     keys-end h =
         let e : count - i ≡ 0 = omega arith in
-        record { told = sym (rw (v .turn .counted) at (rw e at (v .tested))); keys = λ p. turn-all d s b count last i (v .turn) h }
+        record { told = sym (rw (v .turn .counted) at (rw e at (v .tested))); next = λ p. turn-end d s b count last i (v .turn) h }
 
 -- ---- a list block and its data blocks
 
-module _ (d : Disk) (s : List ℕ) (b : Lister) (f : ℕ) (g : f ≡ nodeFault d s (list (b .key) (b .header) (b .done) (b .last))) where
+module _ (d : Disk) (s : List ℕ) (b : KeyBlock) (f : ℕ) (g : f ≡ nodeFault d s (listNode b)) where
   pub list-stops : (r : Tested) → (f ≡ 0 → ⊥) → r ≡ Failed (refusal f (b .key)) → ListTested d s b r
-  list-stops r t q = record { told = q ∙ fault-stops d s _ _ f g t; known = λ p. impossible cc }
+  list-stops r t q = record { told = q ∙ fault-stops d s _ _ f g t; image = λ p. impossible cc; next = λ p. impossible cc }
 
-  module _ (z : f ≡ 0) where
-    key-inside : b .key < d .blocks
-    key-inside = node-inside d s (list (b .key) (b .header) (b .done) (b .last)) (sym g ∙ z)
+  module _ (z : f ≡ 0) (i : InFile d s b) where
+    pub list-asks : KeysReady d s b
+    list-asks =
+        let p = sym g ∙ z in
+        list-ready d s b i (node-inside d s (listNode b) p) (first-zero (keyFault d (b .key)) _ p .1)
 
-    pub list-asks : b .header < d .blocks → b .last < d .blocks → sizeOf s (b .header) ≤ fileLimit d → b .done ≤ blocksOf d s (b .header) → Listing d s b
-    list-asks h l u o = record { size = u; header = h; key = key-inside; last = l; done = o }
-
-    pub list-goes : (r : Tested) → KeysTested d s b r → ListTested d s b r
-    unfolding faultOf
-    list-goes r k =
+    pub list-goes : (r : Tested) → Sized d → length s ≡ imageBytes d → KeysTested d s b r → ListTested d s b r
+    list-goes r y l k =
         record {
-          told = k .told ∙ sym (fault-goes d s (list (b .key) (b .header) (b .done) (b .last)) _ f g z);
-          known = λ p. is-listed d s (b .header) (b .key) (b .done) (b .last) (list-passed s (b .key) (b .header) _ (first-zero (keyFault d (b .key)) _ (sym g ∙ z) .1) .2) key-inside (k .keys p);
+          told = k .told ∙ sym (fault-goes d s (listNode b) _ f g z);
+          image = λ p. ready-image d s b list-asks y l;
+          next = k .next;
         }
+
+-- what the code asks of a list block that has passed
+pub list-image : (d : Disk) (s : List ℕ) (b : KeyBlock) (r : Tested) → ListTested d s b r → r ≡ Passed → InImage s b
+list-image d s b r v e = v .image e
 
 -- ---- a file
 
-module _ (d : Disk) (s : List ℕ) (h : ℕ) where
-  -- the q list blocks after block b, and what they list
-  abbrev behind : ℕ → ℕ → ℕ → List Node
-  behind b m zero = []
-  behind b m (suc q) = list (wordOf s b 126) h (m + slots) (keyWord s b 71) ∷ blocksFrom d s h (wordOf s b 126) (m + slots) (keyWord s b 71) q
+module _ (d : Disk) (s : List ℕ) where
+  -- q list blocks from block b on, and what they list
+  abbrev lists : KeyBlock → ℕ → List Node
+  lists b zero = []
+  lists b (suc q) = listNode b ∷ blocksFrom d s (b .header) (b .key) (b .done) (b .last) q
 
-  keys-then : (b m c q : ℕ) → blocksFrom d s h b m c q ≡ keyNodes s h b m c 0 (keysHere (blocksOf d s h - m)) ++ behind b m q
+  keys-then : (b : KeyBlock) (q : ℕ) → blocksFrom d s (b .header) (b .key) (b .done) (b .last) q ≡ dataNodes d s b ++ lists (nextOf s b) q
   unfolding blocksFrom
-  keys-then b m c zero = sym (append-nil _)
-  keys-then b m c (suc q) = refl
+  keys-then b zero = sym (append-nil _)
+  keys-then b (suc q) = refl
 
-  abbrev left : ℕ → ℕ → List Node
-  left b m = behind b m (listBlocks (blocksOf d s h - m))
+  -- all of them: as many as the keys from there on need
+  abbrev left : KeyBlock → List Node
+  left b = lists b (listBlocks (blocksOf d s (b .header) - b .done + slots))
 
-  pub record BlocksInv (lister done next : ℕ) : Type 0 where
-    pub link : Link d s h lister done next
-    pub tested : firstFault d s (fileNodes d s h) ≡ firstFault d s (left lister done)
+  module _ (b : KeyBlock) where
+    abbrev blocks : ℕ
+    blocks = blocksOf d s (b .header)
 
-  module _ (e : fileFault d s h ≡ 0) (t : Tested) (k : KeysTested d s (headerOf h) t) where
-    first-part : firstFault d s (fileNodes d s h) ≡ and t (firstFault d s (left h 0))
-    first-part =
-        let n : blocksOf d s h ≡ blocksOf d s h - 0 = omega arith in
-        ap (firstFault d s) (keys-then h 0 h (listBlocks (blocksOf d s h))) ∙ fault-append d s _ _ ∙ ap (λ (x : Tested). and x (firstFault d s (behind h 0 (listBlocks (blocksOf d s h))))) (sym (k .told))
-        ∙ ap (λ (j : ℕ). and t (firstFault d s (behind h 0 (listBlocks j)))) n
+    -- a block's data blocks, and then the list blocks after it
+    keys-part : (t : Tested) → KeysTested d s b t
+        → firstFault d s (blocksFrom d s (b .header) (b .key) (b .done) (b .last) (listBlocks (blocks - b .done))) ≡ and t (firstFault d s (left (nextOf s b)))
+    keys-part t k =
+        let e : listBlocks (blocks - b .done) ≡ listBlocks (blocks - (b .done + slots) + slots) = omega arith in
+        ap (firstFault d s) (keys-then b (listBlocks (blocks - b .done))) ∙ fault-append d s (dataNodes d s b) _
+        ∙ ap (λ (x : Tested). and x (firstFault d s (lists (nextOf s b) (listBlocks (blocks - b .done))))) (sym (k .told))
+        ∙ ap (λ (q : ℕ). and t (firstFault d s (lists (nextOf s b) q))) e
 
-    pub blocks-first : (x : Refusal) → t ≡ Failed x → t ≡ firstFault d s (fileNodes d s h)
-    blocks-first x q = q ∙ sym (first-part ∙ rw q refl)
+    list-part : (t : Tested) → ListTested d s b t → b .done < blocks → firstFault d s (left b) ≡ and t (firstFault d s (left (nextOf s b)))
+    list-part t k l =
+        let e : listBlocks (blocks - b .done + slots) ≡ suc (listBlocks (blocks - (b .done + slots) + slots)) = omega arith in
+        ap (λ (q : ℕ). firstFault d s (lists b q)) e
+        ∙ ap (λ (x : List Node). firstFault d s (listNode b ∷ x)) (keys-then b _)
+        ∙ fault-append d s (listNode b ∷ dataNodes d s b) _
+        ∙ ap (λ (x : Tested). and x (firstFault d s (left (nextOf s b)))) (sym (k .told))
 
-    pub blocks-start : (y : ℕ) → h < d .blocks → t ≡ Passed → y ≡ wordOf s h 126 → BlocksInv h 0 y
-    blocks-start y l q f = record { link = link-start d s h y e l (k .keys q) f; tested = first-part ∙ rw q refl }
+  pub record BlocksInv (h : ℕ) (b : KeyBlock) : Type 0 where
+    pub next : NextReady d s b
+    pub tested : firstFault d s (fileNodes d s h) ≡ firstFault d s (left b)
 
-  module _ (lister done next : ℕ) (v : BlocksInv lister done next) where
-    pub blocks-end : next ≡ 0 → Passed ≡ firstFault d s (fileNodes d s h)
-    unfolding firstFault
-    blocks-end z =
-        let l = link-none d s h lister done next (v .link) z in
-        let q : listBlocks (blocksOf d s h - done) ≡ 0 = omega arith in
-        sym (rw q at (v .tested))
+  module _ (h : ℕ) where
+    module _ (b : KeyBlock) (g : b ≡ headerOf s h) (t : Tested) (k : KeysTested d s b t) where
+      first-part : firstFault d s (fileNodes d s h) ≡ and t (firstFault d s (left (nextOf s (headerOf s h))))
+      first-part =
+          let n : blocksOf d s h ≡ blocksOf d s h - 0 = omega arith in
+          ap (λ (j : ℕ). firstFault d s (blocksFrom d s h h 0 h (listBlocks j))) n ∙ keys-part (headerOf s h) t (rw g at k)
 
-    module _ (t : next ≡ 0 → ⊥) (l : ℕ) (g : l ≡ keyWord s lister 71) where
-      abbrev block : Lister
-      block = record { header = h; key = next; done = done + slots; last = l }
+      pub blocks-first : (x : Refusal) → t ≡ Failed x → t ≡ firstFault d s (fileNodes d s h)
+      blocks-first x q = q ∙ sym (first-part ∙ rw q refl)
 
-      pub blocks-asks : Sized d → length s ≡ imageBytes d
-          → (Sized d) × (length s ≡ imageBytes d) × (h < d .blocks) × (l < d .blocks) × (sizeOf s h ≤ fileLimit d) × (done + slots ≤ blocksOf d s h)
-      blocks-asks y i = (y, i, v .link .inside, link-last d s h lister done next (v .link) t l g, v .link .size, omega (arith, link-more d s h lister done next (v .link) t))
+      pub blocks-start : (b₀ : KeyBlock) → t ≡ Passed → b₀ ≡ nextOf s b → BlocksInv h b₀
+      blocks-start b₀ q e = rw e record { next = k .next q; tested = rw g (first-part ∙ rw q refl) }
 
-      next-part : (u : Tested) → ListTested d s block u → firstFault d s (fileNodes d s h) ≡ and u (firstFault d s (left next (done + slots)))
-      next-part u w =
-          let m = link-more d s h lister done next (v .link) t in
-          let q : listBlocks (blocksOf d s h - done) ≡ suc (listBlocks (blocksOf d s h - (done + slots))) = omega arith in
-          v .tested ∙ ap (λ (j : ℕ). firstFault d s (behind lister done j)) q
-          ∙ rw (← v .link .word, ← g) (ap (λ (x : List Node). firstFault d s (list next h (done + slots) l ∷ x)) (keys-then next (done + slots) l _) ∙ fault-append d s (list next h (done + slots) l ∷ keyNodes s h next (done + slots) l 0 (keysHere (blocksOf d s h - (done + slots)))) _)
-          ∙ ap (λ (x : Tested). and x (firstFault d s (left next (done + slots)))) (sym (w .told))
+    module _ (b : KeyBlock) (v : BlocksInv h b) where
+      pub blocks-end : b .key ≡ 0 → Passed ≡ firstFault d s (fileNodes d s h)
+      unfolding firstFault
+      blocks-end z =
+          let l = v .next .ends z in
+          let q : listBlocks (blocksOf d s (b .header) - b .done + slots) ≡ 0 = omega arith in
+          sym (rw q at (v .tested))
 
-      pub blocks-out : (u : Tested) (x : Refusal) → ListTested d s block u → u ≡ Failed x → u ≡ firstFault d s (fileNodes d s h)
-      blocks-out u x w q = q ∙ sym (next-part u w ∙ rw q refl)
+      module _ (t : b .key ≡ 0 → ⊥) where
+        pub blocks-file : InFile d s b
+        blocks-file = v .next .file t
 
-      pub blocks-again : (u : Tested) (y : ℕ) → ListTested d s block u → u ≡ Passed → y ≡ wordOf s next 126 → BlocksInv next (done + slots) y
-      blocks-again u y w q f = record { link = link-again d s h lister done next (v .link) t y (w .known q) f; tested = next-part u w ∙ rw q refl }
+        pub blocks-less : (b′ : KeyBlock) → b′ ≡ nextOf s b → blocksOf d s (b′ .header) - b′ .done < blocksOf d s (b .header) - b .done
+        blocks-less b′ e = rw e (omega (arith, v .next .left t))
+
+        module _ (u : Tested) (w : ListTested d s b u) where
+          next-part : firstFault d s (fileNodes d s h) ≡ and u (firstFault d s (left (nextOf s b)))
+          next-part = v .tested ∙ list-part b u w (v .next .left t)
+
+          pub blocks-out : (x : Refusal) → u ≡ Failed x → u ≡ firstFault d s (fileNodes d s h)
+          blocks-out x q = q ∙ sym (next-part ∙ rw q refl)
+
+          pub blocks-again : (b′ : KeyBlock) → u ≡ Passed → b′ ≡ nextOf s b → BlocksInv h b′
+          blocks-again b′ q e = rw e record { next = w .next q; tested = next-part ∙ rw q refl }
 
 -- ---- the header's own tests first
 

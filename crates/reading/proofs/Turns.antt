@@ -13,7 +13,7 @@ use Rattle.volume.specs.Blocks.{Holds, wordOf}
 use Rattle.volume.specs.Disks.{Sized, dataBytes, imageBytes, fileLimit}
 use Rattle.volume.specs.Files.{sizeOf, keysOf}
 use Rattle.volume.proofs.Sizes.{limit-most}
-use Rattle.reading.specs.Bytes.{dataPlace, dataOf, dataIn, fileBytes, part, filledBy}
+use Rattle.reading.specs.Bytes.{dataByte, dataOf, dataIn, fileBytes, part, filledBy}
 use Rattle.reading.specs.Parts.{Copied, Followed}
 use Rattle.reading.proofs.Parts.{drop-take, filled-more, turn-front, turn-rest}
 use Rattle.reading.proofs.Contents.{data-inside, data-some, data-long, all-none, all-first, part-long, part-there, key-inside, key-first, key-next, block-there}
@@ -178,22 +178,22 @@ module _ (d : Disk) (s : List ℕ) (h o : ℕ) (before : List ℕ) where
         pub done-fits : done + n < 2 ^ 64
         done-fits = small (done + n) count (sizeOf s h) (fileLimit d) upto (omega (arith, v .counted)) (v .tested .size) (limit-most d (v .sized))
 
-        module _ (place : ℕ) (q : place ≡ dataPlace d key) where
-          pub place-fits : place + within < 2 ^ 64
-          place-fits = omega (arith, data-inside d, inside, v .each, v .near, v .sized .most)
+        module _ (byte : ℕ) (q : byte ≡ dataByte d key) where
+          pub byte-fits : byte + within < 2 ^ 64
+          byte-fits = omega (arith, data-inside d, inside, v .each, v .near, v .sized .most)
 
-          pub from-inside : place + within + n ≤ length s
+          pub from-inside : byte + within + n ≤ length s
           from-inside = omega (arith, data-inside d, held, v .each, v .near)
 
           -- what is copied in this turn
-          copied : take n (drop (place + within) s) ≡ take n (drop done whole)
+          copied : take n (drop (byte + within) s) ≡ take n (drop done whole)
           copied =
               let g : n ≤ dataBytes d - within = omega (arith, v .each) in
-              let e : take n (drop within mine) ≡ take n (drop (place + within) s) =
-              rw (drop-take within (dataBytes d) (drop (dataPlace d key) s), take-take n (dataBytes d - within) (drop within (drop (dataPlace d key) s)) g, drop-drop within (dataPlace d key) s, q) refl in
+              let e : take n (drop within mine) ≡ take n (drop (byte + within) s) =
+              rw (drop-take within (dataBytes d) (drop (dataByte d key) s), take-take n (dataBytes d - within) (drop within (drop (dataByte d key) s)) g, drop-drop within (dataByte d key) s, q) refl in
               sym (turn-front (drop done whole) mine others within (count - done) n opened within-mine taken ∙ e)
 
-          pub goes : (out′ : List ℕ) (key′ : ℕ) → out′ ≡ paste out done (drop (place + within) s) n → key′ ≡ wordOf s key 4 → Going count bytes out′ key′ 0 (done + n)
+          pub goes : (out′ : List ℕ) (key′ : ℕ) → out′ ≡ paste out done (drop (byte + within) s) n → key′ ≡ wordOf s key 4 → Going count bytes out′ key′ 0 (done + n)
           goes out′ key′ e f =
               record {
                 sized = v .sized;
@@ -205,7 +205,7 @@ module _ (d : Disk) (s : List ℕ) (h o : ℕ) (before : List ℕ) where
                 here = f ∙ rw (v .here) (key-next d s h (v .long) (v .tested) (v .block) there);
                 near = rw (v .each) (data-some d);
                 upto = upto;
-                filled = e ∙ filled-more whole before out (drop (place + within) s) done n (v .filled) copied (rw whole-long upto);
-                kept = ap length e ∙ length-paste out done (drop (place + within) s) n to-inside (rw (length-drop (place + within) s) (room (length s) (place + within) n from-inside)) ∙ v .kept;
+                filled = e ∙ filled-more whole before out (drop (byte + within) s) done n (v .filled) copied (rw whole-long upto);
+                kept = ap length e ∙ length-paste out done (drop (byte + within) s) n to-inside (rw (length-drop (byte + within) s) (room (length s) (byte + within) n from-inside)) ∙ v .kept;
                 rest = sym (drop-drop n done whole) ∙ turn-rest (drop done whole) mine others within (count - done) n opened within-mine taken ∙ ap (λ (j : ℕ). take j others) ahead;
               }

@@ -9,12 +9,12 @@ use Rattle.volume.specs.Disks.{dataBytes, dataStart}
 use Rattle.volume.specs.Files.{sizeOf, keysOf}
 
 -- the first byte of the data of block k
-abbrev pub dataPlace : Disk → ℕ → ℕ
-dataPlace d k = k * blockBytes + dataStart d
+abbrev pub dataByte : Disk → ℕ → ℕ
+dataByte d k = k * blockBytes + dataStart d
 
 -- the data of block k, and of the blocks ks in order
 abbrev pub dataOf : Disk → List ℕ → ℕ → List ℕ
-dataOf d s k = take (dataBytes d) (drop (dataPlace d k) s)
+dataOf d s k = take (dataBytes d) (drop (dataByte d k) s)
 
 unfoldable pub dataIn : Disk → List ℕ → List ℕ → List ℕ
 dataIn d s [] = []

@@ -26,7 +26,7 @@ pub record Intact (d : Disk) (s : List ℕ) (k : ℕ) : Type 0 where
   pub sum : sumOf s k ≡ 0
 
 -- it is as the law says, with all of its blocks
-pub record Whole (d : Disk) (s : List ℕ) (h : ℕ) : Type 0 where
+pub record FileWhole (d : Disk) (s : List ℕ) (h : ℕ) : Type 0 where
   pub file : File d s h
   pub lists : (k : ℕ) → k ∈ listsOf d s h → Intact d s k
   pub keys : (k : ℕ) → k ∈ keysOf d s h → Intact d s k
@@ -39,7 +39,7 @@ pub record Gives (d : Disk) (s path : List ℕ) (o n m : ℕ) : Type 0 where
   pub size : ℕ
   pub compared : ℕ
   pub found : findOf d s path ≡ found.File key size compared
-  pub whole : Whole d s key
+  pub whole : FileWhole d s key
   pub count : m ≡ min n (size - o)
 
 -- the first m bytes of the output are those from o on, the rest are as before
@@ -74,14 +74,14 @@ pub data BadList (d : Disk) (s : List ℕ) (h j k v : ℕ) : Type 0 where
   list-itself : Inside d k → ListBreaks s k h (blocksOf d s h - slots * suc j) v → BadList d s h j k v
 
 -- its first n data blocks and its first m list blocks are good
-pub record Good (d : Disk) (s : List ℕ) (h n m : ℕ) : Type 0 where
+pub record BlocksGood (d : Disk) (s : List ℕ) (h n m : ℕ) : Type 0 where
   pub keys : (i k c : ℕ) → i < n → IsData d s h i k c → GoodData d s h i k c
   pub lists : (j k : ℕ) → j < m → At j k (listsOf d s h) → GoodList d s h j k
 
 -- Block k is its first bad one, by number v. A list block comes after all data blocks that those before it list, and before its own.
 pub data Fails (d : Disk) (s : List ℕ) (h v k : ℕ) : Type 0 where
-  at-data : (i c : ℕ) → IsData d s h i k c → Good d s h i (i / slots) → BadData d s h i k c v → Fails d s h v k
-  at-list : (j : ℕ) → At j k (listsOf d s h) → Good d s h (slots * suc j) j → BadList d s h j k v → Fails d s h v k
+  at-data : (i c : ℕ) → IsData d s h i k c → BlocksGood d s h i (i / slots) → BadData d s h i k c v → Fails d s h v k
+  at-list : (j : ℕ) → At j k (listsOf d s h) → BlocksGood d s h (slots * suc j) j → BadList d s h j k v → Fails d s h v k
 
 -- ---- a refusal
 

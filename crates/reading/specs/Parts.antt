@@ -5,16 +5,15 @@ use mathlib.Core.List.{List, [], _++_, _∷_, map}
 use lib.ListN.{length}
 use Rattle.reach.specs.References.{_∈_}
 use Rattle.volume.specs.declared.disk.Disk.{Disk}
-use Rattle.volume.specs.Blocks.{keyWord, wordOf}
+use Rattle.volume.specs.Blocks.{wordOf}
 use Rattle.volume.specs.Disks.{fileLimit}
 use Rattle.volume.specs.Files.{keysOf, sizeOf}
 use Rattle.reading.specs.Bytes.{filledBy, part}
 use Rattle.answers.specs.Numbers as fault
 use Rattle.answers.specs.declared.Tested.{Tested}
 use Rattle.answers.specs.declared.Tested.the-variants.{Passed}
-use Rattle.walk.specs.declared.Lister.{Lister}
-use Rattle.walk.specs.Nodes.{keyNodes, list}
-use Rattle.walk.specs.Listings.{Listed, keysIn}
+use Rattle.walk.specs.declared.file.KeyBlock.{KeyBlock}
+use Rattle.walk.specs.KeyBlocks.{nextOf, listNode, dataNodes, InImage, NextReady}
 use Rattle.lookup.specs.declared.find.Found.{Found}
 use Rattle.lookup.specs.declared.find.Found.the-variants as found
 use Rattle.reading.specs.declared.read.Reading.{Reading}
@@ -34,14 +33,15 @@ pub record Followed (d : Disk) (s : List ℕ) (h : ℕ) : Type 0 where
   pub following : map (λ k. wordOf s k 4) (h ∷ keysOf d s h) ≡ keysOf d s h ++ (0 ∷ [])
 
 -- the data blocks of a block that lists keys
-pub record KeysTested (d : Disk) (s : List ℕ) (b : Lister) (r : Tested) : Type 0 where
-  pub told : r ≡ firstFault d s (keyNodes s (b .header) (b .key) (b .done) (b .last) 0 (keysIn d s b))
-  pub keys : r ≡ Passed → (i : ℕ) → i < keysIn d s b → keyWord s (b .key) i < d .blocks
+pub record KeysTested (d : Disk) (s : List ℕ) (b : KeyBlock) (r : Tested) : Type 0 where
+  pub told : r ≡ firstFault d s (dataNodes d s b)
+  pub next : r ≡ Passed → NextReady d s (nextOf s b)
 
 -- a list block and its data blocks
-pub record ListTested (d : Disk) (s : List ℕ) (b : Lister) (r : Tested) : Type 0 where
-  pub told : r ≡ firstFault d s (list (b .key) (b .header) (b .done) (b .last) ∷ keyNodes s (b .header) (b .key) (b .done) (b .last) 0 (keysIn d s b))
-  pub known : r ≡ Passed → Listed d s (b .header) (b .key) (b .done)
+pub record ListTested (d : Disk) (s : List ℕ) (b : KeyBlock) (r : Tested) : Type 0 where
+  pub told : r ≡ firstFault d s (listNode b ∷ dataNodes d s b)
+  pub image : r ≡ Passed → InImage s b
+  pub next : r ≡ Passed → NextReady d s (nextOf s b)
 
 -- what is handed back where no file is found; a file is never handed back
 abbrev pub handed : List ℕ → Found → Reading

@@ -6,6 +6,7 @@ use mathlib.Core.List.{List, [], _∷_, _++_}
 use lib.ListN.{length}
 use Rattle.answers.specs.Numbers as fault
 use Rattle.answers.specs.Refusals.{refusal}
+use Rattle.answers.specs.Answers.{AnswerNumbers, acceptedAs, refusedAs}
 use Rattle.answers.specs.declared.Tested.{Tested}
 use Rattle.answers.specs.declared.Tested.the-variants.{Passed, Failed}
 use Rattle.volume.specs.declared.disk.Disk.{Disk}
@@ -18,15 +19,10 @@ use Rattle.reading.specs.declared.read.Reading.the-variants.{Bytes, Refu
 use Rattle.reading.specs.FileTests.{blocksFault}
 use Rattle.reading.specs.Bytes.{fileBytes, part, filledBy}
 
--- an answer's numbers: 0, 0 and the count where it reads; the refusal's, and 0 for the count
-pub record Numbers : Type 0 where
-  pub number : ℕ
-  pub place : ℕ
-  pub count : ℕ
-
-abbrev pub numbersOf : Reading → Numbers
-numbersOf (Bytes n) = record { number = 0; place = 0; count = n }
-numbersOf (Refused r) = record { number = r .number; place = r .place; count = 0 }
+-- an answer's numbers; its value is how many bytes were copied
+abbrev pub numbersOf : Reading → AnswerNumbers ℕ
+numbersOf (Bytes n) = acceptedAs n
+numbersOf (Refused r) = refusedAs 0 r
 
 -- the numbers of all refusals of a read: the lookup's, and those of the file's own blocks
 abbrev pub readRefusals : List ℕ
@@ -63,13 +59,13 @@ bytesOf d s (found.Directory k c) = []
 bytesOf d s (found.Refused r) = []
 
 -- refused, it stays
-abbrev pub leaves : Disk → List ℕ → List ℕ → ℕ → List ℕ → Reading → List ℕ
-leaves d s path o output (Bytes n) = filledBy (bytesOf d s (findOf d s path)) o output
-leaves d s path o output (Refused r) = output
+abbrev pub outputAfter : Disk → List ℕ → List ℕ → ℕ → List ℕ → Reading → List ℕ
+outputAfter d s path o output (Bytes n) = filledBy (bytesOf d s (findOf d s path)) o output
+outputAfter d s path o output (Refused r) = output
 
 -- ---- the promise: the answer is said also by its numbers
 
 pub record Reads (d : Disk) (s path : List ℕ) (o : ℕ) (output : List ℕ) (r : Reading) (output′ : List ℕ) : Type 0 where
   pub answer : r ≡ readOf d s path o (length output)
   pub numbers : numbersOf r ≡ numbersOf (readOf d s path o (length output))
-  pub left : output′ ≡ leaves d s path o output r
+  pub left : output′ ≡ outputAfter d s path o output r

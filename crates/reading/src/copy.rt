@@ -2,26 +2,21 @@
 use volume::block::Block;
 use volume::block::word_of;
 use volume::disk::Disk;
+use words::least;
 ghost use mathlib.Core.Path.{_≡_};
-ghost use Prim.Native.Nat.{_+_, _-_, _/_, _≤_, _<_, min};
+ghost use Prim.Native.Nat.{_+_, _-_, _/_, _≤_, _<_};
 ghost use lib.ListN.{length, getD, drop};
 ghost use lib.Seq.{paste};
 ghost use Rattle.volume.specs.Disks.{Sized, imageBytes, dataBytes};
 ghost use Rattle.volume.specs.Files.{sizeOf, keysOf};
-ghost use Rattle.reading.specs.Bytes.{dataPlace, fileBytes};
+ghost use Rattle.reading.specs.Bytes.{dataByte, fileBytes};
 ghost use Rattle.reading.specs.Parts.{Followed, Copied};
 
 // The first byte of a data block's data.
-fn data_place(disk: Disk, key: u32) -> usize
-    ensures { λ r. ⌜ r ≡ dataPlace disk key ⌝ }
+fn data_byte(disk: Disk, key: u32) -> usize
+    ensures { λ r. ⌜ r ≡ dataByte disk key ⌝ }
 {
-    Block::place(key, 0) + Block::DATA_START
-}
-
-fn least(a: usize, b: usize) -> usize
-    ensures { λ r. ⌜ r ≡ min a b ⌝ }
-{
-    if a <= b { a } else { b }
+    Block::byte(key, 0) + Block::DATA_START
 }
 
 // The bytes of a file from `offset` on.
@@ -84,7 +79,7 @@ pub(crate) fn copy_file(
     let mut done = 0;
     while done < count {
         let n = least(bytes - within, count - done);
-        copy_bytes(image, data_place(disk, key) + within, output, done, n);
+        copy_bytes(image, data_byte(disk, key) + within, output, done, n);
         key = word_of(image, key, Block::FOLLOWING);
         within = 0;
         done += n;

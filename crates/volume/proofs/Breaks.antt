@@ -17,9 +17,9 @@ use Rattle.volume.specs.Disks.{rootOf, fileLimit, inRange, firstKey}
 use Rattle.volume.specs.Blocks.{slots, wordOf, sumOf, directory}
 use Rattle.volume.specs.Names.{nameOf, nameGood, slotOf}
 use Rattle.volume.specs.Files.{heldOf, sizeOf, blocksOf}
-use Rattle.volume.specs.Law.{RootKind, RootFixed, OneBitmap, Valid, EntryKind, Lists, ListKind}
+use Rattle.volume.specs.Law.{RootKind, RootFixed, OneBitmap, Valid, EntryKind, KeyCount, ListKind}
 use Rattle.volume.specs.Rules.{rootWords, rootFault, allZero, mapFault, bitmapFault, entryWords, entryName, entryFault, countRules, emptyRules, fileFault, listFault, dataLinks, dataFault}
-use Rattle.volume.specs.Breaks.{Inside, RootSound, RootBreaks, root-7, root-8, root-4, root-11, MapBreaks, map-16, BitmapBreaks, bitmap-7, EntryTies, Placed, EntryBreaks, entry-7, entry-8, entry-9, entry-10, entry-11, entry-12, HeaderSound, HeaderBreaks, header-14, ListSound, ListBreaks, list-7, list-8, list-10, list-14, DataTies, DataBreaks, data-7, data-8, data-15}
+use Rattle.volume.specs.Breaks.{Inside, RootSound, RootBreaks, root-7, root-8, root-4, root-11, MapBreaks, map-16, BitmapBreaks, bitmap-7, EntryTies, EntrySound, EntryBreaks, entry-7, entry-8, entry-9, entry-10, entry-11, entry-12, HeaderSound, HeaderBreaks, header-14, ListSound, ListBreaks, list-7, list-8, list-10, list-14, DataTies, DataBreaks, data-7, data-8, data-15}
 use Rattle.volume.proofs.Sizes.{range-is}
 use Rattle.volume.proofs.Checks.{is, be, is-not, be-not, test-at, _&_, zeros-there, zeros-found, Test, broken, breaks, down, fall, on, last, word-test, sum-test, name-test, bad-name, not-good, some, among}
 
@@ -256,10 +256,10 @@ module _ (d : Disk) (s : List ℕ) (k t i : ℕ) where
   entry-breaks v = ((λ h. entry-broken v (h .1) (h .0)), entry-fault v)
 
   -- and it passes if and only if it is as the law says
-  pub entry-sound : (entryFault d s k t i ≡ 0) ↔ Placed d s k t i
+  pub entry-sound : (entryFault d s k t i ≡ 0) ↔ EntrySound d s k t i
   entry-sound = (passed′, λ h. past (h .sum) (h .entry .kind) (on ties-test _ (record { own = h .entry .own; parent = h .parent; link = h .link }) (on (name-test s k) _ (h .entry .name) (slot-test .passes (h .slot)))))
     where
-      passed′ : entryFault d s k t i ≡ 0 → Placed d s k t i
+      passed′ : entryFault d s k t i ≡ 0 → EntrySound d s k t i
       passed′ e =
           let a = first-zero _ _ (sym entry-order ∙ e) in
           let b = first-zero _ _ (a .1) in
@@ -295,7 +295,7 @@ module _ (s : List ℕ) (k n : ℕ) where
       go true h = pick-true (leb n slots) _ _ _ h refl ∙ be _ _ 14 (f .1 (leb-true n slots h))
       go false h = pick-false (leb n slots) _ _ _ h refl ∙ be-not _ _ 14 (λ z. omega (arith, leb-false n slots h, f .0 z))
 
-  lists-test : Test 14 (tests (countRules s k n)) (Lists s k n)
+  lists-test : Test 14 (tests (countRules s k n)) (KeyCount s k n)
   lists-test =
       record {
         gives = search given depth 8;

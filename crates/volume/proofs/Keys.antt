@@ -1,4 +1,4 @@
--- The keys that a block lists, place by place; a file has as many data keys as data blocks. Assumes nothing.
+-- The keys that a block lists, one by one; a file has as many data keys as data blocks. Assumes nothing.
 use Prim.Native.Nat.{ℕ, zero, suc, _+_, _-_, _*_, _<_, min}
 use mathlib.Core.Path.{_≡_, refl, ap, _∙_}
 use mathlib.Core.List.{List, [], _∷_}

@@ -7,10 +7,10 @@ use Rattle.volume.specs.declared.disk.Disk.{Disk}
 use Rattle.volume.specs.Disks.{rootOf, fileLimit}
 use Rattle.volume.specs.Blocks.{wordOf, sumOf}
 use Rattle.volume.specs.Files.{sizeOf, blocksOf}
-use Rattle.volume.specs.Law.{Root, Valid, Lists, ListBlock, DataBlock}
+use Rattle.volume.specs.Law.{Root, Valid, KeyCount, ListBlock, DataBlock}
 use Rattle.volume.specs.Rules.{rootFault, mapFault, bitmapFault, entryFault, fileFault, listFault, dataFault}
 -- an entry that passes is placed
-pub use Rattle.volume.specs.Breaks.{Placed}
+pub use Rattle.volume.specs.Breaks.{EntrySound}
 pub use Rattle.volume.proofs.Checks.{_&_}
 use Rattle.volume.proofs.Checks.{sum-test}
 use Rattle.volume.proofs.Breaks.{root-sound, map-sound, entry-sound, header-sound, list-sound, data-sound}
@@ -43,19 +43,19 @@ bitmap-passed s k = (sum-test s k .passed, sum-test s k .passes)
 -- ---- an entry
 
 module _ (d : Disk) (s : List ℕ) (k t i : ℕ) where
-  pub entry-passed : entryFault d s k t i ≡ 0 → Placed d s k t i
+  pub entry-passed : entryFault d s k t i ≡ 0 → EntrySound d s k t i
   entry-passed = entry-sound d s k t i .0
 
-  pub entry-passes : Placed d s k t i → entryFault d s k t i ≡ 0
+  pub entry-passes : EntrySound d s k t i → entryFault d s k t i ≡ 0
   entry-passes = entry-sound d s k t i .1
 
 -- ---- a list block
 
 module _ (s : List ℕ) (k h n : ℕ) where
-  pub list-passed : listFault s k h n ≡ 0 → (sumOf s k ≡ 0) × ListBlock s h k × Lists s k n
+  pub list-passed : listFault s k h n ≡ 0 → (sumOf s k ≡ 0) × ListBlock s h k × KeyCount s k n
   list-passed e = let p = list-sound s k h n .0 e in (p .sum, p .block, p .lists)
 
-  pub list-passes : (sumOf s k ≡ 0) × ListBlock s h k × Lists s k n → listFault s k h n ≡ 0
+  pub list-passes : (sumOf s k ≡ 0) × ListBlock s h k × KeyCount s k n → listFault s k h n ≡ 0
   list-passes p = list-sound s k h n .1 (record { sum = p .0; block = p .1; lists = p .2 })
 
 -- ---- a file's own tests
@@ -64,10 +64,10 @@ module _ (d : Disk) (s : List ℕ) (k : ℕ) where
   abbrev n : ℕ
   n = blocksOf d s k
 
-  pub file-passed : fileFault d s k ≡ 0 → (sizeOf s k ≤ fileLimit d) × Lists s k n × (n ≡ 0 → wordOf s k 4 ≡ 0)
+  pub file-passed : fileFault d s k ≡ 0 → (sizeOf s k ≤ fileLimit d) × KeyCount s k n × (n ≡ 0 → wordOf s k 4 ≡ 0)
   file-passed e = let p = header-sound d s k .0 e in (p .size, p .lists, p .empty)
 
-  pub file-passes : (sizeOf s k ≤ fileLimit d) × Lists s k n × (n ≡ 0 → wordOf s k 4 ≡ 0) → fileFault d s k ≡ 0
+  pub file-passes : (sizeOf s k ≤ fileLimit d) × KeyCount s k n × (n ≡ 0 → wordOf s k 4 ≡ 0) → fileFault d s k ≡ 0
   file-passes p = header-sound d s k .1 (record { size = p .0; lists = p .1; empty = p .2 })
 
 -- ---- data block n of the file h

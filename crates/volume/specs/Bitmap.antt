@@ -7,13 +7,13 @@ use lib.Dec.{eqb}
 use Rattle.volume.specs.Blocks.{wordOf}
 use Rattle.volume.specs.Disks.{firstKey}
 
--- the word that has block k's bit, and the bit's place in it
+-- the word that has block k's bit, and the bit's number in it, from the lowest
 abbrev pub bitWord : ℕ → ℕ
 bitWord k = 1 + (k - firstKey) / 32
 
-abbrev pub bitPlace : ℕ → ℕ
-bitPlace k = (k - firstKey) % 32
+abbrev pub bitNumber : ℕ → ℕ
+bitNumber k = (k - firstKey) % 32
 
--- the bitmap block `page` says that block k is free
+-- the bitmap block `bitmap` says that block k is free
 unfoldable pub isFree : List ℕ → ℕ → ℕ → Bool
-isFree s page k = eqb (wordOf s page (bitWord k) / 2 ^ bitPlace k % 2) 1
+isFree s bitmap k = eqb (wordOf s bitmap (bitWord k) / 2 ^ bitNumber k % 2) 1

@@ -12,7 +12,7 @@ use Rattle.volume.specs.Disks.{firstKey, rootOf, fileLimit}
 use Rattle.volume.specs.Blocks.{slots, wordOf, sumOf, directory, headerType, dataType, softLink, directoryLink, fileLink}
 use Rattle.volume.specs.Names.{nameOf, nameGood, slotOf}
 use Rattle.volume.specs.Files.{sizeOf, blocksOf, keysOf}
-use Rattle.volume.specs.Law.{RootKind, RootFixed, OneBitmap, Valid, EntryKind, Entry, Lists, ListKind, ListBlock, DataBlock}
+use Rattle.volume.specs.Law.{RootKind, RootFixed, OneBitmap, Valid, EntryKind, Entry, KeyCount, ListKind, ListBlock, DataBlock}
 
 -- ---- a key: 5 if it lies outside the volume
 
@@ -59,7 +59,7 @@ pub record EntryTies (s : List ℕ) (k t : ℕ) : Type 0 where
   pub link : directory s k ≡ true → wordOf s k 126 ≡ 0
 
 -- all of it
-pub record Placed (d : Disk) (s : List ℕ) (k t i : ℕ) : Type 0 where
+pub record EntrySound (d : Disk) (s : List ℕ) (k t i : ℕ) : Type 0 where
   pub sum : sumOf s k ≡ 0
   pub entry : Entry s k
   pub parent : wordOf s k 125 ≡ t
@@ -80,7 +80,7 @@ pub data EntryBreaks (d : Disk) (s : List ℕ) (k t i v : ℕ) : Type 0 where
 -- its size, w2 and w126, and w4 of an empty file
 pub record HeaderSound (d : Disk) (s : List ℕ) (h : ℕ) : Type 0 where
   pub size : sizeOf s h ≤ fileLimit d
-  pub lists : Lists s h (blocksOf d s h)
+  pub lists : KeyCount s h (blocksOf d s h)
   pub empty : blocksOf d s h ≡ 0 → wordOf s h 4 ≡ 0
 
 pub data HeaderBreaks (d : Disk) (s : List ℕ) (h v : ℕ) : Type 0 where
@@ -92,13 +92,13 @@ pub data HeaderBreaks (d : Disk) (s : List ℕ) (h v : ℕ) : Type 0 where
 pub record ListSound (s : List ℕ) (k h n : ℕ) : Type 0 where
   pub sum : sumOf s k ≡ 0
   pub block : ListBlock s h k
-  pub lists : Lists s k n
+  pub lists : KeyCount s k n
 
 pub data ListBreaks (s : List ℕ) (k h n v : ℕ) : Type 0 where
   list-7 : sumOf s k ≢ 0 → v ≡ fault.blockSum → ListBreaks s k h n v
   list-8 : sumOf s k ≡ 0 → (ListKind s k → ⊥) → v ≡ fault.blockType → ListBreaks s k h n v
   list-10 : sumOf s k ≡ 0 → ListKind s k → (ListBlock s h k → ⊥) → v ≡ fault.wrongTies → ListBreaks s k h n v
-  list-14 : sumOf s k ≡ 0 → ListBlock s h k → (Lists s k n → ⊥) → v ≡ fault.fileLayout → ListBreaks s k h n v
+  list-14 : sumOf s k ≡ 0 → ListBlock s h k → (KeyCount s k n → ⊥) → v ≡ fault.fileLayout → ListBreaks s k h n v
 
 -- ---- data block n of the file h, block k; `named` is the w4 of the block before it: 7, 8, 15
 

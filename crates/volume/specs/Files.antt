@@ -26,7 +26,7 @@ listBlocks n = (n - 1) / slots
 abbrev pub lastKeys : ℕ → ℕ
 lastKeys n = n - slots * listBlocks n
 
--- n keys that block b lists, from its place i on
+-- n keys that block b lists, from its key i on
 unfoldable pub keysDown : List ℕ → ℕ → ℕ → ℕ → List ℕ
 keysDown s b i zero = []
 keysDown s b i (suc n) = keyWord s b i ∷ keysDown s b (suc i) n

@@ -54,7 +54,7 @@ unfoldable pub after : List ℕ → ℕ → ℕ
 after s zero = 0
 after s (suc k) = wordOf s (suc k) 124
 
--- the key at a place of the chain that begins with key k; 0 after its end
+-- the key at a position of the chain that begins with key k; 0 after its end
 unfoldable pub chainKey : List ℕ → ℕ → ℕ → ℕ
 chainKey s k zero = k
 chainKey s k (suc p) = after s (chainKey s k p)
@@ -62,8 +62,8 @@ chainKey s k (suc p) = after s (chainKey s k p)
 -- entry k hangs on the chain of slot i of directory t
 pub record Hangs (s : List ℕ) (t i k : ℕ) : Type 0 where
   pub slot : i < slots
-  pub place : ℕ
-  pub there : chainKey s (slotWord s t i) place ≡ k
+  pub position : ℕ
+  pub there : chainKey s (slotWord s t i) position ≡ k
   pub some : k ≢ 0
 
 -- ---- a directory, block t, the root too: its entries know it, hang in their own names' slots, and no two have equal folded names
@@ -76,7 +76,7 @@ pub record Directory (d : Disk) (s : List ℕ) (t : ℕ) : Type 0 where
 -- ---- a file, by its header h
 
 -- block b lists keys, n of them still to come
-pub record Lists (s : List ℕ) (b n : ℕ) : Type 0 where
+pub record KeyCount (s : List ℕ) (b n : ℕ) : Type 0 where
   pub count : wordOf s b 2 ≡ keysHere n
   pub more : (wordOf s b 126 ≡ 0) ↔ (n ≤ slots)
 
@@ -98,8 +98,8 @@ pub record DataBlock (d : Disk) (s : List ℕ) (h n k : ℕ) : Type 0 where
 
 pub record File (d : Disk) (s : List ℕ) (h : ℕ) : Type 0 where
   pub size : sizeOf s h ≤ fileLimit d
-  -- the header and the list blocks, place by place
-  pub listing : (i b : ℕ) → At i b (h ∷ listsOf d s h) → Lists s b (blocksOf d s h - slots * i)
+  -- the header and the list blocks, one by one
+  pub counts : (i b : ℕ) → At i b (h ∷ listsOf d s h) → KeyCount s b (blocksOf d s h - slots * i)
   pub lists : (b : ℕ) → b ∈ listsOf d s h → ListBlock s h b
   pub blocks : (i k : ℕ) → At i k (keysOf d s h) → DataBlock d s h (suc i) k
   -- w4 of the header and of each data block is the key of the data block that follows, and 0 in the last

@@ -31,15 +31,15 @@ slotRefs s k i zero = []
 slotRefs s k i (suc n) = link entry (slotWord s k i) ++ slotRefs s k (suc i) n
 
 -- the data keys that a header or a list block counts in w2, and its list link
-abbrev pub listed : List ℕ → ℕ → List Ref
-listed s k = map (to datum) (keysDown s k 0 (wordOf s k 2)) ++ link list (wordOf s k 126)
+abbrev pub keyRefs : List ℕ → ℕ → List Ref
+keyRefs s k = map (to datum) (keysDown s k 0 (wordOf s k 2)) ++ link list (wordOf s k 126)
 
 -- the references of block k, asked for as a kind
 unfoldable pub refersTo : List ℕ → Kind → ℕ → List Ref
 refersTo s root k = to bitmap (wordOf s k 79) ∷ slotRefs s k 0 slots
 refersTo s bitmap k = []
-refersTo s entry k = pick (directory s k) (slotRefs s k 0 slots) (listed s k) ++ link entry (wordOf s k 124)
-refersTo s list k = listed s k
+refersTo s entry k = pick (directory s k) (slotRefs s k 0 slots) (keyRefs s k) ++ link entry (wordOf s k 124)
+refersTo s list k = keyRefs s k
 refersTo s datum k = []
 
 abbrev pub references : Disk → List ℕ → References Ref

@@ -5,7 +5,7 @@ use mathlib.Core.List.{List, [], _∷_, map}
 use Rattle.volume.specs.declared.disk.Disk.{Disk}
 use Rattle.volume.specs.Names.{slotOf}
 use Rattle.volume.specs.Files.{dataBlocks, keysHere, listBlocks, lastKeys}
-use Rattle.volume.specs.Bitmap.{bitWord, bitPlace}
+use Rattle.volume.specs.Bitmap.{bitWord, bitNumber}
 
 -- what is asked: the slot of a name, the bit of a block, the blocks of a size
 pub data Star : Type 0 where
@@ -16,7 +16,7 @@ pub data Star : Type 0 where
 -- a slot; a word of the bitmap and a bit; data blocks, keys in the header, list blocks, and keys in the last block that lists any
 unfoldable pub answer : Disk → Star → List ℕ
 answer d (slot name) = slotOf d name ∷ []
-answer d (bit k) = bitWord k ∷ bitPlace k ∷ []
+answer d (bit k) = bitWord k ∷ bitNumber k ∷ []
 answer d (size z) = dataBlocks d z ∷ keysHere (dataBlocks d z) ∷ listBlocks (dataBlocks d z) ∷ lastKeys (dataBlocks d z) ∷ []
 
 pub record Case : Type 0 where

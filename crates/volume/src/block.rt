@@ -34,7 +34,7 @@ impl Block {
     pub const FIRST_SLOT: usize = 6;
 
     // Data keys go downward from here.
-    pub const FIRST_KEY: usize = 77;
+    pub const DATA_KEYS: usize = 77;
 
     pub const MAP_VALID: usize = 78;
 
@@ -91,7 +91,7 @@ impl Block {
     }
 
     // The first byte of word w of a block.
-    pub fn place(key: u32, w: usize) -> usize
+    pub fn byte(key: u32, w: usize) -> usize
         requires { ⌜ w < blockWords ⌝ }
         ensures { λ r. ⌜ r ≡ key * blockBytes + 4 * w ⌝ }
     {
@@ -104,7 +104,7 @@ pub fn word_of(image: &[u8], key: u32, w: usize) -> u32
     requires { ⌜ (w < blockWords) × Holds (now image) key ⌝ }
     ensures { λ r. ⌜ r ≡ wordOf (now (image .entry)) key w ⌝ }
 {
-    words::word(image, Block::place(key, w))
+    words::word(image, Block::byte(key, w))
 }
 
 // The sum of a block.

@@ -43,7 +43,7 @@ pub fn key_of(image: &[u8], key: u32, i: usize) -> u32
     requires { ⌜ (i < slots) × Holds (now image) key ⌝ }
     ensures { λ r. ⌜ r ≡ keyWord (now (image .entry)) key i ⌝ }
 {
-    word_of(image, key, Block::FIRST_KEY - i)
+    word_of(image, key, Block::DATA_KEYS - i)
 }
 
 // A block that lists keys, n of them still to come.

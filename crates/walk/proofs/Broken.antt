@@ -28,7 +28,7 @@ use Rattle.walk.proofs.Lists.{at-left, at-end}
 use Rattle.walk.proofs.Passes.{InTree, hung-passed}
 use Rattle.walk.proofs.Accepts.{node-reached}
 use Rattle.walk.proofs.Spreads.{spread-first, file-spreads}
-use Rattle.walk.proofs.Lawful.{held-by, tree-fine}
+use Rattle.walk.proofs.Lawful.{held-by, tree-passes}
 
 module _ (d : Disk) (s : List ℕ) (v : Tree d s) where
   -- ---- w0 and w127
@@ -42,7 +42,7 @@ module _ (d : Disk) (s : List ℕ) (v : Tree d s) where
   node-kind (datum k b n c) h = data-passed d s k b n (wordOf s c 4) h .1 .type
 
   kind-right : (a : Kind) (k : ℕ) → Reached (references d s) (to a k) → KindRight s k a
-  kind-right a k r = let w = node-reached d s (tree-fine d s v) r in subst (λ (x : Ref). KindRight s (x .key) (x .kind)) (sym (w .2)) (node-kind (w .0) (tree-fine d s v (w .0) (w .1) .1))
+  kind-right a k r = let w = node-reached d s (tree-passes d s v) r in subst (λ (x : Ref). KindRight s (x .key) (x .kind)) (sym (w .2)) (node-kind (w .0) (tree-passes d s v (w .0) (w .1) .1))
 
   no-link : (k : ℕ) → Entry s k → Link s k → ⊥
   no-link k h l = go (h .kind .kind) (l .kind)
@@ -68,7 +68,7 @@ module _ (d : Disk) (s : List ℕ) (v : Tree d s) where
       record { size = w .0; lists = rw sub-zero at (spread-first d s h (listBlocks (blocksOf d s h)) h 0 h (w .2) .0); empty = w .1 }
 
   module _ (h i c k : ℕ) (f : FileAt d s h) (here : At i k (keysOf d s h)) (last : At i c (h ∷ keysOf d s h)) where
-    -- what stands at a place among the w4 words
+    -- what stands at a position among the w4 words
     follows : (j x y : ℕ) → At j x (h ∷ keysOf d s h) → At j y (keysOf d s h ++ (0 ∷ [])) → wordOf s x 4 ≡ y
     follows j x y a b =
         at-one j (keysOf d s h ++ (0 ∷ [])) (subst (At j (wordOf s x 4)) (file h f .following) (at-map (λ k. wordOf s k 4) j x (h ∷ keysOf d s h) a)) b
@@ -99,7 +99,7 @@ module _ (d : Disk) (s : List ℕ) (v : Tree d s) where
   cause-breaks u n k (number-12 t i g h q) = h (held-by d s v t (g .holder) .slot i k (g .hangs))
   cause-breaks u n k (number-13 t i l g g′ o w e q) = w (held-by d s v t (g .holder) .names i i l k g′ (g .hangs) e)
   cause-breaks u n k (number-14 f h q) = h (header k f)
-  cause-breaks u n k (number-14-list b i f a h q) = h (file b f .listing (suc i) k a)
+  cause-breaks u n k (number-14-list b i f a h q) = h (file b f .counts (suc i) k a)
   cause-breaks u n k (number-15 b i c f a h q) = h (ties b i c k f (a .here) (a .before))
   cause-breaks u n k (number-16 e (inl h) q) = h u
   cause-breaks u n k (number-16 e (inr h) q) = h (subst (OneBitmap s) (sym e) (v .top .rest))

@@ -11,7 +11,7 @@ use Rattle.answers.proofs.Members.{unlisted}
 use Rattle.reach.specs.References.{At, _∈_, Reached, top, ref}
 use Rattle.reach.specs.Walk.{refused}
 use Rattle.reach.specs.Visits.{Judged, early, twice, late}
-use Rattle.reach.specs.Law.{pruned, Place, Twice}
+use Rattle.reach.specs.Law.{pruned, Referral, Twice}
 use Rattle.reach.proofs.Lists.{at-map, in-at, in-either}
 use Rattle.reach.proofs.Refuses.{why}
 use Rattle.reach.proofs.Pruned.{pruned-refs, pruned-at, pruned-same}
@@ -20,11 +20,11 @@ use Rattle.volume.specs.Disks.{rootOf}
 use Rattle.volume.specs.Blocks.{slots, wordOf, slotWord, directory}
 use Rattle.volume.specs.Files.{keysHere, blocksOf, listsOf}
 use Rattle.volume.specs.References.{Kind, to, references}
-use Rattle.volume.specs.Law.{chainKey, Hangs, Lists, EntryKind}
+use Rattle.volume.specs.Law.{chainKey, Hangs, KeyCount, EntryKind}
 use Rattle.volume.specs.Breaks.{Link, DataTies, root-7, root-8, root-4, root-11, map-16, bitmap-7, entry-7, entry-8, entry-9, entry-10, entry-11, entry-12, header-14, ListBreaks, list-7, list-8, list-10, list-14, DataBreaks, data-7, data-8, data-15}
 use Rattle.volume.proofs.Checks.{among}
 use Rattle.volume.proofs.Given.{rootRefusals, entryRefusals, headerRefusals, listRefusals, dataRefusals, root-number, entry-number, header-number, list-number, data-number}
-use Rattle.walk.specs.Nodes.{Node, root, bitmap, entry, list, datum, keyOf, bare, chained, slotNodes, before, keyNodes, listing, listed, contents, leadsTo, keyFault, faultOf, nothing, graph, walkOf}
+use Rattle.walk.specs.Nodes.{Node, root, bitmap, entry, list, datum, keyOf, bare, chained, slotNodes, before, keyNodes, listLink, keyBlockNodes, contents, leadsTo, keyFault, faultOf, nothing, graph, walkOf}
 use Rattle.walk.specs.Refusals.{NodeBreaks, Fails, outside, again, breaks, Visited, start, step, FirstRefusal, Hung, Cause, number-4, number-5, number-6, number-7, number-8, number-9, number-10, number-10-list, number-11, number-12, number-13, number-14, number-14-list, number-15, number-16}
 use Rattle.walk.proofs.Nodes.{in-linked, in-slots, in-keys}
 use Rattle.walk.proofs.Passes.{file-kind, in-tree}
@@ -36,7 +36,7 @@ use Rattle.walk.proofs.Refuses.{out-key, fault-says, not-passes, refuse
 module _ (d : Disk) (s : List ℕ) where
   -- ---- what it says of the volume
 
-  -- the places before an entry on its chain have other keys
+  -- the positions before an entry on its chain have other keys
   abbrev Alone : Node → Type 0
   Alone root = Unit {0}
   Alone (bitmap k) = Unit {0}
@@ -55,7 +55,7 @@ module _ (d : Disk) (s : List ℕ) where
   node-says (entry k t i p) v r c o b = go b
     where
       hangs : Hangs s t i k
-      hangs = record { slot = c .1; place = p; there = c .2; some = c .3 }
+      hangs = record { slot = c .1; position = p; there = c .2; some = c .3 }
 
       hung : Hung d s t i k
       hung = record { reached = r; holder = c .0; hangs = hangs }
@@ -73,7 +73,7 @@ module _ (d : Disk) (s : List ℕ) where
       go (inl (entry-12 a x y z e)) = number-12 t i hung z e
       go (inr (inl (a, (q, l, f), e))) =
           number-13 t i (chainKey s (slotWord s t i) q) hung
-          (record { slot = c .1; place = q; there = refl; some = chain-some s (slotWord s t i) p q (omega arith) (λ z. c .3 (sym (c .2) ∙ z)) }) l (o q l) f e
+          (record { slot = c .1; position = q; there = refl; some = chain-some s (slotWord s t i) p q (omega arith) (λ z. c .3 (sym (c .2) ∙ z)) }) l (o q l) f e
       go (inr (inr (a, w, q, header-14 x e))) = number-14 (record { reached = r; kind = file-kind d s k (a .entry) q }) x e
   node-says (list k h m x) v r c o b = go b
     where
@@ -87,7 +87,7 @@ module _ (d : Disk) (s : List ℕ) where
       go (list-7 a e) = number-7 Kind.list r a e
       go (list-8 a y e) = number-8 Kind.list r y e
       go (list-10 a y z e) = number-10-list h n (c .0) at y z e
-      go (list-14 a y z e) = number-14-list h n (c .0) at (subst (λ w. Lists s k (blocksOf d s h - w) → ⊥) (c .1 .1) z) e
+      go (list-14 a y z e) = number-14-list h n (c .0) at (subst (λ w. KeyCount s k (blocksOf d s h - w) → ⊥) (c .1 .1) z) e
   node-says (datum k h n x) v r c o b = go b
     where
       f : InFile d s h n k x
@@ -98,9 +98,9 @@ module _ (d : Disk) (s : List ℕ) where
       go (data-8 a y e) = number-8 Kind.datum r y e
       go (data-15 a y z e) = number-15 h (f .index) x (c .0) (f .is) (subst (λ w. DataTies d s k h w (wordOf s x 4) → ⊥) (f .number) z) e
 
-  -- two places among nodes that pass are two places of blocks
-  bare-place : (k : ℕ) → Place (pruned (graph d s) .references) k → Place (references d s) k
-  bare-place k p =
+  -- two references among nodes that pass are two references among blocks
+  bare-referral : (k : ℕ) → Referral (pruned (graph d s) .references) k → Referral (references d s) k
+  bare-referral k p =
       let a = pruned-at (graph d s) (p .nth) (p .from) (p .to) (p .stands) in
       record {
         from = bare d (p .from);
@@ -112,9 +112,9 @@ module _ (d : Disk) (s : List ℕ) where
       }
 
   bare-twice : (k : ℕ) → Twice (pruned (graph d s) .references) k → Twice (references d s) k
-  unfolding bare-place
-  bare-twice k (p, inl e) = (bare-place k p, inl e)
-  bare-twice k (p, inr (q, w)) = (bare-place k p, inr (bare-place k q, λ h. w (sym (key-bare d s (p .from)) ∙ h .0 ∙ key-bare d s (q .from), h .1)))
+  unfolding bare-referral
+  bare-twice k (p, inl e) = (bare-referral k p, inl e)
+  bare-twice k (p, inr (q, w)) = (bare-referral k p, inr (bare-referral k q, λ h. w (sym (key-bare d s (p .from)) ∙ h .0 ∙ key-bare d s (q .from), h .1)))
 
   -- ---- what the walk comes to is met, and stands alone
 
@@ -140,19 +140,19 @@ module _ (d : Disk) (s : List ℕ) where
   slots-earlier : (seen : List Node) (t : ℕ) (x : Node) → x ∈ slotNodes s t 0 slots → Earlier seen x
   slots-earlier seen t x a = let r = in-slots s t 0 slots x a in subst (Earlier seen) (sym (r .2 .1)) (λ q l. absurd (omega arith))
 
-  listed-earlier : (seen : List Node) (h b m c : ℕ) (x : Node) → x ∈ listed d s h b m c → Earlier seen x
-  listed-earlier seen h b m c x a = go (in-either x (keyNodes s h b m c 0 n) (listing (wordOf s b 126) h (m + n) (before s b c n)) a)
+  nodes-earlier : (seen : List Node) (h b m c : ℕ) (x : Node) → x ∈ keyBlockNodes d s h b m c → Earlier seen x
+  nodes-earlier seen h b m c x a = go (in-either x (keyNodes s h b m c 0 n) (listLink (wordOf s b 126) h (m + n) (before s b c n)) a)
     where
       n : ℕ
       n = keysHere (blocksOf d s h - m)
 
-      go : (x ∈ keyNodes s h b m c 0 n) ⊎ (x ∈ listing (wordOf s b 126) h (m + n) (before s b c n)) → Earlier seen x
+      go : (x ∈ keyNodes s h b m c 0 n) ⊎ (x ∈ listLink (wordOf s b 126) h (m + n) (before s b c n)) → Earlier seen x
       go (inl a) = subst (Earlier seen) (sym (in-keys s h b m c 0 n x a .3)) tt
       go (inr a) = subst (Earlier seen) (sym (in-linked (wordOf s b 126) (λ k. list k h (m + n) (before s b c n)) x a .1)) tt
 
   contents-earlier : (seen : List Node) (k : ℕ) (b : Bool) (x : Node) → x ∈ contents d s k b → Earlier seen x
   contents-earlier seen k true x a = slots-earlier seen k x a
-  contents-earlier seen k false x a = listed-earlier seen k k 0 k x a
+  contents-earlier seen k false x a = nodes-earlier seen k k 0 k x a
 
   -- what a node leads to
   led : (seen : List Node) (n : Node) → Stood d s n → Earlier seen n → (x : Node) → x ∈ leadsTo d s n → Earlier (n ∷ seen) x
@@ -169,7 +169,7 @@ module _ (d : Disk) (s : List ℕ) where
       go : (x ∈ contents d s k (directory s k)) ⊎ (x ∈ chained (wordOf s k 124) t i (suc p)) → Earlier (entry k t i p ∷ seen) x
       go (inl a) = contents-earlier (entry k t i p ∷ seen) k (directory s k) x a
       go (inr a) = subst (Earlier (entry k t i p ∷ seen)) (sym (in-linked (wordOf s k 124) (λ k. entry k t i (suc p)) x a .1)) (λ q l. upto q l (decLt q p))
-  led seen (list k b m c′) c h x a = listed-earlier (list k b m c′ ∷ seen) b k m c′ x a
+  led seen (list k b m c′) c h x a = nodes-earlier (list k b m c′ ∷ seen) b k m c′ x a
   led seen (datum k b n c′) c h x a = absurd a
 
   both-pass : (seen : List Node) (n : Node) → Judged (graph d s) seen n 0 → (keyFault d (keyOf d n) ≡ 0) × (faultOf d s n ≡ 0)

@@ -13,12 +13,12 @@ use Rattle.volume.specs.Blocks.{slots, wordOf, slotWord, directory}
 use Rattle.volume.specs.Files.{listBlocks, blocksOf}
 use Rattle.volume.specs.References.{Kind, to, references}
 use Rattle.volume.specs.Law.{chainKey, ListBlock, File}
-use Rattle.walk.specs.Nodes.{Node, root, bitmap, entry, list, datum, bare, chained, slotNodes, before, keyNodes, listing, listed, contents, leadsTo}
+use Rattle.walk.specs.Nodes.{Node, root, bitmap, entry, list, datum, bare, chained, slotNodes, before, keyNodes, listLink, keyBlockNodes, contents, leadsTo}
 use Rattle.walk.proofs.Nodes.{in-linked, in-slots, in-keys}
 use Rattle.walk.proofs.Chains.{chain-next}
 use Rattle.walk.proofs.Spreads.{Follows, Spread, here, spread-first, file-spreads}
-use Rattle.walk.proofs.Listed.{Sound, run-listed}
-use Rattle.walk.proofs.Places.{Holder}
+use Rattle.walk.proofs.KeyRuns.{DataSound, run-nodes}
+use Rattle.walk.proofs.Positions.{Holder}
 
 module _ (d : Disk) (s : List ℕ) where
   abbrev pub Coherent : Node → Type 0
@@ -43,11 +43,11 @@ module _ (d : Disk) (s : List ℕ) where
         let g : j ≡ listBlocks (blocksOf d s h - (m + n)) = omega (arith, e, f) in
         (p .2, subst (λ y. Spread d s h y (wordOf s b 126) (m + n) (before s b c n)) g (p .3))
 
-    listed-coherent : (x : Node) → x ∈ listed d s h b m c → Coherent x
-    listed-coherent x a = go (in-either x (keyNodes s h b m c 0 n) (listing (wordOf s b 126) h (m + n) (before s b c n)) a)
+    nodes-coherent : (x : Node) → x ∈ keyBlockNodes d s h b m c → Coherent x
+    nodes-coherent x a = go (in-either x (keyNodes s h b m c 0 n) (listLink (wordOf s b 126) h (m + n) (before s b c n)) a)
       where
-        go : (x ∈ keyNodes s h b m c 0 n) ⊎ (x ∈ listing (wordOf s b 126) h (m + n) (before s b c n)) → Coherent x
-        go (inl a) = let w = in-keys s h b m c 0 n x a in subst Coherent (sym (w .3)) (subst (Sound d s) (w .3) (run-listed d s h b m c .0 (spread-first d s h q b m c p .1) x a))
+        go : (x ∈ keyNodes s h b m c 0 n) ⊎ (x ∈ listLink (wordOf s b 126) h (m + n) (before s b c n)) → Coherent x
+        go (inl a) = let w = in-keys s h b m c 0 n x a in subst Coherent (sym (w .3)) (subst (DataSound d s) (w .3) (run-nodes d s h b m c .0 (spread-first d s h q b m c p .1) x a))
         go (inr a) =
             let r = in-linked (wordOf s b 126) (λ k. list k h (m + n) (before s b c n)) x a in
             subst Coherent (sym (r .1)) (behind-coherent q refl p (r .0))
@@ -55,7 +55,7 @@ module _ (d : Disk) (s : List ℕ) where
   module _ (k : ℕ) (r : Reached (references d s) (to Kind.entry k)) (file : directory s k ≡ false → File d s k) where
     contents-coherent : (b : Bool) → directory s k ≡ b → (x : Node) → x ∈ contents d s k b → Coherent x
     contents-coherent true e = slots-coherent k (inr (r, e))
-    contents-coherent false e = listed-coherent k (listBlocks (blocksOf d s k)) k 0 k (omega arith) (file-spreads d s k .0 (file e) .2)
+    contents-coherent false e = nodes-coherent k (listBlocks (blocksOf d s k)) k 0 k (omega arith) (file-spreads d s k .0 (file e) .2)
 
     entry-coherent : (t i p : ℕ) → Coherent (entry k t i p) → (x : Node) → x ∈ leadsTo d s (entry k t i p) → Coherent x
     unfolding leadsTo
@@ -77,5 +77,5 @@ module _ (d : Disk) (s : List ℕ) where
   leads-coherent root r file c x (inr a) = slots-coherent (rootOf d) (inl refl) x a
   leads-coherent (bitmap k) r file c x a = absurd a
   leads-coherent (entry k t i p) r file c x a = entry-coherent k r (file k r) t i p c x a
-  leads-coherent (list k h m b) r file c x a = listed-coherent h (listBlocks (blocksOf d s h - m)) k m b refl (c .1) x a
+  leads-coherent (list k h m b) r file c x a = nodes-coherent h (listBlocks (blocksOf d s h - m)) k m b refl (c .1) x a
   leads-coherent (datum k h n b) r file c x a = absurd a

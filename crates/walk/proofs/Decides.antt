@@ -13,15 +13,15 @@ use Rattle.volume.specs.Disks.{firstKey, imageBytes, tagOf}
 use Rattle.volume.specs.Law.{Tree, Valid, BitRight, Volume}
 use Rattle.walk.specs.Nodes.{root, walkOf}
 use Rattle.walk.proofs.Passes.{root-in-tree, passes-valid}
-use Rattle.walk.proofs.Accepts.{fine-in-tree, accepted-lawful}
-use Rattle.walk.proofs.Trees.{fine-tree}
-use Rattle.walk.proofs.Lawful.{tree-fine}
+use Rattle.walk.proofs.Accepts.{passes-in-tree, accepted-lawful}
+use Rattle.walk.proofs.Trees.{passes-tree}
+use Rattle.walk.proofs.Lawful.{tree-passes}
 
 module _ (d : Disk) (s : List ℕ) where
   pub tree-decided : (Tree d s × Valid d s) ↔ (Accepted (walkOf d s) × (length s ≡ imageBytes d) × (wordAt s 0 ≡ tagOf d))
   tree-decided = (
-    (λ h. let v = h .0 in (accepted-lawful d s .1 ((λ n r. let p = tree-fine d s v n r in (p .0, passes-valid d s (h .1) n (p .1))), v .owned), v .long, v .tag)),
-    (λ p. let a = accepted-lawful d s .0 (p .0) in (fine-tree d s (fine-in-tree d s (a .0)) (a .1) (p .1) (p .2), root-in-tree d s (a .0 root (top refl) .1) .1)),
+    (λ h. let v = h .0 in (accepted-lawful d s .1 ((λ n r. let p = tree-passes d s v n r in (p .0, passes-valid d s (h .1) n (p .1))), v .owned), v .long, v .tag)),
+    (λ p. let a = accepted-lawful d s .0 (p .0) in (passes-tree d s (passes-in-tree d s (a .0)) (a .1) (p .1) (p .2), root-in-tree d s (a .0 root (top refl) .1) .1)),
   )
 
   pub volume-decided : Volume d s ↔ (Accepted (walkOf d s) × (length s ≡ imageBytes d) × (wordAt s 0 ≡ tagOf d) × ((k : ℕ) → firstKey ≤ k → k < d .blocks → BitRight d s k))

@@ -15,11 +15,11 @@ use Rattle.volume.specs.Blocks.{slots, wordOf, slotWord, directory}
 use Rattle.volume.specs.Names.{folded, nameOf}
 use Rattle.volume.specs.Law.{chainKey, Hangs, Directory}
 use Rattle.volume.proofs.Names.{slot-same, map-same}
-use Rattle.volume.proofs.Passes.{Placed, entry-passed}
+use Rattle.volume.proofs.Passes.{EntrySound, entry-passed}
 use Rattle.walk.specs.Nodes.{Node, root, entry, chained, slotNodes, contents, leadsTo, faultOf}
 use Rattle.walk.proofs.Nodes.{NodeReached, linked-in, slot-in}
 use Rattle.walk.proofs.Passes.{Hung, hung-passed}
-use Rattle.walk.proofs.Accepts.{TreeFine}
+use Rattle.walk.proofs.Accepts.{TreePasses}
 use Rattle.walk.proofs.Chains.{chain-next, chain-before, twin-there}
 
 module _ (d : Disk) (s : List ℕ) where
@@ -56,37 +56,37 @@ module _ (d : Disk) (s : List ℕ) where
         let e = chain-next s head p z in
         subst (λ k. NodeReached d s (entry k t i (suc p))) (sym e) (next-reached (chainKey s head p) t i p (hang-reached i p l z) (λ q. h (e ∙ q)))
 
-    module _ (fine : TreeFine d s) where
-      hung : (i k : ℕ) (g : Hangs s t i k) → Hung d s k t i (g .place)
+    module _ (fine : TreePasses d s) where
+      hung : (i k : ℕ) (g : Hangs s t i k) → Hung d s k t i (g .position)
       unfolding faultOf
       hung i k g =
-          let r = hang-reached i (g .place) (g .slot) (λ q. g .some (sym (g .there) ∙ q)) in
-          hung-passed d s k t i (g .place) (fine (entry k t i (g .place)) (subst (λ x. NodeReached d s (entry x t i (g .place))) (g .there) r) .1)
+          let r = hang-reached i (g .position) (g .slot) (λ q. g .some (sym (g .there) ∙ q)) in
+          hung-passed d s k t i (g .position) (fine (entry k t i (g .position)) (subst (λ x. NodeReached d s (entry x t i (g .position))) (g .there) r) .1)
 
-      placed : (i k : ℕ) → Hangs s t i k → Placed d s k t i
-      placed i k g = entry-passed d s k t i (hung i k g .0)
+      entry-sound : (i k : ℕ) → Hangs s t i k → EntrySound d s k t i
+      entry-sound i k g = entry-passed d s k t i (hung i k g .0)
 
-      -- of two places on one chain the later has no name of the earlier
-      apart : (i k l : ℕ) (g : Hangs s t i k) (g′ : Hangs s t i l) → g .place < g′ .place → folded d (nameOf s k) ≡ folded d (nameOf s l) → ⊥
+      -- of two positions on one chain the later has no name of the earlier
+      apart : (i k l : ℕ) (g : Hangs s t i k) (g′ : Hangs s t i l) → g .position < g′ .position → folded d (nameOf s k) ≡ folded d (nameOf s l) → ⊥
       apart i k l g g′ o e =
           let head = slotWord s t i in
-          let f = map-same d (nameOf s (chainKey s head (g .place))) (nameOf s l) (ap (λ x. folded d (nameOf s x)) (g .there) ∙ e) in
-          let q = sym (twin-there s d l head (g′ .place) (g .place) o f) ∙ hung i l g′ .1 in
+          let f = map-same d (nameOf s (chainKey s head (g .position))) (nameOf s l) (ap (λ x. folded d (nameOf s x)) (g .there) ∙ e) in
+          let q = sym (twin-there s d l head (g′ .position) (g .position) o f) ∙ hung i l g′ .1 in
           let z : _≡_ {A = ℕ} 0 1 = cc in
           absurd (omega arith)
 
       one : (i k l : ℕ) → Hangs s t i k → Hangs s t i l → folded d (nameOf s k) ≡ folded d (nameOf s l) → k ≡ l
-      one i k l g g′ e = go (decLt (g .place) (g′ .place)) (decLt (g′ .place) (g .place))
+      one i k l g g′ e = go (decLt (g .position) (g′ .position)) (decLt (g′ .position) (g .position))
         where
-          go : Dec (g .place < g′ .place) → Dec (g′ .place < g .place) → k ≡ l
+          go : Dec (g .position < g′ .position) → Dec (g′ .position < g .position) → k ≡ l
           go (yes o) o′ = absurd (apart i k l g g′ o e)
           go (no o) (yes o′) = absurd (apart i l k g′ g o′ (sym e))
-          go (no o) (no o′) = let q : g .place ≡ g′ .place = omega arith in sym (g .there) ∙ ap (chainKey s (slotWord s t i)) q ∙ g′ .there
+          go (no o) (no o′) = let q : g .position ≡ g′ .position = omega arith in sym (g .there) ∙ ap (chainKey s (slotWord s t i)) q ∙ g′ .there
 
       pub directory-law : Directory d s t
-      directory-law = record { parent = λ i k g. placed i k g .parent; slot = λ i k g. placed i k g .slot; names = names′ }
+      directory-law = record { parent = λ i k g. entry-sound i k g .parent; slot = λ i k g. entry-sound i k g .slot; names = names′ }
         where
           names′ : (i j k l : ℕ) → Hangs s t i k → Hangs s t j l → folded d (nameOf s k) ≡ folded d (nameOf s l) → k ≡ l
           names′ i j k l g g′ e =
-              let q = sym (placed j l g′ .slot) ∙ slot-same d (nameOf s l) (nameOf s k) (sym e) ∙ placed i k g .slot in
+              let q = sym (entry-sound j l g′ .slot) ∙ slot-same d (nameOf s l) (nameOf s k) (sym e) ∙ entry-sound i k g .slot in
               one i k l g (subst (λ x. Hangs s t x l) q g′) e

@@ -1,4 +1,4 @@
--- The theorem `tree-fine`: if the tree is as its law says, every reached node passes its tests, but for the root's w78. Assumes nothing.
+-- The theorem `tree-passes`: if the tree is as its law says, every reached node passes its tests, but for the root's w78. Assumes nothing.
 use Prim.Native.Nat.{ℕ, _-_, _<_}
 use mathlib.Core.Path.{_≡_, refl, sym, ap, _∙_, subst}
 use mathlib.Core.Logic.{_≢_, inl, inr}
@@ -16,14 +16,14 @@ use Rattle.volume.specs.References.{Kind, to, references}
 use Rattle.volume.specs.Law.{chainKey, Hangs, Directory, Tree}
 use Rattle.volume.specs.Rules.{fileFault}
 use Rattle.volume.proofs.Names.{same-map}
-use Rattle.volume.proofs.Passes.{Placed, bitmap-passed, entry-passes, file-passes, list-passes, data-passes}
+use Rattle.volume.proofs.Passes.{EntrySound, bitmap-passed, entry-passes, file-passes, list-passes, data-passes}
 use Rattle.walk.specs.Nodes.{Node, root, bitmap, entry, list, datum, keyOf, bare, leadsTo, keyFault, faultOf}
 use Rattle.walk.proofs.Nodes.{NodeReached}
 use Rattle.walk.proofs.Passes.{InTree, key-passes, hung-passes}
-use Rattle.walk.proofs.Accepts.{TreeFine, key-bare, refs-bare}
+use Rattle.walk.proofs.Accepts.{TreePasses, key-bare, refs-bare}
 use Rattle.walk.proofs.Chains.{chain-some, twin-none}
 use Rattle.walk.proofs.Spreads.{spread-first, file-spreads}
-use Rattle.walk.proofs.Places.{Holder, chain-apart}
+use Rattle.walk.proofs.Positions.{Holder, chain-apart}
 use Rattle.walk.proofs.Coherent.{Coherent, leads-coherent}
 
 module _ (d : Disk) (s : List ℕ) (v : Tree d s) where
@@ -48,12 +48,12 @@ module _ (d : Disk) (s : List ℕ) (v : Tree d s) where
     some z = c .3 (sym (c .2) ∙ z)
 
     hangs : Hangs s t i k
-    hangs = record { slot = c .1; place = p; there = c .2; some = c .3 }
+    hangs = record { slot = c .1; position = p; there = c .2; some = c .3 }
 
     -- an earlier entry of the same name would be the same block, and no block stands twice on a chain
     differ : (q : ℕ) → q < p → same d (nameOf s (K q)) (nameOf s k) ≡ true → ⊥
     differ q l e =
-        let g : Hangs s t i (K q) = record { slot = c .1; place = q; there = refl; some = chain-some s (slotWord s t i) p q (omega arith) some } in
+        let g : Hangs s t i (K q) = record { slot = c .1; position = q; there = refl; some = chain-some s (slotWord s t i) p q (omega arith) some } in
         let f = held-by t (c .0) .names i i (K q) k g hangs (same-map d (nameOf s (K q)) (nameOf s k) e) in
         chain-apart d s t i (c .0) (c .1) (v .owned) q p l some (f ∙ sym (c .2))
 
@@ -66,8 +66,8 @@ module _ (d : Disk) (s : List ℕ) (v : Tree d s) where
     unfolding faultOf
     entry-lawful =
         let h = held-by t (c .0) in
-        let placed : Placed d s k t i = record { sum = v .sums (to Kind.entry k) r; entry = v .entries k r; parent = h .parent i k hangs; link = λ e. v .directories k r e .0; slot = h .slot i k hangs } in
-        hung-passes d s k t i p (entry-passes d s k t i placed, twin-none s d k (slotWord s t i) p differ, file-lawful)
+        let entry-sound : EntrySound d s k t i = record { sum = v .sums (to Kind.entry k) r; entry = v .entries k r; parent = h .parent i k hangs; link = λ e. v .directories k r e .0; slot = h .slot i k hangs } in
+        hung-passes d s k t i p (entry-passes d s k t i entry-sound, twin-none s d k (slotWord s t i) p differ, file-lawful)
 
   -- ---- every node
 
@@ -88,5 +88,5 @@ module _ (d : Disk) (s : List ℕ) (v : Tree d s) where
           let e = refs-bare d s m (fault-lawful m (w .0) (w .1)) in
           (ref i (w .0) (subst (At i (bare d n)) e (at-map (bare d) i n (leadsTo d s m) h)), leads-coherent d s m (w .0) (v .files) (w .1) n (at-in n i (leadsTo d s m) h))
 
-  pub tree-fine : TreeFine d s
-  tree-fine n r = let w = coherent r in (key-lawful n (w .0), fault-lawful n (w .0) (w .1))
+  pub tree-passes : TreePasses d s
+  tree-passes n r = let w = coherent r in (key-lawful n (w .0), fault-lawful n (w .0) (w .1))

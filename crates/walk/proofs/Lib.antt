@@ -1,6 +1,6 @@
 -- That the walk over a volume decides its law.
 
--- facts on the places of a list
+-- facts on the positions of a list
 pub mod Lists
 -- what stands among the nodes that a node leads to
 pub mod Nodes
@@ -8,25 +8,25 @@ pub mod Nodes
 pub mod Passes
 -- `accepted-lawful`: the walk accepts if and only if every node passes, and every block is owned once
 pub mod Accepts
--- places of a chain, and names that stand twice on one
+-- positions of a chain, and names that stand twice on one
 pub mod Chains
 -- a file as the walk meets it: `file-spreads`
 pub mod Spreads
 -- the nodes that a block of a file leads to
-pub mod Listed
+pub mod KeyRuns
 -- the link to the next list block
 pub mod Links
 -- the loops over a file's keys and list blocks
 pub mod Loops
 -- a directory whose chains are reached, and pass, is as the law says
 pub mod Directories
--- `fine-tree`: if every node passes, the tree is as its law says
+-- `passes-tree`: if every node passes, the tree is as its law says
 pub mod Trees
 -- no key stands twice on a chain of a volume whose blocks are owned once
-pub mod Places
+pub mod Positions
 -- what a node's context says, kept from node to node
 pub mod Coherent
--- `tree-fine`: if the tree is as its law says, every node passes
+-- `tree-passes`: if the tree is as its law says, every node passes
 pub mod Lawful
 -- `tree-decided`, `volume-decided`: what the walk decides
 pub mod Decides

@@ -8,35 +8,40 @@ use native.Mathlib.Decide.{decLt}
 use Rattle.volume.specs.declared.disk.Disk.{Disk}
 use Rattle.volume.specs.Blocks.{slots, wordOf, keyWord}
 use Rattle.volume.specs.Files.{blocksOf, keysHere}
-use Rattle.volume.specs.Law.{Lists}
-use Rattle.walk.specs.Nodes.{before, listing}
-use Rattle.walk.specs.Listings.{nextList, Listed}
+use Rattle.volume.specs.Law.{KeyCount}
+use Rattle.walk.specs.declared.file.KeyBlock.{KeyBlock}
+use Rattle.walk.specs.Nodes.{before, listLink}
+use Rattle.walk.specs.KeyBlocks.{nextOf, keysIn, linkTo, KeysReady, NextReady}
 
 -- it is there only where keys are left
-pub some-more : (s : List ℕ) (k n : ℕ) → Lists s k n → wordOf s k 126 ≢ 0 → slots < n
+some-more : (s : List ℕ) (k n : ℕ) → KeyCount s k n → wordOf s k 126 ≢ 0 → slots < n
 some-more s k n l h = go (decLt slots n)
   where
     go : Dec (slots < n) → slots < n
     go (yes p) = p
     go (no p) = absurd (h (l .more .1 (omega arith)))
 
-module _ (d : Disk) (s : List ℕ) (h k m c : ℕ) where
-  pub linked-next : Lists s k (blocksOf d s h - m) → listing (wordOf s k 126) h (m + keysHere (blocksOf d s h - m)) (before s k c (keysHere (blocksOf d s h - m))) ≡ nextList s h k m
-  linked-next l = go (wordOf s k 126) refl
+module _ (d : Disk) (s : List ℕ) (b : KeyBlock) (r : KeysReady d s b) where
+  more : wordOf s (b .key) 126 ≢ 0 → slots < blocksOf d s (b .header) - b .done
+  more = some-more s (b .key) _ (r .counts)
+
+  -- what the block leads to after its data blocks
+  pub link-next : listLink (wordOf s (b .key) 126) (b .header) (b .done + keysIn d s b) (before s (b .key) (b .last) (keysIn d s b)) ≡ linkTo (nextOf s b)
+  link-next = go (wordOf s (b .key) 126) refl
     where
-      go : (w : ℕ) → wordOf s k 126 ≡ w → listing w h (m + keysHere (blocksOf d s h - m)) (before s k c (keysHere (blocksOf d s h - m))) ≡ listing w h (m + slots) (keyWord s k 71)
+      go : (w : ℕ) → wordOf s (b .key) 126 ≡ w
+          → listLink w (b .header) (b .done + keysIn d s b) (before s (b .key) (b .last) (keysIn d s b)) ≡ listLink w (b .header) (b .done + slots) (keyWord s (b .key) 71)
       go zero e = refl
       go (suc w) e =
-          let g = some-more s k (blocksOf d s h - m) l (λ z. absurd (omega (arith, e, z))) in
-          let f : keysHere (blocksOf d s h - m) ≡ slots = omega arith in
+          let g = more (λ z. absurd (omega (arith, e, z))) in
+          let f : keysIn d s b ≡ slots = omega arith in
           rw f refl
 
-  -- what is known of a block that lists keys, once they are walked
-  pub is-listed : Lists s k (blocksOf d s h - m) → k < d .blocks → ((i : ℕ) → i < keysHere (blocksOf d s h - m) → keyWord s k i < d .blocks) → Listed d s h k m
-  is-listed l i f =
+  -- its keys lie in the volume: what is known of the next
+  pub next-ready : ((i : ℕ) → i < keysIn d s b → keyWord s (b .key) i < d .blocks) → NextReady d s (nextOf s b)
+  next-ready f =
       record {
-        key = i;
-        more = λ z. omega (arith, some-more s k (blocksOf d s h - m) l z);
-        ends = λ z. omega (arith, l .more .0 z);
-        last = λ z. f 71 (omega (arith, some-more s k (blocksOf d s h - m) l z));
+        file = λ z. record { size = r .file .size; limit = r .file .limit; header = r .file .header; last = f 71 (omega (arith, more z)); done = omega (arith, more z) };
+        left = λ z. omega (arith, more z);
+        ends = λ z. omega (arith, r .counts .more .0 z);
       }

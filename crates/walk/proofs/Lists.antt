@@ -1,4 +1,4 @@
--- Facts on the places of a list and of two lists in a row. Assumes nothing.
+-- Facts on the positions of a list and of two lists in a row. Assumes nothing.
 use Prim.Native.Nat.{ℕ, zero, suc, _+_, _<_}
 use mathlib.Core.Path.{_≡_, refl}
 use mathlib.Core.List.{List, [], _∷_, _++_}
@@ -21,7 +21,7 @@ module _ {A : Type 0} where
   at-end a [] ys h = h
   at-end a (x ∷ xs) ys h = at-end a xs ys h
 
-  -- place i of ys is place n of xs and ys in a row
+  -- position i of ys is position n of xs and ys in a row
   pub at-right : (a : A) (n i : ℕ) (xs ys : List A) → n ≡ length xs + i → At i a ys → At n a (xs ++ ys)
   at-right a n i [] ys e h = let z : n ≡ i = omega (arith, e) in rw z h
   at-right a zero i (x ∷ xs) ys e h = absurd (omega (arith, e))

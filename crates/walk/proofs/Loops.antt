@@ -1,7 +1,7 @@
 -- The loops over a file's keys and over its list blocks: what is known at each turn, whatever is done with a block. The audit's loops and those
 -- of a read rest on it. Assumes nothing.
 use Prim.Native.Nat.{ℕ, suc, _+_, _-_, _≤_, _<_}
-use mathlib.Core.Path.{_≡_, refl, sym, _∙_}
+use mathlib.Core.Path.{_≡_, refl, _∙_}
 use mathlib.Core.List.{List, _∷_}
 use native.Mathlib.Omega.{arith}
 use native.Mathlib.Numerals.{add-one}
@@ -11,33 +11,55 @@ use Rattle.volume.specs.declared.disk.Disk.{Disk}
 use Rattle.volume.specs.Disks.{Sized, mostBlocks, imageBytes, fileLimit}
 use Rattle.volume.specs.Blocks.{slots, Holds, wordOf, keyWord}
 use Rattle.volume.specs.Files.{dataBlocks, sizeOf, blocksOf, keysHere}
-use Rattle.volume.specs.Law.{Lists}
-use Rattle.volume.specs.Rules.{fileFault}
+use Rattle.volume.specs.Law.{KeyCount}
+use Rattle.volume.specs.Rules.{fileFault, listFault, dataFault}
 use Rattle.volume.proofs.Sizes.{blocks-most}
-use Rattle.volume.proofs.Passes.{file-passed}
-use Rattle.walk.specs.declared.Lister.{Lister}
-use Rattle.walk.specs.Nodes.{Node, datum, before, keyNodes, listing}
-use Rattle.walk.specs.Listings.{Listing, keysIn, nextList, Listed}
-use Rattle.walk.proofs.Links.{linked-next, is-listed}
-
--- ---- what callees ask
+use Rattle.volume.proofs.Passes.{file-passed, list-passed}
+use Rattle.walk.specs.declared.file.KeyBlock.{KeyBlock}
+use Rattle.walk.specs.Nodes.{Node, datum, before, keyNodes, faultOf}
+use Rattle.walk.specs.KeyBlocks.{headerOf, nextOf, listNode, keysIn, InFile, KeysReady, InImage, NextReady}
+use Rattle.walk.proofs.Links.{next-ready}
 
 pub in-image : (d : Disk) (s : List ℕ) (k : ℕ) → length s ≡ imageBytes d → k < d .blocks → Holds s k
 in-image d s k l h = omega arith
 
-module _ (d : Disk) (s : List ℕ) (h z : ℕ) (e : z ≡ sizeOf s h) where
-  pub size-asks : Sized d → sizeOf s h ≤ fileLimit d → Sized d × (z ≤ fileLimit d)
-  size-asks y l = (y, rw e l)
+-- ---- from block to block
 
-  pub data-asks : (k n : ℕ) → Sized d → sizeOf s h ≤ fileLimit d → 1 ≤ n → n ≤ blocksOf d s h → Holds s k → Sized d × (z ≤ fileLimit d) × (Holds s k × ((1 ≤ n) × (n ≤ mostBlocks)))
-  data-asks k n y l low up i = (y, rw e l, (i, (low, omega (arith, up, blocks-most d (sizeOf s h) l, y .most))))
+pub header-is : (s : List ℕ) (h z : ℕ) → z ≡ sizeOf s h → record { header = h; size = z; key = h; done = 0; last = h } ≡ headerOf s h
+header-is s h z e = rw e refl
 
-  pub within : (m n : ℕ) → m ≤ blocksOf d s h → n ≡ dataBlocks d z → m ≤ n
-  within m n l f = rw (f, e) l
+pub next-is : (s : List ℕ) (b : KeyBlock) (k l : ℕ) → k ≡ wordOf s (b .key) 126 → l ≡ keyWord s (b .key) 71
+    → record { header = b .header; size = b .size; key = k; done = b .done + slots; last = l } ≡ nextOf s b
+next-is s b k l e g = rw (e, g) refl
+
+-- ---- a block that lists keys, and its file's numbers
+
+module _ (d : Disk) (s : List ℕ) (b : KeyBlock) (v : InFile d s b) where
+  pub done-within : (n : ℕ) → n ≡ dataBlocks d (b .size) → b .done ≤ n
+  done-within n e = rw (e, v .size) (v .done)
+
+  blocks-few : Sized d → blocksOf d s (b .header) ≤ mostBlocks
+  blocks-few y = let l = rw (v .size) at (v .limit) in omega (arith, blocks-most d (sizeOf s (b .header)) l, y .most)
+
+  done-few : Sized d → b .done ≤ mostBlocks
+  done-few y = omega (arith, v .done, blocks-few y)
+
+  pub number-few : (n : ℕ) → Sized d → n ≤ blocksOf d s (b .header) → n ≤ mostBlocks
+  number-few n y l = omega (arith, blocks-few y)
+
+  -- ---- the tests of what it leads to
+
+  pub datum-is : (k n c w f : ℕ) → w ≡ wordOf s c 4 → f ≡ dataFault d s k (b .header) (b .size) n w → f ≡ faultOf d s (datum k (b .header) n c)
+  unfolding faultOf
+  datum-is k n c w f e g = rw (← e, ← v .size) g
+
+  pub list-is : (n f : ℕ) → n ≡ dataBlocks d (b .size) → f ≡ listFault s (b .key) (b .header) (n - b .done) → f ≡ faultOf d s (listNode b)
+  unfolding faultOf
+  list-is n f e g = rw (← v .size, ← e) g
 
 -- ---- the keys of a block
 
-module _ (d : Disk) (s : List ℕ) (b : Lister) where
+module _ (d : Disk) (s : List ℕ) (b : KeyBlock) where
   -- its data blocks from key i on, and the next of them
   abbrev pub nodes : ℕ → ℕ → List Node
   nodes i n = keyNodes s (b .header) (b .key) (b .done) (b .last) i n
@@ -47,28 +69,32 @@ module _ (d : Disk) (s : List ℕ) (b : Lister) where
 
   -- of `count` keys, i are done, `last` the latest
   pub record Turn (count last i : ℕ) : Type 0 where
-    pub lister : Listing d s b
+    pub ready : KeysReady d s b
     pub counted : count ≡ keysIn d s b
+    pub within : b .done + count ≤ blocksOf d s (b .header)
+    pub few : b .done + count ≤ mostBlocks
     pub upto : i ≤ count
     pub behind : last ≡ before s (b .key) (b .last) i
     pub inside : last < d .blocks
     pub keys : (q : ℕ) → q < i → keyWord s (b .key) q < d .blocks
 
-  pub turn-start : (z n count : ℕ) → Listing d s b → z ≡ sizeOf s (b .header) → n ≡ dataBlocks d z → count ≡ keysHere (n - b .done) → Turn count (b .last) 0
-  turn-start z n count l e f g =
-      record { lister = l; counted = g ∙ rw (f, e) refl; upto = omega arith; behind = refl; inside = l .last; keys = λ q h. absurd (omega arith) }
+  pub turn-start : (count : ℕ) → Sized d → KeysReady d s b → count ≡ keysHere (dataBlocks d (b .size) - b .done) → Turn count (b .last) 0
+  turn-start count y r e =
+      let c = rw (r .file .size) at e in
+      let w : b .done + count ≤ blocksOf d s (b .header) = omega (arith, c, r .file .done) in
+      record {
+        ready = r;
+        counted = c;
+        within = w;
+        few = number-few d s b (r .file) _ y w;
+        upto = omega arith;
+        behind = refl;
+        inside = r .file .last;
+        keys = λ q h. absurd (omega arith);
+      }
 
   module _ (count last i : ℕ) (v : Turn count last i) where
     module _ (h : i < count) where
-      pub turn-few : Sized d → (i < slots) × (b .done + i + 1 ≤ blocksOf d s (b .header)) × (b .done + i + 1 ≤ mostBlocks)
-      turn-few y =
-          let m = blocks-most d (sizeOf s (b .header)) (v .lister .size) in
-          let e = v .counted in
-          (omega arith, omega (arith, v .lister .done), omega (arith, v .lister .done, y .most))
-
-      pub turn-key : Sized d → length s ≡ imageBytes d → (i < slots) × Holds s (b .key)
-      turn-key y l = (turn-few y .0, in-image d s (b .key) l (v .lister .key))
-
       pub turn-next : nodes i (count - i) ≡ next i last ∷ nodes (i + 1) (count - (i + 1))
       unfolding keyNodes
       turn-next =
@@ -78,54 +104,39 @@ module _ (d : Disk) (s : List ℕ) (b : Lister) where
 
       pub turn-again : (k : ℕ) → k ≡ keyWord s (b .key) i → k < d .blocks → Turn count k (i + 1)
       turn-again k e l =
-          record { lister = v .lister; counted = v .counted; upto = omega arith; behind = rw (add-one i) e; inside = l; keys = λ x p. go x p (decLt x i) }
+          record {
+            ready = v .ready;
+            counted = v .counted;
+            within = v .within;
+            few = v .few;
+            upto = omega arith;
+            behind = rw (add-one i) e;
+            inside = l;
+            keys = λ x p. go x p (decLt x i);
+          }
         where
           go : (x : ℕ) → x < i + 1 → Dec (x < i) → keyWord s (b .key) x < d .blocks
           go x p (yes y) = v .keys x y
           go x p (no y) = let w : x ≡ i = omega arith in rw (w, ← e) l
 
-    pub turn-all : count ≤ i → (j : ℕ) → j < keysIn d s b → keyWord s (b .key) j < d .blocks
-    turn-all h j l = v .keys j (omega (arith, v .counted))
+    pub turn-end : count ≤ i → NextReady d s (nextOf s b)
+    turn-end h = next-ready d s b (v .ready) (λ j l. v .keys j (omega (arith, v .counted)))
 
--- ---- the list blocks of a file
+-- ---- the blocks of a file that list keys
 
-abbrev pub headerOf : ℕ → Lister
-headerOf h = record { header = h; key = h; done = 0; last = h }
+pub header-ready : (d : Disk) (s : List ℕ) (h : ℕ) (b : KeyBlock) → b ≡ headerOf s h → h < d .blocks → fileFault d s h ≡ 0 → KeysReady d s b
+header-ready d s h b g l e =
+    let y : blocksOf d s h - 0 ≡ blocksOf d s h = omega arith in
+    let p = file-passed d s h e in
+    rw g record { file = record { size = refl; limit = p .0; header = l; last = l; done = omega arith }; key = l; counts = rw y (p .1) }
 
-module _ (d : Disk) (s : List ℕ) (h : ℕ) where
-  pub header-lists : h < d .blocks → fileFault d s h ≡ 0 → Listing d s (headerOf h)
-  header-lists l e = record { size = file-passed d s h e .0; header = l; key = l; last = l; done = omega arith }
+module _ (d : Disk) (s : List ℕ) (b : KeyBlock) where
+  pub list-ready : InFile d s b → b .key < d .blocks → faultOf d s (listNode b) ≡ 0 → KeysReady d s b
+  unfolding faultOf
+  list-ready v l e = record { file = v; key = l; counts = list-passed s (b .key) (b .header) _ e .2 }
 
-  header-counts : fileFault d s h ≡ 0 → Lists s h (blocksOf d s h - 0)
-  header-counts e = let y : blocksOf d s h - 0 ≡ blocksOf d s h = omega arith in rw y (file-passed d s h e .1)
+  pub ready-image : KeysReady d s b → Sized d → length s ≡ imageBytes d → InImage s b
+  ready-image v y l = record { holds = in-image d s (b .key) l (v .key); few = done-few d s b (v .file) y }
 
-  -- what the header leads to after its data blocks
-  pub header-next : fileFault d s h ≡ 0 → listing (wordOf s h 126) h (0 + keysHere (blocksOf d s h - 0)) (before s h h (keysHere (blocksOf d s h - 0))) ≡ nextList s h h 0
-  header-next e = linked-next d s h h 0 h (header-counts e)
-
-  -- `lister` is done, with `done` data blocks before its own, and its link is `next`
-  pub record Link (lister done next : ℕ) : Type 0 where
-    pub size : sizeOf s h ≤ fileLimit d
-    pub inside : h < d .blocks
-    pub word : next ≡ wordOf s lister 126
-    pub known : Listed d s h lister done
-
-  pub link-start : (x : ℕ) → fileFault d s h ≡ 0 → h < d .blocks → ((i : ℕ) → i < keysIn d s (headerOf h) → keyWord s h i < d .blocks) → x ≡ wordOf s h 126 → Link h 0 x
-  link-start x e l k f = record { size = file-passed d s h e .0; inside = l; word = f; known = is-listed d s h h 0 h (header-counts e) l k }
-
-  module _ (lister done next : ℕ) (v : Link lister done next) where
-    pub link-none : next ≡ 0 → blocksOf d s h ≤ done + slots
-    link-none z = v .known .ends (sym (v .word) ∙ z)
-
-    module _ (t : next ≡ 0 → ⊥) where
-      pub link-more : done + slots < blocksOf d s h
-      link-more = v .known .more (λ z. t (v .word ∙ z))
-
-      pub link-few : Sized d → done + slots ≤ mostBlocks
-      link-few y = omega (arith, link-more, blocks-most d (sizeOf s h) (v .size), y .most)
-
-      pub link-last : (l : ℕ) → l ≡ keyWord s lister 71 → l < d .blocks
-      link-last l g = rw g (v .known .last (λ z. t (v .word ∙ z)))
-
-      pub link-again : (x : ℕ) → Listed d s h next (done + slots) → x ≡ wordOf s next 126 → Link next (done + slots) x
-      link-again x k f = record { size = v .size; inside = v .inside; word = f; known = k }
+  pub ready-holds : KeysReady d s b → length s ≡ imageBytes d → Holds s (b .key)
+  ready-holds v l = in-image d s (b .key) l (v .key)

@@ -18,7 +18,7 @@ use Rattle.volume.specs.Names.{nameOf, same}
 use Rattle.volume.specs.Files.{blocksOf}
 use Rattle.volume.specs.Law.{chainKey}
 use Rattle.volume.specs.Rules.{rootFault, mapFault, entryFault, fileFault}
-use Rattle.volume.specs.Breaks.{Inside, Placed}
+use Rattle.volume.specs.Breaks.{Inside, EntrySound}
 use Rattle.volume.proofs.Checks.{among}
 use Rattle.volume.proofs.Names.{same-map, map-same}
 use Rattle.volume.proofs.Breaks.{root-breaks, root-sound, map-breaks, bitmap-breaks, entry-breaks, entry-sound, header-breaks, list-breaks, data-breaks, key-outside}
@@ -89,11 +89,11 @@ module _ (d : Disk) (s : List ℕ) where
   unfolding hangsFault pick never
   entry-says k t i p v z e = go (first-cases _ _ v z e)
     where
-      file : Placed d s k t i → twin d s k (slotWord s t i) p ≡ false → (b : Bool) → directory s k ≡ b → pick b 0 (fileFault d s k) ≡ v → NodeBreaks d s (entry k t i p) v
+      file : EntrySound d s k t i → twin d s k (slotWord s t i) p ≡ false → (b : Bool) → directory s k ≡ b → pick b 0 (fileFault d s k) ≡ v → NodeBreaks d s (entry k t i p) v
       file a n true q h = absurd (z (sym h))
       file a n false q h = inr (inr (a, (λ w. let y = doubled-twin k (slotWord s t i) p w in impossible cc), q, header-breaks d s k v .0 (h, z)))
 
-      name : Placed d s k t i → (b : Bool) → twin d s k (slotWord s t i) p ≡ b → (never b 13 ≡ v) ⊎ ((never b 13 ≡ 0) × (pick (directory s k) 0 (fileFault d s k) ≡ v)) → NodeBreaks d s (entry k t i p) v
+      name : EntrySound d s k t i → (b : Bool) → twin d s k (slotWord s t i) p ≡ b → (never b 13 ≡ v) ⊎ ((never b 13 ≡ 0) × (pick (directory s k) 0 (fileFault d s k) ≡ v)) → NodeBreaks d s (entry k t i p) v
       name a true q (inl h) = inr (inl (a, twin-doubled k (slotWord s t i) p q, sym h))
       name a true q (inr h) = absurd (omega (arith, h .0))
       name a false q (inl h) = absurd (z (sym h))

@@ -20,7 +20,7 @@ use Rattle.walk.specs.Nodes.{Node, root, bitmap, entry, list, datum, key
 use Rattle.volume.specs.Law.{Used}
 use Rattle.walk.specs.Reports.{count, Walked}
 use Rattle.walk.proofs.Nodes.{NodeReached}
-use Rattle.walk.proofs.Accepts.{TreeFine, key-bare, fine-in-tree, accepted-lawful, block-reached, node-reached, node-key}
+use Rattle.walk.proofs.Accepts.{TreePasses, key-bare, passes-in-tree, accepted-lawful, block-reached, node-reached, node-key}
 use Rattle.walk.proofs.Tallies.{Tally, isRoot, isBitmap, noted-counts, count-one}
 use Rattle.walk.proofs.Trees.{file-reached}
 use Rattle.walk.proofs.Coherent.{Coherent, leads-coherent}
@@ -51,8 +51,8 @@ module _ (d : Disk) (s : List ℕ) where
     unfolding walkOf
     rep = report (graph d s) (d .blocks) nothing c n e
 
-    fine : TreeFine d s
-    fine = fine-in-tree d s (accepted-lawful d s .0 (subst Accepted (sym e) tt) .0)
+    fine : TreePasses d s
+    fine = passes-in-tree d s (accepted-lawful d s .0 (subst Accepted (sym e) tt) .0)
 
     coherent : {n : Node} → NodeReached d s n → Coherent d s n
     coherent (top e) = subst (Coherent d s) (sym e) tt

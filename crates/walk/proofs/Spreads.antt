@@ -12,7 +12,7 @@ use Rattle.volume.specs.declared.disk.Disk.{Disk}
 use Rattle.volume.specs.Disks.{fileLimit}
 use Rattle.volume.specs.Blocks.{slots, wordOf}
 use Rattle.volume.specs.Files.{keysHere, listBlocks, keysDown, listsFrom, keysFrom, sizeOf, blocksOf}
-use Rattle.volume.specs.Law.{Lists, ListBlock, DataBlock, File}
+use Rattle.volume.specs.Law.{KeyCount, ListBlock, DataBlock, File}
 use Rattle.volume.proofs.Keys.{down-long, keys-long}
 use Rattle.walk.specs.Nodes.{before}
 
@@ -78,17 +78,17 @@ module _ (d : Disk) (s : List ℕ) (h : ℕ) where
   here m = keysHere (blocksOf d s h - m)
 
   abbrev pub Spread : ℕ → ℕ → ℕ → ℕ → Type 0
-  Spread zero b m c = Lists s b (blocksOf d s h - m) × Run m c (keysDown s b 0 (here m))
-  Spread (suc q) b m c = Lists s b (blocksOf d s h - m) × Run m c (keysDown s b 0 (here m)) × ListBlock s h (wordOf s b 126) × Spread q (wordOf s b 126) (m + here m) (before s b c (here m))
+  Spread zero b m c = KeyCount s b (blocksOf d s h - m) × Run m c (keysDown s b 0 (here m))
+  Spread (suc q) b m c = KeyCount s b (blocksOf d s h - m) × Run m c (keysDown s b 0 (here m)) × ListBlock s h (wordOf s b 126) × Spread q (wordOf s b 126) (m + here m) (before s b c (here m))
 
   -- of b itself
-  pub spread-first : (q b m c : ℕ) → Spread q b m c → Lists s b (blocksOf d s h - m) × Run m c (keysDown s b 0 (here m))
+  pub spread-first : (q b m c : ℕ) → Spread q b m c → KeyCount s b (blocksOf d s h - m) × Run m c (keysDown s b 0 (here m))
   spread-first zero b m c p = p
   spread-first (suc q) b m c p = (p .0, p .1)
 
   -- the law's rules of the same blocks, r keys still to come
-  abbrev Listing : ℕ → ℕ → ℕ → Type 0
-  Listing q b r = (i x n : ℕ) → n ≡ r - slots * i → At i x (b ∷ listsFrom s b q) → Lists s x n
+  abbrev Counted : ℕ → ℕ → ℕ → Type 0
+  Counted q b r = (i x n : ℕ) → n ≡ r - slots * i → At i x (b ∷ listsFrom s b q) → KeyCount s x n
 
   abbrev Behind : ℕ → ℕ → Type 0
   Behind q b = (x : ℕ) → x ∈ listsFrom s b q → ListBlock s h x
@@ -103,7 +103,7 @@ module _ (d : Disk) (s : List ℕ) (h : ℕ) where
       let g = keys-last s b c 0 (here m) ∙ ap (before s b c) (zero-add (here m)) in
       rw (f, ← g) (run-append m c (m + here m) (keysDown s b 0 (here m)) ys (ap (m +_) (down-long s b 0 (here m))))
 
-  law-spread : (q b m c r : ℕ) → r ≡ N - m → Listing q b r → Behind q b → Run m c (keys q b r) → Spread q b m c
+  law-spread : (q b m c r : ℕ) → r ≡ N - m → Counted q b r → Behind q b → Run m c (keys q b r) → Spread q b m c
   unfolding keysFrom listsFrom
   law-spread zero b m c r e l f k = (l 0 b (N - m) (omega arith) refl, run-here m c b r [] e .0 k .0)
   law-spread (suc q) b m c r e l f k =
@@ -111,21 +111,21 @@ module _ (d : Disk) (s : List ℕ) (h : ℕ) where
       let g : r - slots ≡ N - (m + here m) = omega arith in
       (l 0 b (N - m) (omega arith) refl, w .0, f (wordOf s b 126) (inl refl), law-spread q (wordOf s b 126) (m + here m) (before s b c (here m)) (r - slots) g (λ i x n z a. l (suc i) x n (omega arith) a) (λ x a. f x (inr a)) (w .1))
 
-  spread-law : (q b m c r : ℕ) → r ≡ N - m → Spread q b m c → Listing q b r × Behind q b × Run m c (keys q b r)
+  spread-law : (q b m c r : ℕ) → r ≡ N - m → Spread q b m c → Counted q b r × Behind q b × Run m c (keys q b r)
   unfolding keysFrom listsFrom
-  spread-law zero b m c r e p = (listing, (λ x a. absurd a), run-here m c b r [] e .1 (p .1, tt))
+  spread-law zero b m c r e p = (counted, (λ x a. absurd a), run-here m c b r [] e .1 (p .1, tt))
     where
-      listing : Listing zero b r
-      listing zero x n z a = let f : n ≡ N - m = omega arith in rw (f, a) (p .0)
-      listing (suc i) x n z a = absurd a
+      counted : Counted zero b r
+      counted zero x n z a = let f : n ≡ N - m = omega arith in rw (f, a) (p .0)
+      counted (suc i) x n z a = absurd a
   spread-law (suc q) b m c r e p =
       let g : r - slots ≡ N - (m + here m) = omega arith in
       let w = spread-law q (wordOf s b 126) (m + here m) (before s b c (here m)) (r - slots) g (p .3) in
-      (listing (w .0), behind (w .1), run-here m c b r (keys q (wordOf s b 126) (r - slots)) e .1 (p .1, w .2))
+      (counted (w .0), behind (w .1), run-here m c b r (keys q (wordOf s b 126) (r - slots)) e .1 (p .1, w .2))
     where
-      listing : Listing q (wordOf s b 126) (r - slots) → Listing (suc q) b r
-      listing l zero x n z a = let f : n ≡ N - m = omega arith in rw (f, a) (p .0)
-      listing l (suc i) x n z a = l i x n (omega arith) a
+      counted : Counted q (wordOf s b 126) (r - slots) → Counted (suc q) b r
+      counted l zero x n z a = let f : n ≡ N - m = omega arith in rw (f, a) (p .0)
+      counted l (suc i) x n z a = l i x n (omega arith) a
 
       behind : Behind q (wordOf s b 126) → Behind (suc q) b
       behind f x (inl a) = rw a (p .2)
@@ -147,7 +147,7 @@ module _ (d : Disk) (s : List ℕ) (h : ℕ) where
       spread f = (
         f .size,
         (λ e. linked-end h (keys (listBlocks N) h N) (omega (arith, whole)) (f .following)),
-        law-spread (listBlocks N) h 0 h N (omega arith) (λ i x n e a. rw e (f .listing i x a)) (f .lists)
+        law-spread (listBlocks N) h 0 h N (omega arith) (λ i x n e a. rw e (f .counts i x a)) (f .lists)
             (law-run 0 h (keys (listBlocks N) h N) whole (λ i k n e a. let g : n ≡ suc i = omega arith in rw g (f .blocks i k a)) (f .following)),
       )
 
@@ -155,4 +155,4 @@ module _ (d : Disk) (s : List ℕ) (h : ℕ) where
       file p =
           let w = spread-law (listBlocks N) h 0 h N (omega arith) (p .2) in
           let u = run-law 0 h (keys (listBlocks N) h N) whole (λ q. p .1 (sym q)) (w .2) in
-          record { size = p .0; listing = λ i b a. w .0 i b (N - slots * i) refl a; lists = w .1; blocks = λ i k a. u .0 i k (suc i) (omega arith) a; following = u .1 }
+          record { size = p .0; counts = λ i b a. w .0 i b (N - slots * i) refl a; lists = w .1; blocks = λ i k a. u .0 i k (suc i) (omega arith) a; following = u .1 }

@@ -15,11 +15,11 @@ use Rattle.volume.specs.Disks.{rootOf}
 use Rattle.volume.specs.Blocks.{slots, wordOf, slotWord, keyWord, directory}
 use Rattle.volume.specs.Files.{keysDown, keysFrom, listsFrom, keysHere, listBlocks, blocksOf, listsOf, keysOf}
 use Rattle.volume.specs.References.{Kind, to, references}
-use Rattle.volume.specs.Law.{chainKey, Lists}
+use Rattle.volume.specs.Law.{chainKey, KeyCount}
 use Rattle.volume.specs.Breaks.{IsData}
 use Rattle.volume.proofs.Keys.{down-at, down-long}
 use Rattle.volume.proofs.Passes.{entry-passed, file-passed, list-passed}
-use Rattle.walk.specs.Nodes.{Node, root, bitmap, entry, list, datum, keyOf, bare, chained, slotNodes, before, keyNodes, listing, listed, contents, leadsTo, keyFault, faultOf, graph}
+use Rattle.walk.specs.Nodes.{Node, root, bitmap, entry, list, datum, keyOf, bare, chained, slotNodes, before, keyNodes, listLink, keyBlockNodes, contents, leadsTo, keyFault, faultOf, graph}
 use Rattle.walk.specs.Refusals.{Holder, FileAt}
 use Rattle.walk.proofs.Lists.{at-left, at-right, at-end}
 use Rattle.walk.proofs.Nodes.{in-linked, in-slots}
@@ -37,7 +37,7 @@ module _ (d : Disk) (s : List ℕ) where
   -- block b lists keys of file h, after m of its data blocks; c is the last of these, or the header
   pub record Tail (h b m c : ℕ) : Type 0 where
     pub lists : List ℕ
-    pub listed : h ∷ listsOf d s h ≡ lists ++ (b ∷ listsFrom s b (listBlocks (blocksOf d s h - m)))
+    pub split : h ∷ listsOf d s h ≡ lists ++ (b ∷ listsFrom s b (listBlocks (blocksOf d s h - m)))
     pub passed : m ≡ slots * length lists
     pub keys : List ℕ
     pub keyed : keysOf d s h ≡ keys ++ keysFrom s (blocksOf d s h - m) (b ∷ listsFrom s b (listBlocks (blocksOf d s h - m)))
@@ -49,7 +49,7 @@ module _ (d : Disk) (s : List ℕ) where
   tail-at h b m c n e t =
       let l : length (t .lists) ≡ suc n = omega (arith, t .passed) in
       let a = at-end b (t .lists) (b ∷ listsFrom s b (listBlocks (blocksOf d s h - m))) refl in
-      subst (λ i. At i b (h ∷ listsOf d s h)) l (subst (At (length (t .lists)) b) (sym (t .listed)) a)
+      subst (λ i. At i b (h ∷ listsOf d s h)) l (subst (At (length (t .lists)) b) (sym (t .split)) a)
 
   -- data block number n of file h, from 1; c is the one before, or the header
   pub record InFile (h n k c : ℕ) : Type 0 where
@@ -71,7 +71,7 @@ module _ (d : Disk) (s : List ℕ) where
       let e : blocksOf d s h ≡ blocksOf d s h - 0 = omega arith in
       record {
         lists = [];
-        listed = ap (λ n. h ∷ listsFrom s h (listBlocks n)) e;
+        split = ap (λ n. h ∷ listsFrom s h (listBlocks n)) e;
         passed = omega arith;
         keys = [];
         keyed = ap (λ n. keysFrom s n (h ∷ listsFrom s h (listBlocks n))) e;
@@ -79,7 +79,7 @@ module _ (d : Disk) (s : List ℕ) where
         last = refl;
       }
 
-  module _ (h b m c : ℕ) (file : FileAt d s h) (t : Tail h b m c) (l : Lists s b (blocksOf d s h - m)) where
+  module _ (h b m c : ℕ) (file : FileAt d s h) (t : Tail h b m c) (l : KeyCount s b (blocksOf d s h - m)) where
     abbrev n : ℕ
     n = keysHere (blocksOf d s h - m)
 
@@ -122,7 +122,7 @@ module _ (d : Disk) (s : List ℕ) where
         tail =
             record {
               lists = t .lists ++ (b ∷ []);
-              listed = t .listed ∙ ap (λ q. t .lists ++ (b ∷ listsFrom s b q)) e ∙ later;
+              split = t .split ∙ ap (λ q. t .lists ++ (b ∷ listsFrom s b q)) e ∙ later;
               passed = omega (arith, many, t .passed, length-append (t .lists) (b ∷ []));
               keys = t .keys ++ keysDown s b 0 n;
               keyed = keyed′;
@@ -151,10 +151,10 @@ module _ (d : Disk) (s : List ℕ) where
                 ∙ ap (λ x. t .keys ++ (keysDown s b 0 n ++ x)) (ap (λ y. keysFrom s y blocks-after) f ∙ ap (keysFrom s (blocksOf d s h - (m + n))) (ap (listsFrom s b) e ∙ after))
                 ∙ sym (append-assoc (t .keys) (keysDown s b 0 n) (keysFrom s (blocksOf d s h - (m + n)) rest))
 
-    listed-stood : (x : Node) → x ∈ listed d s h b m c → Stood x
-    listed-stood x a = go (in-either x (keyNodes s h b m c 0 n) (listing (wordOf s b 126) h (m + n) (before s b c n)) a)
+    nodes-stood : (x : Node) → x ∈ keyBlockNodes d s h b m c → Stood x
+    nodes-stood x a = go (in-either x (keyNodes s h b m c 0 n) (listLink (wordOf s b 126) h (m + n) (before s b c n)) a)
       where
-        go : (x ∈ keyNodes s h b m c 0 n) ⊎ (x ∈ listing (wordOf s b 126) h (m + n) (before s b c n)) → Stood x
+        go : (x ∈ keyNodes s h b m c 0 n) ⊎ (x ∈ listLink (wordOf s b 126) h (m + n) (before s b c n)) → Stood x
         go (inl a) = keys-stood 0 n (omega arith) x a
         go (inr a) =
             let r = in-linked (wordOf s b 126) (λ k. list k h (m + n) (before s b c n)) x a in
@@ -166,11 +166,11 @@ module _ (d : Disk) (s : List ℕ) where
   unfolding chainKey
   slots-stood t o x h = let r = in-slots s t 0 slots x h in let l = r .1 in subst Stood (sym (r .2 .1)) (o, omega arith, refl, r .2 .0)
 
-  contents-stood : (k : ℕ) → Reached (references d s) (to Kind.entry k) → (b : Bool) → directory s k ≡ b → (b ≡ false → (wordOf s k 127 ≡ 0xFFFFFFFD) × Lists s k (blocksOf d s k)) → (x : Node) → x ∈ contents d s k b → Stood x
+  contents-stood : (k : ℕ) → Reached (references d s) (to Kind.entry k) → (b : Bool) → directory s k ≡ b → (b ≡ false → (wordOf s k 127 ≡ 0xFFFFFFFD) × KeyCount s k (blocksOf d s k)) → (x : Node) → x ∈ contents d s k b → Stood x
   contents-stood k r true e l = slots-stood k (inr (r, e))
   contents-stood k r false e l =
       let z : blocksOf d s k ≡ blocksOf d s k - 0 = omega arith in
-      listed-stood k k 0 k (record { reached = r; kind = l refl .0 }) (header-tail k) (subst (Lists s k) z (l refl .1))
+      nodes-stood k k 0 k (record { reached = r; kind = l refl .0 }) (header-tail k) (subst (KeyCount s k) z (l refl .1))
 
   leads-stood : (m : Node) → Reached (references d s) (bare d m) → faultOf d s m ≡ 0 → Stood m → (x : Node) → x ∈ leadsTo d s m → Stood x
   unfolding leadsTo faultOf
@@ -185,7 +185,7 @@ module _ (d : Disk) (s : List ℕ) where
       go : (x ∈ contents d s k (directory s k)) ⊎ (x ∈ chained (wordOf s k 124) t i (suc p)) → Stood x
       go (inl a) = contents-stood k r (directory s k) refl (λ q. let h = hung-passed d s k t i p e in (file-kind d s k (entry-passed d s k t i (h .0) .entry) q, file-passed d s k (h .2 q) .1)) x a
       go (inr a) = let w = in-linked (wordOf s k 124) (λ k. entry k t i (suc p)) x a in subst Stood (sym (w .1)) (c .0, c .1, next, w .0)
-  leads-stood (list k h m b) r e c x a = listed-stood h k m b (c .0) (c .2) (list-passed s k h _ e .2) x a
+  leads-stood (list k h m b) r e c x a = nodes-stood h k m b (c .0) (c .2) (list-passed s k h _ e .2) x a
   leads-stood (datum k h n b) r e c x a = absurd a
 
   -- ---- the theorem

@@ -1,4 +1,4 @@
--- The theorem `fine-tree`: if every reached node passes its tests, every block is owned once, and length and tag are right, the tree is as
+-- The theorem `passes-tree`: if every reached node passes its tests, every block is owned once, and length and tag are right, the tree is as
 -- its law says. Assumes nothing.
 use Prim.Native.Nat.{ℕ, zero, suc, _+_, _-_, _≤_, _<_}
 use mathlib.Core.Path.{_≡_, refl, sym, ap, subst}
@@ -15,20 +15,20 @@ use Rattle.volume.specs.Disks.{firstKey, imageBytes, tagOf, rootOf}
 use Rattle.volume.specs.Blocks.{wordOf, sumOf, directory}
 use Rattle.volume.specs.Files.{keysDown, listBlocks, blocksOf}
 use Rattle.volume.specs.References.{Kind, to, references}
-use Rattle.volume.specs.Law.{Lists, Directory, File, Tree}
-use Rattle.volume.proofs.Passes.{Placed, entry-passed, file-passed, list-passed, data-passed}
-use Rattle.walk.specs.Nodes.{Node, root, bitmap, entry, list, datum, keyOf, bare, before, keyNodes, listing, listed, contents, leadsTo, faultOf}
+use Rattle.volume.specs.Law.{KeyCount, Directory, File, Tree}
+use Rattle.volume.proofs.Passes.{EntrySound, entry-passed, file-passed, list-passed, data-passed}
+use Rattle.walk.specs.Nodes.{Node, root, bitmap, entry, list, datum, keyOf, bare, before, keyNodes, listLink, keyBlockNodes, contents, leadsTo, faultOf}
 use Rattle.walk.proofs.Nodes.{NodeReached, linked-in}
 use Rattle.walk.proofs.Passes.{Hung, key-passed, hung-passed, sum-passed}
-use Rattle.walk.proofs.Accepts.{TreeFine, node-reached, node-key}
+use Rattle.walk.proofs.Accepts.{TreePasses, node-reached, node-key}
 use Rattle.walk.proofs.Spreads.{Run, Spread, here, file-spreads}
-use Rattle.walk.proofs.Listed.{Sound, run-listed}
+use Rattle.walk.proofs.KeyRuns.{DataSound, run-nodes}
 use Rattle.walk.proofs.Directories.{leads, contents-reached, root-opened, directory-law}
 
-module _ (d : Disk) (s : List ℕ) (fine : TreeFine d s) where
+module _ (d : Disk) (s : List ℕ) (fine : TreePasses d s) where
   -- ---- a file
 
-  sound : (n : Node) → NodeReached d s n → Sound d s n
+  sound : (n : Node) → NodeReached d s n → DataSound d s n
   unfolding faultOf
   sound root r = tt
   sound (bitmap k) r = tt
@@ -36,19 +36,19 @@ module _ (d : Disk) (s : List ℕ) (fine : TreeFine d s) where
   sound (list k h m c) r = tt
   sound (datum k h n c) r = let p = data-passed d s k h n (wordOf s c 4) (fine (datum k h n c) r .1) in (p .1, p .2 .0, p .2 .1)
 
-  module _ (h b m c : ℕ) (r : (x : Node) → x ∈ listed d s h b m c → NodeReached d s x) where
+  module _ (h b m c : ℕ) (r : (x : Node) → x ∈ keyBlockNodes d s h b m c → NodeReached d s x) where
     abbrev n : ℕ
     n = here d s h m
 
     run-reached : Run d s h m c (keysDown s b 0 n)
-    run-reached = run-listed d s h b m c .1 (λ x a. sound x (r x (in-left x (keyNodes s h b m c 0 n) (listing (wordOf s b 126) h (m + n) (before s b c n)) a)))
+    run-reached = run-nodes d s h b m c .1 (λ x a. sound x (r x (in-left x (keyNodes s h b m c 0 n) (listLink (wordOf s b 126) h (m + n) (before s b c n)) a)))
 
     behind-reached : wordOf s b 126 ≢ 0 → NodeReached d s (list (wordOf s b 126) h (m + n) (before s b c n))
     behind-reached w =
         let x = list (wordOf s b 126) h (m + n) (before s b c n) in
-        r x (in-right x (keyNodes s h b m c 0 n) (listing (wordOf s b 126) h (m + n) (before s b c n)) (linked-in (wordOf s b 126) (λ k. list k h (m + n) (before s b c n)) w))
+        r x (in-right x (keyNodes s h b m c 0 n) (listLink (wordOf s b 126) h (m + n) (before s b c n)) (linked-in (wordOf s b 126) (λ k. list k h (m + n) (before s b c n)) w))
 
-  spread-reached : (h q b m c : ℕ) → q ≡ listBlocks (blocksOf d s h - m) → ((x : Node) → x ∈ listed d s h b m c → NodeReached d s x) → Lists s b (blocksOf d s h - m) → Spread d s h q b m c
+  spread-reached : (h q b m c : ℕ) → q ≡ listBlocks (blocksOf d s h - m) → ((x : Node) → x ∈ keyBlockNodes d s h b m c → NodeReached d s x) → KeyCount s b (blocksOf d s h - m) → Spread d s h q b m c
   unfolding faultOf leadsTo
   spread-reached h zero b m c e r l = (l, run-reached h b m c r)
   spread-reached h (suc q) b m c e r l =
@@ -85,32 +85,32 @@ module _ (d : Disk) (s : List ℕ) (fine : TreeFine d s) where
     unfolding faultOf
     hung = hung-passed d s k (node .0) (node .1) (node .2) (fine (entry k (node .0) (node .1) (node .2)) (node .3) .1)
 
-    placed : Placed d s k (node .0) (node .1)
-    placed = entry-passed d s k (node .0) (node .1) (hung .0)
+    entry-sound : EntrySound d s k (node .0) (node .1)
+    entry-sound = entry-passed d s k (node .0) (node .1) (hung .0)
 
     content : (b : Bool) → directory s k ≡ b → (n : Node) → n ∈ contents d s k b → NodeReached d s n
     content b = contents-reached d s k (node .0) (node .1) (node .2) b (node .3)
 
     directory-reached : directory s k ≡ true → (wordOf s k 126 ≡ 0) × Directory d s k
-    directory-reached e = (placed .link e, directory-law d s k (content true e) fine)
+    directory-reached e = (entry-sound .link e, directory-law d s k (content true e) fine)
 
     pub file-reached : directory s k ≡ false → File d s k
     file-reached e =
         let f = file-passed d s k (hung .2 e) in
         let z : blocksOf d s k ≡ blocksOf d s k - 0 = omega arith in
-        file-spreads d s k .1 (f .0, f .2, spread-reached k (listBlocks (blocksOf d s k)) k 0 k (ap listBlocks z) (content false e) (subst (Lists s k) z (f .1)))
+        file-spreads d s k .1 (f .0, f .2, spread-reached k (listBlocks (blocksOf d s k)) k 0 k (ap listBlocks z) (content false e) (subst (KeyCount s k) z (f .1)))
 
   -- ---- the theorem
 
-  pub fine-tree : Owned (references d s) → length s ≡ imageBytes d → wordAt s 0 ≡ tagOf d → Tree d s
-  fine-tree o l t =
+  pub passes-tree : Owned (references d s) → length s ≡ imageBytes d → wordAt s 0 ≡ tagOf d → Tree d s
+  passes-tree o l t =
       record {
         long = l;
         tag = t;
         keys = λ r h. let n = node-reached d s fine h in subst (λ k. (firstKey ≤ k) × (k < d .blocks)) (node-key d s fine h) (key-passed d (keyOf d (n .0)) (fine (n .0) (n .1) .0));
         sums = λ r h. let n = node-reached d s fine h in subst (λ k. sumOf s k ≡ 0) (node-key d s fine h) (sum-passed d s (n .0) (fine (n .0) (n .1) .1));
         top = fine root (top refl) .1 .1;
-        entries = λ k h. placed k h .entry;
+        entries = λ k h. entry-sound k h .entry;
         holds = directory-law d s (rootOf d) (root-opened d s) fine;
         directories = directory-reached;
         files = file-reached;

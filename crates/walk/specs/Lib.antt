@@ -6,4 +6,4 @@ pub mod Reports
 -- what a refusal means
 pub mod Refusals
 -- a block that lists keys, and the next
-pub mod Listings
+pub mod KeyBlocks

@@ -21,7 +21,7 @@ pub data Node : Type 0 where
   root : Node
   -- its key
   bitmap : ℕ → Node
-  -- its key; the directory and the slot on whose chain it hangs, and its place there, from 0
+  -- its key; the directory and the slot on whose chain it hangs, and its position there, from 0
   entry : ℕ → ℕ → ℕ → ℕ → Node
   -- its key; the header, how many data blocks come before its own, and the last of these (or the header)
   list : ℕ → ℕ → ℕ → ℕ → Node
@@ -68,26 +68,26 @@ unfoldable pub keyNodes : List ℕ → ℕ → ℕ → ℕ → ℕ → ℕ → �
 keyNodes s h b m c i zero = []
 keyNodes s h b m c i (suc n) = datum (keyWord s b i) h (suc (m + i)) (before s b c i) ∷ keyNodes s h b m c (suc i) n
 
-abbrev pub listing : ℕ → ℕ → ℕ → ℕ → List Node
-listing k h m c = linked k (λ k. list k h m c)
+abbrev pub listLink : ℕ → ℕ → ℕ → ℕ → List Node
+listLink k h m c = linked k (λ k. list k h m c)
 
 -- what block b lists: n data blocks, then the list block after it
-abbrev pub listedBy : List ℕ → ℕ → ℕ → ℕ → ℕ → ℕ → List Node
-listedBy s h b m c n = keyNodes s h b m c 0 n ++ listing (wordOf s b 126) h (m + n) (before s b c n)
+abbrev pub countedNodes : List ℕ → ℕ → ℕ → ℕ → ℕ → ℕ → List Node
+countedNodes s h b m c n = keyNodes s h b m c 0 n ++ listLink (wordOf s b 126) h (m + n) (before s b c n)
 
-abbrev pub listed : Disk → List ℕ → ℕ → ℕ → ℕ → ℕ → List Node
-listed d s h b m c = listedBy s h b m c (keysHere (blocksOf d s h - m))
+abbrev pub keyBlockNodes : Disk → List ℕ → ℕ → ℕ → ℕ → ℕ → List Node
+keyBlockNodes d s h b m c = countedNodes s h b m c (keysHere (blocksOf d s h - m))
 
 -- what is in a directory, or in a file
 abbrev pub contents : Disk → List ℕ → ℕ → Bool → List Node
 contents d s k true = slotNodes s k 0 slots
-contents d s k false = listed d s k k 0 k
+contents d s k false = keyBlockNodes d s k k 0 k
 
 unfoldable pub leadsTo : Disk → List ℕ → Node → List Node
 leadsTo d s root = bitmap (wordOf s (rootOf d) 79) ∷ slotNodes s (rootOf d) 0 slots
 leadsTo d s (bitmap k) = []
 leadsTo d s (entry k t i p) = contents d s k (directory s k) ++ chained (wordOf s k 124) t i (suc p)
-leadsTo d s (list k h m c) = listed d s h k m c
+leadsTo d s (list k h m c) = keyBlockNodes d s h k m c
 leadsTo d s (datum k h n c) = []
 
 -- ---- the tests

@@ -15,8 +15,8 @@ use Rattle.volume.specs.Blocks.{slots, wordOf, sumOf, slotWord, directory, data
 use Rattle.volume.specs.Names.{nameOf, nameGood, folded, slotOf}
 use Rattle.volume.specs.Files.{blocksOf, listsOf}
 use Rattle.volume.specs.References.{Kind, Ref, to, references}
-use Rattle.volume.specs.Law.{OneBitmap, Valid, chainKey, Hangs, Lists, ListBlock, RootKind, RootFixed, EntryKind, ListKind}
-use Rattle.volume.specs.Breaks.{Inside, RootSound, RootBreaks, MapBreaks, BitmapBreaks, Link, EntryTies, Placed, EntryBreaks, HeaderSound, HeaderBreaks, ListBreaks, IsData, DataTies, DataBreaks}
+use Rattle.volume.specs.Law.{OneBitmap, Valid, chainKey, Hangs, KeyCount, ListBlock, RootKind, RootFixed, EntryKind, ListKind}
+use Rattle.volume.specs.Breaks.{Inside, RootSound, RootBreaks, MapBreaks, BitmapBreaks, Link, EntryTies, EntrySound, EntryBreaks, HeaderSound, HeaderBreaks, ListBreaks, IsData, DataTies, DataBreaks}
 use Rattle.walk.specs.Nodes.{Node, root, bitmap, entry, list, datum, keyOf, leadsTo}
 
 -- ---- when it is given, exactly
@@ -31,8 +31,8 @@ NodeBreaks d s root v = RootBreaks s (rootOf d) v ⊎ (RootSound s (rootOf d) ×
 NodeBreaks d s (bitmap k) v = BitmapBreaks s k v
 NodeBreaks d s (entry k t i p) v =
     EntryBreaks d s k t i v
-    ⊎ (Placed d s k t i × Doubled d s k (slotWord s t i) p × (v ≡ fault.doubleName))
-    ⊎ (Placed d s k t i × (Doubled d s k (slotWord s t i) p → ⊥) × (directory s k ≡ false) × HeaderBreaks d s k v)
+    ⊎ (EntrySound d s k t i × Doubled d s k (slotWord s t i) p × (v ≡ fault.doubleName))
+    ⊎ (EntrySound d s k t i × (Doubled d s k (slotWord s t i) p → ⊥) × (directory s k ≡ false) × HeaderBreaks d s k v)
 NodeBreaks d s (list k h m c) v = ListBreaks s k h (blocksOf d s h - m) v
 NodeBreaks d s (datum k h n c) v = DataBreaks d s k h n (wordOf s c 4) v
 
@@ -88,7 +88,7 @@ pub data Cause (d : Disk) (s : List ℕ) (v k : ℕ) : Type 0 where
   number-4 : k ≡ rootOf d → (RootFixed s k → ⊥) → v ≡ fault.rootWords → Cause d s v k
   -- `Tree.keys`: a reached block refers to a key outside the volume
   number-5 : (a : Kind) → Reached (references d s) (to a k) → (Inside d k → ⊥) → v ≡ fault.badKey → Cause d s v k
-  -- `Tree.owned`: two places refer to block k, or one does and it is the root
+  -- `Tree.owned`: two references lead to block k, or one does and it is the root
   number-6 : Twice (references d s) k → v ≡ fault.claimedTwice → Cause d s v k
   -- `Tree.sums`
   number-7 : (a : Kind) → Reached (references d s) (to a k) → sumOf s k ≢ 0 → v ≡ fault.blockSum → Cause d s v k
@@ -104,10 +104,10 @@ pub data Cause (d : Disk) (s : List ℕ) (v k : ℕ) : Type 0 where
   -- `Directory.slot`
   number-12 : (t i : ℕ) → Hung d s t i k → slotOf d (nameOf s k) ≢ i → v ≡ fault.wrongSlot → Cause d s v k
   -- `Directory.names`: another entry, earlier on the chain of that directory, has the same folded name
-  number-13 : (t i l : ℕ) (h : Hung d s t i k) (g : Hangs s t i l) → g .place < h .hangs .place → l ≢ k → folded d (nameOf s l) ≡ folded d (nameOf s k) → v ≡ fault.doubleName → Cause d s v k
-  -- `File.size`, `File.listing` or, of an empty file, `File.following`; of list block i of a file `File.listing`
+  number-13 : (t i l : ℕ) (h : Hung d s t i k) (g : Hangs s t i l) → g .position < h .hangs .position → l ≢ k → folded d (nameOf s l) ≡ folded d (nameOf s k) → v ≡ fault.doubleName → Cause d s v k
+  -- `File.size`, `File.counts` or, of an empty file, `File.following`; of list block i of a file `File.counts`
   number-14 : FileAt d s k → (HeaderSound d s k → ⊥) → v ≡ fault.fileLayout → Cause d s v k
-  number-14-list : (h i : ℕ) → FileAt d s h → At i k (listsOf d s h) → (Lists s k (blocksOf d s h - slots * suc i) → ⊥) → v ≡ fault.fileLayout → Cause d s v k
+  number-14-list : (h i : ℕ) → FileAt d s h → At i k (listsOf d s h) → (KeyCount s k (blocksOf d s h - slots * suc i) → ⊥) → v ≡ fault.fileLayout → Cause d s v k
   -- `File.blocks` or `File.following`, of data block i of a file, counted from 0; c is the data block before it, or the header
   number-15 : (h i c : ℕ) → FileAt d s h → IsData d s h i k c → (DataTies d s k h (suc i) (wordOf s c 4) → ⊥) → v ≡ fault.dataLayout → Cause d s v k
   -- `Volume.valid` or `Root.rest`

@@ -12,22 +12,22 @@ use Rattle.words.proofs.Words.{Far, Off, length-addAt, addAt-off, addAt
 -- t shares no byte with any target
 abbrev pub FarAll : ℕ → List Target → Type 0
 FarAll t [] = Unit
-FarAll t (u ∷ us) = Far t (u .place) × FarAll t us
+FarAll t (u ∷ us) = Far t (u .loadedAt) × FarAll t us
 
 -- no two targets share a byte
 abbrev pub Apart : List Target → Type 0
 Apart [] = Unit
-Apart (t ∷ ts) = FarAll (t .place) ts × Apart ts
+Apart (t ∷ ts) = FarAll (t .loadedAt) ts × Apart ts
 
 -- every target lies within n bytes
 abbrev pub Within : ℕ → List Target → Type 0
 Within n [] = Unit
-Within n (t ∷ ts) = (t .place + 4 ≤ n) × Within n ts
+Within n (t ∷ ts) = (t .loadedAt + 4 ≤ n) × Within n ts
 
--- place k is no byte of any target
+-- byte k is no byte of any target
 abbrev pub OffAll : ℕ → List Target → Type 0
 OffAll k [] = Unit
-OffAll k (t ∷ ts) = Off k (t .place) × OffAll k ts
+OffAll k (t ∷ ts) = Off k (t .loadedAt) × OffAll k ts
 
 pub length-shiftAll : (m : List ℕ) (ts : List Target) (f : ℕ → ℕ) → length (shiftAll m ts f) ≡ length m
 unfolding shiftAll
@@ -45,27 +45,27 @@ shiftAll-past : (m : List ℕ) (ts : List Target) (f : ℕ → ℕ) (t d : ℕ) 
 unfolding shiftAll
 shiftAll-past m [] f t d a = refl
 shiftAll-past m (u ∷ us) f t d a =
-    shiftAll-past _ us f t d (a .1) ∙ ap (λ n. shiftAll n us f) (sym (addAt-comm m t d (u .place) (f (u .key)) (a .0)))
+    shiftAll-past _ us f t d (a .1) ∙ ap (λ n. shiftAll n us f) (sym (addAt-comm m t d (u .loadedAt) (f (u .key)) (a .0)))
 
 -- two shifts are one by the sums
 pub shiftAll-twice : (m : List ℕ) (ts : List Target) (f g : ℕ → ℕ) → Apart ts → Within (length m) ts → shiftAll (shiftAll m ts f) ts g ≡ shiftAll m ts (λ k. (f k + g k) % 2 ^ 32)
 unfolding shiftAll
 shiftAll-twice m [] f g a w = refl
 shiftAll-twice m (t ∷ ts) f g a w =
-    rw (shiftAll-past (addAt m (t .place) (f (t .key))) ts f (t .place) (g (t .key)) (a .0), addAt-twice m (t .place) (f (t .key)) (w .0) (g (t .key)))
-    (shiftAll-twice (addAt m (t .place) ((f (t .key) + g (t .key)) % 2 ^ 32)) ts f g (a .1) (rw length-addAt (w .1)))
+    rw (shiftAll-past (addAt m (t .loadedAt) (f (t .key))) ts f (t .loadedAt) (g (t .key)) (a .0), addAt-twice m (t .loadedAt) (f (t .key)) (w .0) (g (t .key)))
+    (shiftAll-twice (addAt m (t .loadedAt) ((f (t .key) + g (t .key)) % 2 ^ 32)) ts f g (a .1) (rw length-addAt (w .1)))
 
 -- a shift by nothing changes nothing
 pub shiftAll-zero : (m : List ℕ) (ts : List Target) → Bytes m → shiftAll m ts (λ k. 0) ≡ m
 unfolding shiftAll
 shiftAll-zero m [] b = refl
-shiftAll-zero m (t ∷ ts) b = rw (addAt-zero m (t .place) b) (shiftAll-zero m ts b)
+shiftAll-zero m (t ∷ ts) b = rw (addAt-zero m (t .loadedAt) b) (shiftAll-zero m ts b)
 
 -- amounts count modulo 2^32
 pub shiftAll-mod : (m : List ℕ) (ts : List Target) (f g : ℕ → ℕ) → ((k : ℕ) → f k % 2 ^ 32 ≡ g k % 2 ^ 32) → shiftAll m ts f ≡ shiftAll m ts g
 unfolding shiftAll
 shiftAll-mod m [] f g h = refl
-shiftAll-mod m (t ∷ ts) f g h = rw (addAt-mod m (t .place) (f (t .key)) (g (t .key)) (h (t .key))) (shiftAll-mod _ ts f g h)
+shiftAll-mod m (t ∷ ts) f g h = rw (addAt-mod m (t .loadedAt) (f (t .key)) (g (t .key)) (h (t .key))) (shiftAll-mod _ ts f g h)
 
 -- a load at the old bases and a move by the differences is a load at the new ones
 pub shiftAll-moved : (m : List ℕ) (ts : List Target) (old d new : ℕ → ℕ) → ((k : ℕ) → (old k + d k) % 2 ^ 32 ≡ new k % 2 ^ 32) → Apart ts → Within (length m) ts → shiftAll (shiftAll m ts old) ts d ≡ shiftAll m ts new
@@ -75,23 +75,23 @@ shiftAll-moved m ts old d new h a w =
 -- each target's word of n is that of m with its amount
 abbrev pub Added : List ℕ → List ℕ → List Target → (ℕ → ℕ) → Type 0
 Added m n [] f = Unit
-Added m n (t ∷ ts) f = (wordAt n (t .place) ≡ (wordAt m (t .place) + f (t .key)) % 2 ^ 32) × Added m n ts f
+Added m n (t ∷ ts) f = (wordAt n (t .loadedAt) ≡ (wordAt m (t .loadedAt) + f (t .key)) % 2 ^ 32) × Added m n ts f
 
 shiftAll-far : (m : List ℕ) (ts : List Target) (f : ℕ → ℕ) (t : ℕ) → FarAll t ts → wordAt (shiftAll m ts f) t ≡ wordAt m t
 unfolding shiftAll
 shiftAll-far m [] f t a = refl
-shiftAll-far m (u ∷ us) f t a = shiftAll-far _ us f t (a .1) ∙ addAt-apart m (u .place) (f (u .key)) t (⊎-elim inr inl (a .0))
+shiftAll-far m (u ∷ us) f t a = shiftAll-far _ us f t (a .1) ∙ addAt-apart m (u .loadedAt) (f (u .key)) t (⊎-elim inr inl (a .0))
 
 added-from : (m n : List ℕ) (ts : List Target) (f : ℕ → ℕ) (t d : ℕ) → FarAll t ts → Added (addAt m t d) n ts f → Added m n ts f
 added-from m n [] f t d a h = tt
-added-from m n (u ∷ us) f t d a h = (rw (addAt-apart m t d (u .place) (a .0)) at (h .0), added-from m n us f t d (a .1) (h .1))
+added-from m n (u ∷ us) f t d a h = (rw (addAt-apart m t d (u .loadedAt) (a .0)) at (h .0), added-from m n us f t d (a .1) (h .1))
 
 pub shiftAll-added : (m : List ℕ) (ts : List Target) (f : ℕ → ℕ) → Apart ts → Within (length m) ts → Added m (shiftAll m ts f) ts f
 unfolding shiftAll
 shiftAll-added m [] f a w = tt
 shiftAll-added m (t ∷ ts) f a w = (
-  shiftAll-far _ ts f (t .place) (a .0) ∙ addAt-same m (t .place) (f (t .key)) (w .0),
-  added-from m _ ts f (t .place) (f (t .key)) (a .0) (shiftAll-added (addAt m (t .place) (f (t .key))) ts f (a .1) (rw length-addAt (w .1))),
+  shiftAll-far _ ts f (t .loadedAt) (a .0) ∙ addAt-same m (t .loadedAt) (f (t .key)) (w .0),
+  added-from m _ ts f (t .loadedAt) (f (t .key)) (a .0) (shiftAll-added (addAt m (t .loadedAt) (f (t .key))) ts f (a .1) (rw length-addAt (w .1))),
 )
 
 -- ---- amounts that agree where they are used

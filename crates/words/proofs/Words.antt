@@ -42,7 +42,7 @@ four-of w h =
     let r : w / 16777216 % 256 ≡ w / 16777216 = omega arith in
     omega (arith, div-add-mod' w 256, div-add-mod' (w / 256) 256, div-add-mod' (w / 65536) 256)
 
--- every place stands before the word at `at`, after it, or is one of its four
+-- every byte stands before the word at `at`, after it, or is one of its four
 pub split : (P : ℕ → Type 0) (at : ℕ) → P at → P (at + 1) → P (at + 2) → P (at + 3) → ((k : ℕ) → k < at → P k) → ((k : ℕ) → at + 4 ≤ k → P k) → (k : ℕ) → P k
 split P at p0 p1 p2 p3 lo hi k = go (decLt k at)
   where
@@ -171,7 +171,7 @@ wordAt-same-bytes s t at h =
 
 -- ---- adding
 
--- place k is no byte of the word at t
+-- byte k is no byte of the word at t
 abbrev pub Off : ℕ → ℕ → Type 0
 Off k t = (k < t) ⊎ (t + 4 ≤ k)
 

@@ -1,5 +1,5 @@
 -- What the contracts of `words` cite.
--- a word at a place: read, stored, added to
+-- a word at a byte: read, stored, added to
 pub mod Word
 -- the sum of a block's words
 pub mod Sum

@@ -1,7 +1,8 @@
-// Big-endian 32-bit words of a slice of bytes: read, store, add, and the sum of a block's words; and bytes set to 0.
+// Big-endian 32-bit words of a slice of bytes: read, store, add, and the sum of a block's words; bytes set to 0; and
+// the smaller of two numbers.
 ghost use mathlib.Core.Path.{_≡_};
 ghost use mathlib.Core.List.{_++_};
-ghost use Prim.Native.Nat.{_+_, _*_, _≤_};
+ghost use Prim.Native.Nat.{_+_, _*_, _≤_, min};
 ghost use lib.ListN.{length, replicate, drop};
 ghost use Rattle.words.specs.Word.{four, wordAt, setWord, addAt};
 ghost use Rattle.words.specs.Sum.{blockWords, sumAt};
@@ -76,4 +77,11 @@ pub fn wipe(bytes: &mut [u8])
 {
     let n = bytes.len();
     clear(bytes, n);
+}
+
+// The smaller of two numbers.
+pub fn least(a: usize, b: usize) -> usize
+    ensures { λ r. ⌜ r ≡ min a b ⌝ }
+{
+    if a <= b { a } else { b }
 }

@@ -1,5 +1,6 @@
 -- `audit::audit::audit` meets its contract. Assumes nothing.
 use Rattle.volume.proofs.Sizes.{floppy-sized}
+use Rattle.audit.proofs.Auditing.{on-floppy}
 use borrow.Author.Needs.{needs}
 use Rattle.audit.proofs.audit.audit.Statement.{statement}
 use Rattle.audit.proofs.audit.audit.Tie as tie
@@ -14,7 +15,7 @@ same-length : tie.Need-same-length
 same-length c = search needs
 
 returns : tie.Need-returns
-returns c = rw (c .before .before .before .before .floppy .ensures) at (c .before .before .audit-on .ensures)
+returns c = search on-floppy depth 9
 
 pub audit-spec : {M : Type 1} → statement M
 audit-spec = tie.close (tie.spec floppy-requires audit-on-requires same-length returns)

@@ -1,6 +1,6 @@
 -- `audit::audit::audit_on` meets its contract. Assumes nothing.
 use mathlib.Core.Path.{_∙_}
-use Rattle.audit.proofs.Auditing.{audit-length, audit-short, audit-untagged, audit-goes, all-zero}
+use Rattle.audit.proofs.Auditing.{audit-length, audit-short, audit-untagged, audit-goes, is-fresh}
 use borrow.Author.Needs.{needs}
 use Rattle.audit.proofs.audit.audit_on.Statement.{statement}
 use Rattle.audit.proofs.audit.audit_on.Tie as tie
@@ -18,7 +18,7 @@ same-length : tie.Need-same-length
 same-length c = search needs
 
 returns : tie.Need-returns
-returns c = audit-length _ _ _ _ _ _ (c .before .before .before .before .before .wipe .ensures) (c .before .before .image-bytes .ensures) (c .before .if1 .taken) (c .refused .ensures)
+returns c = search audit-length depth 9
 
 claim-bytes-requires : tie.Need-claim-bytes-requires
 claim-bytes-requires c κs = search needs
@@ -30,19 +30,19 @@ same-length-2 : tie.Need-same-length-2
 same-length-2 c = search needs
 
 returns-2 : tie.Need-returns-2
-returns-2 c = audit-short _ _ _ _ _ _ (c .before .before .before .before .before .before .before .wipe .ensures) (c .before .before .before .before .image-bytes .ensures) (c .before .before .before .if1 .left) _ _ (c .before .before .claim-bytes .ensures) (c .before .before .before .before .before .before .before .wipe .kept .0) (c .before .if2 .taken) (c .refused2 .ensures)
+returns-2 c = search audit-short depth 9
 
 has-tag-requires : tie.Need-has-tag-requires
 has-tag-requires c κs = search needs
 
 audit-tagged-requires : tie.Need-audit-tagged-requires
-audit-tagged-requires c κs = (c .before .before .before .before .before .before .before .before .before .before .before .before .before .pre, c .before .before .before .before .before .if1 .left ∙ c .before .before .before .before .before .before .image-bytes .ensures, all-zero _ _ (c .before .before .before .before .before .before .before .before .before .wipe .ensures) (c .before .before .before .before .before .before .before .before .before .wipe .kept .0), rw (c .before .before .before .before .claim-bytes .ensures) at (c .before .before .before .if2 .left))
+audit-tagged-requires c κs = (search needs, search needs, search is-fresh depth 9)
 
 same-length-3 : tie.Need-same-length-3
 same-length-3 c = search needs
 
 returns-3 : tie.Need-returns-3
-returns-3 c = audit-goes _ _ _ _ _ _ (c .before .before .before .before .before .before .before .before .before .before .before .before .wipe .ensures) (c .before .before .before .before .before .before .before .before .before .image-bytes .ensures) (c .before .before .before .before .before .before .before .before .if1 .left) _ _ (c .before .before .before .before .before .before .before .claim-bytes .ensures) (c .before .before .before .before .before .before .before .before .before .before .before .before .wipe .kept .0) (c .before .before .before .before .before .before .if2 .left) _ (c .before .before .before .before .before .has-tag .ensures) _ (c .before .before .before .before .if3 .taken) (c .before .before .audit-tagged .ensures)
+returns-3 c = search audit-goes depth 9
 
 refused-requires-3 : tie.Need-refused-requires-3
 refused-requires-3 c κs = search needs
@@ -51,7 +51,7 @@ same-length-4 : tie.Need-same-length-4
 same-length-4 c = search needs
 
 returns-4 : tie.Need-returns-4
-returns-4 c = audit-untagged _ _ _ _ _ _ (c .before .before .before .before .before .before .before .before .before .wipe .ensures) (c .before .before .before .before .before .before .image-bytes .ensures) (c .before .before .before .before .before .if1 .left) _ _ (c .before .before .before .before .claim-bytes .ensures) (c .before .before .before .before .before .before .before .before .before .wipe .kept .0) (c .before .before .before .if2 .left) _ (c .before .before .has-tag .ensures) (c .before .if3 .left) (c .refused3 .ensures)
+returns-4 c = search audit-untagged depth 9
 
 pub audit-on-spec : {M : Type 1} → statement M
 audit-on-spec =

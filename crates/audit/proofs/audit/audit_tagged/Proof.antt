@@ -14,10 +14,10 @@ slice-relend-prefix-audit-within : tie.Need-slice-relend-prefix-audit-within
 slice-relend-prefix-audit-within c = search needs
 
 slice-aggregate-audit-within : tie.Need-slice-aggregate-audit-within
-slice-aggregate-audit-within c = c .before .claim-bytes .ensures ∙ part-long (c .before .before .before .before .args .disk) _ _ (c .before .claim-bytes .ensures) (c .before .before .before .before .pre .2) (c .before .before .before .before .pre .3)
+slice-aggregate-audit-within c = search part-long depth 9
 
 audit-within-requires : tie.Need-audit-within-requires
-audit-within-requires c κs = (c .before .before .before .before .pre .0, c .before .before .before .before .pre .1, part-zero (c .before .before .before .before .args .disk) _ _ (c .before .claim-bytes .ensures) (c .before .before .before .before .pre .2) (c .before .before .before .before .pre .3))
+audit-within-requires c κs = search (needs, part-zero) depth 9
 
 enum-told : tie.Need-enum-told
 enum-told c = search needs
@@ -29,16 +29,21 @@ same-length : tie.Need-same-length
 same-length c = search needs
 
 returns : tie.Need-returns
-returns c = tagged-accepted _ _ _ (c .before .before .before .before .before .before .claim-bytes .ensures) (c .before .before .before .before .before .before .before .before .before .pre .2) _ _ _ (c .before .before .before .before .audit-within .ensures) _ (c .enum-told2 .given .1)
+returns c = search tagged-accepted depth 9
 
 clear-requires : tie.Need-clear-requires
-clear-requires c κs = omega (arith, area-long (c .before .before .before .before .before .before .before .before .before .before .args .disk) _ _ (c .before .before .before .before .before .before .before .claim-bytes .ensures) (c .before .before .before .before .before .before .before .before .before .before .pre .2) (c .before .before .before .before .before .audit-within .last .1 .1 .0) (c .before .before .before .before .before .before .before .before .before .before .pre .3) (c .before .before .before .before .before .audit-within .kept .1 .1 .0))
+clear-requires c κs = search area-long depth 9
 
 same-length-2 : tie.Need-same-length-2
 same-length-2 c = search needs
 
 returns-2 : tie.Need-returns-2
-returns-2 c = tagged-refused _ _ _ (c .before .before .before .before .before .before .before .before .before .before .claim-bytes .ensures) (c .before .before .before .before .before .before .before .before .before .before .before .before .before .pre .2) _ _ _ (c .before .before .before .before .before .before .before .before .audit-within .ensures) _ _ (c .before .before .before .before .enum-told .given .1) (c .before .before .before .before .before .before .before .before .before .before .before .before .before .pre .3) (c .before .before .before .before .before .before .before .before .audit-within .kept .1 .1 .0) (c .before .before .clear .ensures)
+returns-2 c =
+    let told = c .before .before .before .before in
+    let walked = told .before .before .before .before in
+    let start = walked .before .before .before .before .before in
+    tagged-refused _ _ _ (walked .before .before .claim-bytes .ensures) (start .pre .2) _ _ _ (walked .audit-within .ensures) _ _ (told .enum-told .given .1)
+    (walked .audit-within .kept .1 .1 .0) (c .before .before .clear .ensures)
 
 pub audit-tagged-spec : {M : Type 1} → statement M
 audit-tagged-spec =

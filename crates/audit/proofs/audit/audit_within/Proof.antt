@@ -2,7 +2,7 @@
 use native.Mathlib.Omega.{arith}
 use mathlib.Core.Path.{_∙_}
 use lib.ListN.{length-replicate}
-use Rattle.audit.proofs.Auditing.{within-stopped, walk-few, bitmap-inside, within-right, within-wrong}
+use Rattle.audit.proofs.Auditing.{zeros-long, kept-long, within-stopped, walk-few, bitmap-inside, within-right, within-wrong}
 use borrow.Author.Needs.{needs}
 use Rattle.audit.proofs.audit.audit_within.Statement.{statement}
 use Rattle.audit.proofs.audit.audit_within.Tie as tie
@@ -23,13 +23,13 @@ word-of-requires : tie.Need-word-of-requires
 word-of-requires c κs = search needs
 
 check-bits-requires : tie.Need-check-bits-requires
-check-bits-requires c κs = (c .before .before .before .before .before .before .before .before .before .before .before .before .pre .0, c .before .before .before .before .before .before .before .before .before .before .before .before .pre .1, c .before .before .before .before .before .before .before .before .walk-volume .kept .1 .1 .0 ∙ rw (c .before .before .before .before .before .before .before .before .before .before .before .before .pre .2) (length-replicate _ 0), bitmap-inside _ _ _ _ _ (c .before .before .before .before .before .before .before .before .before .before .before .before .pre .2) (c .before .before .before .before .before .before .before .before .walk-volume .ensures) _ (c .before .before .before .before .w2 .given .1) _ _ (c .before .before .root .ensures) (c .before .word-of .ensures))
+check-bits-requires c κs = search (needs, kept-long, bitmap-inside) depth 9
 
 enum-known-m : tie.Need-enum-known-m
 enum-known-m c = search needs
 
 reported-requires : tie.Need-reported-requires
-reported-requires c κs = omega (arith, walk-few _ _ _ _ _ (c .before .before .before .before .before .before .before .before .before .before .before .before .before .before .before .before .pre .2) (c .before .before .before .before .before .before .before .before .before .before .before .before .walk-volume .ensures) _ (c .before .before .before .before .before .before .before .before .w2 .given .1) (c .before .before .before .before .before .before .before .before .before .before .before .before .before .before .before .before .pre .0))
+reported-requires c κs = search walk-few depth 9
 
 enum-known-m-2 : tie.Need-enum-known-m-2
 enum-known-m-2 c = search needs
@@ -41,19 +41,19 @@ same-length : tie.Need-same-length
 same-length c = search needs
 
 returns : tie.Need-returns
-returns c = within-stopped _ _ _ _ _ (c .before .before .before .before .before .before .before .before .before .pre .2) (c .before .before .before .before .before .walk-volume .ensures) _ _ (c .before .w .given .1)
+returns c = search within-stopped depth 9
 
 same-length-2 : tie.Need-same-length-2
 same-length-2 c = search needs
 
 returns-2 : tie.Need-returns-2
-returns-2 c = within-right _ _ _ _ _ (c .before .before .before .before .before .before .before .before .before .before .before .before .before .before .before .before .before .pre .2) (c .before .before .before .before .before .before .before .before .before .before .before .before .before .walk-volume .ensures) _ (c .before .before .before .before .before .before .before .before .before .w2 .given .1) _ _ (c .before .before .before .before .before .before .before .root .ensures) (c .before .before .before .before .before .before .word-of .ensures) _ (c .before .before .before .before .check-bits .ensures) _ _ (c .before .before .m .given .1) (c .reported .ensures)
+returns-2 c = search within-right depth 9
 
 same-length-3 : tie.Need-same-length-3
 same-length-3 c = search needs
 
 returns-3 : tie.Need-returns-3
-returns-3 c = within-wrong _ _ _ _ _ (c .before .before .before .before .before .before .before .before .before .before .before .before .before .before .before .before .before .pre .2) (c .before .before .before .before .before .before .before .before .before .before .before .before .before .walk-volume .ensures) _ (c .before .before .before .before .before .before .before .before .before .w2 .given .1) _ _ (c .before .before .before .before .before .before .before .root .ensures) (c .before .before .before .before .before .before .word-of .ensures) _ (c .before .before .before .before .check-bits .ensures) _ _ _ (c .before .before .m2 .given .1) (c .refused .ensures)
+returns-3 c = search within-wrong depth 9
 
 pub audit-within-spec : {M : Type 1} → statement M
 audit-within-spec =

@@ -7,40 +7,40 @@ use Rattle.audit.proofs.bitmap.check_bits.Statement.{statement}
 use Rattle.audit.proofs.bitmap.check_bits.Tie as tie
 
 abbrev Inv-loop : tie.InvT-loop
-Inv-loop disk image page claim free₀ key₀ free key = BitsInv disk image page claim free key
+Inv-loop disk image bitmap claim free₀ key₀ free key = BitsInv disk image bitmap claim free key
 
 abbrev μ-loop : tie.MeasureT-loop
-μ-loop disk image page claim free₀ key₀ free key = disk .blocks - key
+μ-loop disk image bitmap claim free₀ key₀ free key = disk .blocks - key
 
 loop-holds : tie.Need-loop-holds Inv-loop μ-loop
 loop-holds c = bits-start _ _ _ _ (c .before .before .pre .0)
 
 is-free-requires : tie.Need-is-free-requires Inv-loop μ-loop
-is-free-requires c κs = bits-asks _ _ _ _ _ _ (c .before .before .loop .inv) (c .before .before .before .before .before .pre .0) (c .before .before .before .before .before .pre .1) (c .before .before .before .before .before .pre .3) (c .if1 .taken)
+is-free-requires c κs = search needs
 
 cast-bit-wrong : tie.Need-cast-bit-wrong Inv-loop μ-loop
 cast-bit-wrong c = search needs
 
 shared-slice-read-bit-wrong : tie.Need-shared-slice-read-bit-wrong Inv-loop μ-loop
-shared-slice-read-bit-wrong c = omega (arith, c .before .before .before .before .before .before .before .pre .2)
+shared-slice-read-bit-wrong c = search needs
 
 bit-wrong-requires : tie.Need-bit-wrong-requires Inv-loop μ-loop
 bit-wrong-requires c κs = search needs
 
 returns : tie.Need-returns Inv-loop μ-loop
-returns c = bits-wrong _ _ _ _ _ _ (c .before .before .before .before .before .before .loop .inv) (c .before .before .before .before .if1 .taken) _ _ (c .before .before .before .is-free .ensures) (c .before .bit-wrong .ensures) (c .if2 .taken)
+returns c = search bits-wrong depth 9
 
 counted-requires : tie.Need-counted-requires Inv-loop μ-loop
-counted-requires c κs = bits-few _ _ _ _ _ _ (c .before .before .before .before .before .before .loop .inv) (c .before .before .before .before .before .before .before .before .before .pre .0)
+counted-requires c κs = search bits-few depth 9
 
 add-key : tie.Need-add-key Inv-loop μ-loop
-add-key c = omega (arith, c .before .before .before .before .before .before .before .before .before .before .pre .0 .most)
+add-key c = search needs
 
 loop-less : tie.Need-loop-less Inv-loop μ-loop
 loop-less c = omega arith
 
 loop-again : tie.Need-loop-again Inv-loop μ-loop
-loop-again c = bits-again _ _ _ _ _ _ (c .before .before .before .before .before .before .before .loop .inv) (c .before .before .before .before .before .if1 .taken) _ _ (c .before .before .before .before .is-free .ensures) (c .before .before .bit-wrong .ensures) _ (c .before .if2 .left) (c .counted .ensures)
+loop-again c = search bits-again depth 9
 
 returns-2 : tie.Need-returns-2 Inv-loop μ-loop
 returns-2 c = bits-end _ _ _ _ _ _ (c .before .before .loop .inv) (c .if1 .left)

@@ -10,15 +10,15 @@ use borrow.Fn.PlainCycle.{Measures, is, falls, and}
 use Rattle.reach.specs.Walk.{free}
 use Rattle.volume.specs.Blocks.{slots}
 use Rattle.audit.proofs.Walking.{ready-most}
-use Rattle.audit.proofs.Listings.{ready-holds}
-use Rattle.audit.proofs.Hanging.{ChainInv, SlotsInv, met-known, met-file, entry-stops, entry-claims, entry-ready, entry-goes, chain-start, chain-few, chain-out, chain-again, slots-start, slots-out, slots-again, slots-end}
+use Rattle.audit.proofs.KeyBlocks.{ready-holds}
+use Rattle.audit.proofs.Hanging.{ChainInv, SlotsInv, met-high, met-holds, met-file, entry-stops, entry-falls, entry-holds, entry-less, entry-ready, entry-goes, chain-start, chain-few, chain-out, chain-again, slots-start, slots-out, slots-again, slots-end}
 use Rattle.audit.proofs.directories.walk_directory.Reads as walk-directory
 use Rattle.audit.proofs.directories.walk_directory.Kinds as walk-directory-kinds
 use Rattle.audit.proofs.directories.+walk_directory+walk_entry.Lts-walk_directory as walk-directory-lts
 use Rattle.audit.proofs.directories.walk_entry.Reads as walk-entry
 use Rattle.audit.proofs.directories.walk_entry.Kinds as walk-entry-kinds
 use Rattle.audit.proofs.directories.+walk_directory+walk_entry.Lts-walk_entry as walk-entry-lts
-use Rattle.audit.proofs.claims.stopped.Reads as stopped-reads
+use Rattle.audit.proofs.walked.stopped.Reads as stopped-reads
 use Rattle.audit.proofs.directories.meet_entry.Reads as meet-entry-reads
 use Rattle.audit.proofs.directories.next_entry.Reads as next-entry-reads
 use Rattle.audit.proofs.directories.with_directory.Reads as with-directory-reads
@@ -55,10 +55,10 @@ abbrev E : ℕ → walk-entry-lts.Claims
 E t = (meet-entry-reads.Asked, meet-entry-reads.Learnt, stopped-reads.Asked, stopped-reads.Learnt, is-directory-reads.Asked, is-directory-reads.Learnt, with-directory-reads.Asked, with-directory-reads.Learnt, walk-directory-below t, walk-directory.Post, with-file-reads.Asked, with-file-reads.Learnt, walk-file-reads.Asked, walk-file-reads.Learnt)
 
 abbrev Ic : walk-directory-lts.InvT-chain
-Ic disk image claim₀ key m₀ slot entry₀ place₀ claim m entry place = ChainInv disk image key slot m₀ claim₀ claim m entry place
+Ic disk image claim₀ key m₀ slot entry₀ position₀ claim m entry position = ChainInv disk image key slot m₀ claim₀ claim m entry position
 
 abbrev Mc : walk-directory-lts.MeasureT-chain
-Mc disk image claim₀ key m₀ slot entry₀ place₀ claim m entry place = free claim
+Mc disk image claim₀ key m₀ slot entry₀ position₀ claim m entry position = free claim
 
 abbrev Is : walk-directory-lts.InvT-slots
 Is disk image claim₀ key m₀ slot₀ claim m slot = SlotsInv disk image key m₀ claim₀ claim m slot
@@ -76,13 +76,13 @@ walk-directory-add-word-of : (t : ℕ) → walk-directory-lts.Need-add-word-of (
 walk-directory-add-word-of t c = search needs
 
 walk-directory-word-of-requires : (t : ℕ) → walk-directory-lts.Need-word-of-requires (D t) (walk-directory-at t) walk-directory.Post Ic Mc Is Ms
-walk-directory-word-of-requires t c κs = (omega arith, ready-holds _ _ _ _ _ (c .before .slots .inv .ready) (c .before .before .before .before .pre .1 .1))
+walk-directory-word-of-requires t c κs = search (needs, ready-holds) depth 9
 
 walk-directory-chain-holds : (t : ℕ) → walk-directory-lts.Need-chain-holds (D t) (walk-directory-at t) walk-directory.Post Ic Mc Is Ms
 walk-directory-chain-holds t c = chain-start _ _ _ _ _ _ _ (c .before .before .slots .inv .ready) (c .before .before .slots .inv .inside) (c .before .slots-test .taken) (c .word-of .ensures)
 
 walk-directory-walk-entry-requires : (t : ℕ) → walk-directory-lts.Need-walk-entry-requires (D t) (walk-directory-at t) walk-directory.Post Ic Mc Is Ms
-walk-directory-walk-entry-requires t c κs = (omega (arith, c .before .before .before .before .before .before .before .before .pre .0, c .before .before .before .before .before .slots .inv .fewer, c .before .before .chain .inv .few), (c .before .before .chain .inv .ready, c .before .before .chain .inv .chain))
+walk-directory-walk-entry-requires t c κs = search needs
 
 walk-directory-enum-known-w : (t : ℕ) → walk-directory-lts.Need-enum-known-w (D t) (walk-directory-at t) walk-directory.Post Ic Mc Is Ms
 walk-directory-enum-known-w t c = search needs
@@ -94,19 +94,19 @@ walk-directory-same-length : (t : ℕ) → walk-directory-lts.Need-same-length (
 walk-directory-same-length t c = cc
 
 walk-directory-returns : (t : ℕ) → walk-directory-lts.Need-returns (D t) (walk-directory-at t) walk-directory.Post Ic Mc Is Ms
-walk-directory-returns t c = slots-out _ _ _ _ _ _ _ _ (c .before .before .before .before .before .before .before .before .before .before .slots .inv) _ _ _ (c .before .before .before .before .before .before .before .before .before .slots-test .taken) (chain-out _ _ _ _ _ _ _ _ _ _ (c .before .before .before .before .before .before .before .chain .inv) _ _ (c .before .before .before .before .before .before .chain-test .taken) (c .before .before .before .before .walk-entry .ensures) _ (c .enum-told .given .1)) (c .enum-told .given .1)
+walk-directory-returns t c = search (chain-out, slots-out) depth 9
 
 walk-directory-next-entry-requires : (t : ℕ) → walk-directory-lts.Need-next-entry-requires (D t) (walk-directory-at t) walk-directory.Post Ic Mc Is Ms
-walk-directory-next-entry-requires t c κs = ready-holds _ _ _ _ _ (c .before .before .before .before .before .before .before .before .chain .inv .ready) (c .before .before .before .before .before .walk-entry .ensures .known _ (c .before .w .given .1) .high)
+walk-directory-next-entry-requires t c κs = search entry-holds depth 9
 
-walk-directory-add-place : (t : ℕ) → walk-directory-lts.Need-add-place (D t) (walk-directory-at t) walk-directory.Post Ic Mc Is Ms
-walk-directory-add-place t c = omega (arith, chain-few _ _ _ _ _ _ _ _ _ _ (c .before .before .before .before .before .before .before .before .before .chain .inv))
+walk-directory-add-position : (t : ℕ) → walk-directory-lts.Need-add-position (D t) (walk-directory-at t) walk-directory.Post Ic Mc Is Ms
+walk-directory-add-position t c = search needs
 
 walk-directory-chain-less : (t : ℕ) → walk-directory-lts.Need-chain-less (D t) (walk-directory-at t) walk-directory.Post Ic Mc Is Ms
-walk-directory-chain-less t c = c .before .before .before .before .before .before .walk-entry .ensures .less _ (c .before .before .w .given .1)
+walk-directory-chain-less t c = search entry-less depth 9
 
 walk-directory-chain-again : (t : ℕ) → walk-directory-lts.Need-chain-again (D t) (walk-directory-at t) walk-directory.Post Ic Mc Is Ms
-walk-directory-chain-again t c = chain-again _ _ _ _ _ _ _ _ _ _ (c .before .before .before .before .before .before .before .before .before .chain .inv) _ _ (c .before .before .before .before .before .before .before .before .chain-test .taken) (c .before .before .before .before .before .before .walk-entry .ensures) _ _ (c .before .before .w .given .1) (c .before .before .before .before .before .before .walk-entry .kept .1 .1 .0) (c .next-entry .ensures)
+walk-directory-chain-again t c = search chain-again depth 9
 
 walk-directory-add-slot : (t : ℕ) → walk-directory-lts.Need-add-slot (D t) (walk-directory-at t) walk-directory.Post Ic Mc Is Ms
 walk-directory-add-slot t c = omega arith
@@ -115,7 +115,7 @@ walk-directory-slots-less : (t : ℕ) → walk-directory-lts.Need-slots-less (D 
 walk-directory-slots-less t c = omega arith
 
 walk-directory-slots-again : (t : ℕ) → walk-directory-lts.Need-slots-again (D t) (walk-directory-at t) walk-directory.Post Ic Mc Is Ms
-walk-directory-slots-again t c = slots-again _ _ _ _ _ _ _ _ (c .before .before .before .before .slots .inv) _ _ _ _ (c .before .before .before .slots-test .taken) (c .before .chain .inv) (c .chain-test .left)
+walk-directory-slots-again t c = search slots-again depth 9
 
 walk-directory-same-length-2 : (t : ℕ) → walk-directory-lts.Need-same-length-2 (D t) (walk-directory-at t) walk-directory.Post Ic Mc Is Ms
 walk-directory-same-length-2 t c = cc
@@ -124,7 +124,7 @@ walk-directory-returns-2 : (t : ℕ) → walk-directory-lts.Need-returns-2 (D t)
 walk-directory-returns-2 t c = slots-end _ _ _ _ _ _ _ _ (c .before .slots .inv) (c .slots-test .left)
 
 walk-entry-meet-entry-requires : (t : ℕ) → walk-entry-lts.Need-meet-entry-requires (E t) (walk-entry-at t) walk-entry.Post
-walk-entry-meet-entry-requires t c κs = (c .before .before .before .pre .1 .0, c .before .before .before .pre .1 .1)
+walk-entry-meet-entry-requires t c κs = search needs
 
 walk-entry-stopped-requires : (t : ℕ) → walk-entry-lts.Need-stopped-requires (E t) (walk-entry-at t) walk-entry.Post
 walk-entry-stopped-requires t c κs = search needs
@@ -133,37 +133,37 @@ walk-entry-same-length : (t : ℕ) → walk-entry-lts.Need-same-length (E t) (wa
 walk-entry-same-length t c = cc
 
 walk-entry-returns : (t : ℕ) → walk-entry-lts.Need-returns (E t) (walk-entry-at t) walk-entry.Post
-walk-entry-returns t c = entry-stops _ _ _ _ _ _ _ _ _ (c .before .before .before .before .meet-entry .ensures) _ _ _ (c .before .if1 .taken) (c .stopped .ensures)
+walk-entry-returns t c = search entry-stops depth 9
 
 walk-entry-is-directory-requires : (t : ℕ) → walk-entry-lts.Need-is-directory-requires (E t) (walk-entry-at t) walk-entry.Post
-walk-entry-is-directory-requires t c κs = ready-holds _ _ _ _ _ (c .before .before .before .before .before .before .before .pre .1 .0) (met-known _ _ _ _ _ _ _ _ _ (c .before .before .before .meet-entry .ensures) (c .if1 .left) .high)
+walk-entry-is-directory-requires t c κs = search met-holds depth 9
 
 walk-entry-with-directory-requires : (t : ℕ) → walk-entry-lts.Need-with-directory-requires (E t) (walk-entry-at t) walk-entry.Post
-walk-entry-with-directory-requires t c κs = omega (arith, ready-most _ _ _ _ (c .before .before .before .before .before .before .before .before .before .before .pre .1 .0))
+walk-entry-with-directory-requires t c κs = search (needs, ready-most) depth 9
 
 walk-entry-walk-directory-requires : (t : ℕ) → walk-entry-lts.Need-walk-directory-requires (E t) (walk-entry-at t) walk-entry.Post
-walk-entry-walk-directory-requires t c κs = (omega (arith, c .before .before .before .before .before .before .before .before .before .before .before .pre .0, entry-claims _ _ _ _ _ _ _ _ _ (c .before .before .before .before .before .before .before .meet-entry .ensures) (c .before .before .before .before .if1 .left)), (entry-ready _ _ _ _ _ _ _ _ _ (c .before .before .before .before .before .before .before .meet-entry .ensures) (c .before .before .before .before .if1 .left) _ _ true (sym (c .before .before .if2 .taken) ∙ c .before .before .before .is-directory .ensures) (c .with-directory .ensures) (c .before .before .before .before .before .before .before .before .before .before .before .pre .1 .0) (c .before .before .before .before .before .before .before .meet-entry .kept .1 .1 .0), met-known _ _ _ _ _ _ _ _ _ (c .before .before .before .before .before .before .before .meet-entry .ensures) (c .before .before .before .before .if1 .left) .high))
+walk-entry-walk-directory-requires t c κs = (search entry-falls depth 9, (search entry-ready depth 9, search met-high depth 9))
 
 walk-entry-same-length-2 : (t : ℕ) → walk-entry-lts.Need-same-length-2 (E t) (walk-entry-at t) walk-entry.Post
 walk-entry-same-length-2 t c = cc
 
 walk-entry-returns-2 : (t : ℕ) → walk-entry-lts.Need-returns-2 (E t) (walk-entry-at t) walk-entry.Post
-walk-entry-returns-2 t c = entry-goes _ _ _ _ _ _ _ _ _ (c .before .before .before .before .before .before .before .before .before .before .meet-entry .ensures) (c .before .before .before .before .before .before .before .if1 .left) _ _ true (sym (c .before .before .before .before .before .if2 .taken) ∙ c .before .before .before .before .before .before .is-directory .ensures) (c .before .before .before .with-directory .ensures) _ _ (c .before .before .walk-directory .ensures)
+walk-entry-returns-2 t c = search entry-goes depth 9
 
 walk-entry-with-file-requires : (t : ℕ) → walk-entry-lts.Need-with-file-requires (E t) (walk-entry-at t) walk-entry.Post
-walk-entry-with-file-requires t c κs = omega (arith, ready-most _ _ _ _ (c .before .before .before .before .before .before .before .before .before .before .pre .1 .0))
+walk-entry-with-file-requires t c κs = search (needs, ready-most) depth 9
 
 walk-entry-walk-file-requires : (t : ℕ) → walk-entry-lts.Need-walk-file-requires (E t) (walk-entry-at t) walk-entry.Post
-walk-entry-walk-file-requires t c κs = (entry-ready _ _ _ _ _ _ _ _ _ (c .before .before .before .before .before .before .before .meet-entry .ensures) (c .before .before .before .before .if1 .left) _ _ false (sym (c .before .before .if2 .left) ∙ c .before .before .before .is-directory .ensures) (c .with-file .ensures) (c .before .before .before .before .before .before .before .before .before .before .before .pre .1 .0) (c .before .before .before .before .before .before .before .meet-entry .kept .1 .1 .0), met-known _ _ _ _ _ _ _ _ _ (c .before .before .before .before .before .before .before .meet-entry .ensures) (c .before .before .before .before .if1 .left) .high, met-file _ _ _ _ _ _ _ _ _ (c .before .before .before .before .before .before .before .meet-entry .ensures) (c .before .before .before .before .if1 .left) _ (c .before .before .before .is-directory .ensures) (c .before .before .if2 .left))
+walk-entry-walk-file-requires t c κs = (search entry-ready depth 9, search met-high depth 9, search met-file depth 9)
 
 walk-entry-same-length-3 : (t : ℕ) → walk-entry-lts.Need-same-length-3 (E t) (walk-entry-at t) walk-entry.Post
 walk-entry-same-length-3 t c = cc
 
 walk-entry-returns-3 : (t : ℕ) → walk-entry-lts.Need-returns-3 (E t) (walk-entry-at t) walk-entry.Post
-walk-entry-returns-3 t c = entry-goes _ _ _ _ _ _ _ _ _ (c .before .before .before .before .before .before .before .before .before .before .meet-entry .ensures) (c .before .before .before .before .before .before .before .if1 .left) _ _ false (sym (c .before .before .before .before .before .if2 .left) ∙ c .before .before .before .before .before .before .is-directory .ensures) (c .before .before .before .with-file .ensures) _ _ (c .before .before .walk-file .ensures)
+walk-entry-returns-3 t c = search entry-goes depth 9
 
 pub +walk-directory+walk-entry-spec : {M : Type 1} → statement M
 +walk-directory+walk-entry-spec =
     close μ-walk-directory μ-walk-entry
-    (λ t. walk-directory-lts.spec (D t) (walk-directory-at t) walk-directory.Post Ic Mc Is Ms (walk-directory-slots-holds t) (walk-directory-cast-word-of t) (walk-directory-add-word-of t) (walk-directory-word-of-requires t) (walk-directory-chain-holds t) (walk-directory-walk-entry-requires t) (walk-directory-enum-known-w t) (walk-directory-enum-told t) (walk-directory-same-length t) (walk-directory-returns t) (walk-directory-next-entry-requires t) (walk-directory-add-place t) (walk-directory-chain-less t) (walk-directory-chain-again t) (walk-directory-add-slot t) (walk-directory-slots-less t) (walk-directory-slots-again t) (walk-directory-same-length-2 t) (walk-directory-returns-2 t))
+    (λ t. walk-directory-lts.spec (D t) (walk-directory-at t) walk-directory.Post Ic Mc Is Ms (walk-directory-slots-holds t) (walk-directory-cast-word-of t) (walk-directory-add-word-of t) (walk-directory-word-of-requires t) (walk-directory-chain-holds t) (walk-directory-walk-entry-requires t) (walk-directory-enum-known-w t) (walk-directory-enum-told t) (walk-directory-same-length t) (walk-directory-returns t) (walk-directory-next-entry-requires t) (walk-directory-add-position t) (walk-directory-chain-less t) (walk-directory-chain-again t) (walk-directory-add-slot t) (walk-directory-slots-less t) (walk-directory-slots-again t) (walk-directory-same-length-2 t) (walk-directory-returns-2 t))
     (λ t. walk-entry-lts.spec (E t) (walk-entry-at t) walk-entry.Post (walk-entry-meet-entry-requires t) (walk-entry-stopped-requires t) (walk-entry-same-length t) (walk-entry-returns t) (walk-entry-is-directory-requires t) (walk-entry-with-directory-requires t) (walk-entry-walk-directory-requires t) (walk-entry-same-length-2 t) (walk-entry-returns-2 t) (walk-entry-with-file-requires t) (walk-entry-walk-file-requires t) (walk-entry-same-length-3 t) (walk-entry-returns-3 t))

@@ -1,6 +1,6 @@
 -- `audit::directories::meet_entry` meets its contract. Assumes nothing.
 use Rattle.audit.proofs.Meeting.{met-claim}
-use Rattle.audit.proofs.Hanging.{claims-low, met-entry}
+use Rattle.audit.proofs.Hanging.{claims-low, claims-high, met-entry}
 use borrow.Author.Needs.{needs}
 use Rattle.audit.proofs.directories.meet_entry.Statement.{statement}
 use Rattle.audit.proofs.directories.meet_entry.Tie as tie
@@ -15,7 +15,7 @@ returns : tie.Need-returns
 returns c = search met-claim depth 7
 
 hangs-fault-requires : tie.Need-hangs-fault-requires
-hangs-fault-requires c κs = let l = claims-low _ _ _ _ _ (c .before .before .before .claim-key .ensures) (c .if1 .left) in (c .before .before .before .before .before .before .before .pre .0 .sized, c .before .before .before .before .before .before .before .pre .0 .image, l .0, l .1, c .before .before .before .before .before .before .before .pre .1)
+hangs-fault-requires c κs = search (needs, claims-low, claims-high) depth 9
 
 same-length-2 : tie.Need-same-length-2
 same-length-2 c = search needs

@@ -1,7 +1,5 @@
 -- `audit::files::meet_list` meets its contract. Assumes nothing.
-use Rattle.audit.proofs.Meeting.{claims-holds, met-claim, met-list}
-use Rattle.walk.proofs.Loops.{within}
--- `audit::files::meet_list` meets its contract. Assumes nothing.
+use Rattle.audit.proofs.Meeting.{claims-holds, met-claim, met-tests}
 use borrow.Author.Needs.{needs}
 use Rattle.audit.proofs.files.meet_list.Statement.{statement}
 use Rattle.audit.proofs.files.meet_list.Tie as tie
@@ -15,34 +13,16 @@ same-length c = search needs
 returns : tie.Need-returns
 returns c = search met-claim depth 7
 
-word-of-requires : tie.Need-word-of-requires
-word-of-requires c κs = search needs
-
-data-blocks-requires : tie.Need-data-blocks-requires
-data-blocks-requires c κs = search needs
-
-sub-list-fault : tie.Need-sub-list-fault
-sub-list-fault c = within _ _ _ _ (c .before .before .word-of .ensures) _ _ (c .before .before .before .before .before .before .before .before .before .before .pre .3) (c .before .data-blocks .ensures)
-
-list-fault-requires : tie.Need-list-fault-requires
-list-fault-requires c κs = search claims-holds depth 7
+list-tests-requires : tie.Need-list-tests-requires
+list-tests-requires c κs = search (needs, claims-holds) depth 7
 
 same-length-2 : tie.Need-same-length-2
 same-length-2 c = search needs
 
 returns-2 : tie.Need-returns-2
-returns-2 c = search met-list depth 7
+returns-2 c = search met-tests depth 7
 
 pub meet-list-spec : {M : Type 1} → statement M
 meet-list-spec =
     tie.close
-    (tie.spec
-    claim-key-requires
-    same-length
-    returns
-    word-of-requires
-    data-blocks-requires
-    sub-list-fault
-    list-fault-requires
-    same-length-2
-    returns-2)
+    (tie.spec claim-key-requires same-length returns list-tests-requires same-length-2 returns-2)

@@ -1,23 +1,22 @@
 -- `audit::files::walk_file` meets its contract. Assumes nothing.
-use Rattle.audit.proofs.Listings.{FileInv, ready-holds, file-stops, file-start, file-joins, lists-end, lists-out, lists-again, lists-next}
-use Rattle.walk.proofs.Loops.{header-lists, link-few}
--- `audit::files::walk_file` meets its contract. Assumes nothing.
--- `audit::files::walk_file` meets its contract. Assumes nothing.
-use native.Mathlib.Omega.{arith}
--- `audit::files::walk_file` meets its contract. Assumes nothing.
-use Rattle.reach.specs.Walk.{free}
 use borrow.Author.Needs.{needs}
+use Rattle.reach.specs.Walk.{free}
+use Rattle.walk.proofs.Loops.{in-image, header-ready, ready-image}
+use Rattle.audit.proofs.KeyBlocks.{ListsInv, file-stops, file-joins, lists-start, lists-file, list-image, list-less, lists-end, lists-out, lists-again}
 use Rattle.audit.proofs.files.walk_file.Statement.{statement}
 use Rattle.audit.proofs.files.walk_file.Tie as tie
 
 abbrev Inv-loop : tie.InvT-loop
-Inv-loop disk image claim₀ header m₀ lister₀ done₀ next₀ claim m lister done next = FileInv disk image header m₀ claim₀ claim m lister done next
+Inv-loop disk image claim₀ header m₀ b₀ claim m b = ListsInv disk image b₀ m₀ claim₀ claim m b
 
 abbrev μ-loop : tie.MeasureT-loop
-μ-loop disk image claim₀ header m₀ lister₀ done₀ next₀ claim m lister done next = free claim
+μ-loop disk image claim₀ header m₀ b₀ claim m b = free claim
+
+header-block-requires : tie.Need-header-block-requires Inv-loop μ-loop
+header-block-requires c κs = search in-image depth 7
 
 walk-keys-requires : tie.Need-walk-keys-requires Inv-loop μ-loop
-walk-keys-requires c κs = (c .before .before .before .pre .0, header-lists _ _ _ (c .before .before .before .pre .1) (c .before .before .before .pre .2))
+walk-keys-requires c κs = search (needs, header-ready) depth 9
 
 enum-known-w : tie.Need-enum-known-w Inv-loop μ-loop
 enum-known-w c = search needs
@@ -29,28 +28,16 @@ same-length : tie.Need-same-length Inv-loop μ-loop
 same-length c = search needs
 
 returns : tie.Need-returns Inv-loop μ-loop
-returns c = search file-stops depth 7
+returns c = search file-stops depth 9
 
-word-of-requires : tie.Need-word-of-requires Inv-loop μ-loop
-word-of-requires c κs = search (needs, ready-holds)
+next-list-requires : tie.Need-next-list-requires Inv-loop μ-loop
+next-list-requires c κs = search (ready-image, header-ready) depth 9
 
 loop-holds : tie.Need-loop-holds Inv-loop μ-loop
-loop-holds c = search file-start depth 7
-
-cast-t19 : tie.Need-cast-t19 Inv-loop μ-loop
-cast-t19 c = search needs
-
-add-t20 : tie.Need-add-t20 Inv-loop μ-loop
-add-t20 c = omega (arith, link-few _ _ _ _ _ _ (c .before .loop .inv .link) (c .loop-test .taken) (c .before .loop .inv .ready .sized))
-
-sub-key-of : tie.Need-sub-key-of Inv-loop μ-loop
-sub-key-of c = search needs
-
-key-of-requires : tie.Need-key-of-requires Inv-loop μ-loop
-key-of-requires c κs = search needs
+loop-holds c = search lists-start depth 9
 
 walk-list-requires : tie.Need-walk-list-requires Inv-loop μ-loop
-walk-list-requires c κs = lists-next _ _ _ _ _ _ _ _ _ _ (c .before .before .before .loop .inv) _ (c .before .before .loop-test .taken) (c .before .key-of .ensures)
+walk-list-requires c κs = search (needs, lists-file) depth 9
 
 enum-known-v : tie.Need-enum-known-v Inv-loop μ-loop
 enum-known-v c = search needs
@@ -64,20 +51,16 @@ same-length-2 c = search needs
 returns-2 : tie.Need-returns-2 Inv-loop μ-loop
 returns-2 c = search (file-joins, lists-out) depth 9
 
-cast-done : tie.Need-cast-done Inv-loop μ-loop
-cast-done c = search needs
-
-add-done : tie.Need-add-done Inv-loop μ-loop
-add-done c = omega (arith, link-few _ _ _ _ _ _ (c .before .before .before .before .before .before .before .before .before .loop .inv .link) (c .before .before .before .before .before .before .before .before .loop-test .taken) (c .before .before .before .before .before .before .before .before .before .loop .inv .ready .sized))
-
-word-of-requires-2 : tie.Need-word-of-requires-2 Inv-loop μ-loop
-word-of-requires-2 c κs = (search needs, ready-holds _ _ _ _ _ (c .before .before .before .before .before .before .before .before .before .loop .inv .ready) (c .before .before .before .before .before .walk-list .ensures .known _ (c .before .v .given .1) .key))
+next-list-requires-2 : tie.Need-next-list-requires-2 Inv-loop μ-loop
+next-list-requires-2 c κs =
+    let went = c .before .before .before .before .before in
+    list-image _ _ _ _ _ _ _ (went .walk-list .ensures) _ (c .before .v .given .1)
 
 loop-less : tie.Need-loop-less Inv-loop μ-loop
-loop-less c = c .before .before .before .before .before .before .walk-list .ensures .less _ (c .before .before .v .given .1)
+loop-less c = search list-less depth 9
 
 loop-again : tie.Need-loop-again Inv-loop μ-loop
-loop-again c = lists-again _ _ _ _ _ _ _ _ _ _ (c .before .before .before .before .before .before .before .before .before .before .loop .inv) _ _ _ (c .before .before .before .before .before .before .before .before .before .loop-test .taken) (c .before .before .before .before .before .before .before .before .key-of .ensures) _ _ (c .before .before .before .before .before .before .walk-list .ensures) (c .before .before .v .given .1) (c .before .before .before .before .before .before .walk-list .kept .1 .1 .0) (c .word-of2 .ensures)
+loop-again c = search lists-again depth 9
 
 same-length-3 : tie.Need-same-length-3 Inv-loop μ-loop
 same-length-3 c = search needs
@@ -91,25 +74,20 @@ walk-file-spec =
     (tie.spec
     Inv-loop
     μ-loop
+    header-block-requires
     walk-keys-requires
     enum-known-w
     enum-told
     same-length
     returns
-    word-of-requires
+    next-list-requires
     loop-holds
-    cast-t19
-    add-t20
-    sub-key-of
-    key-of-requires
     walk-list-requires
     enum-known-v
     enum-told-2
     same-length-2
     returns-2
-    cast-done
-    add-done
-    word-of-requires-2
+    next-list-requires-2
     loop-less
     loop-again
     same-length-3

@@ -1,7 +1,5 @@
 -- `audit::files::walk_list` meets its contract. Assumes nothing.
-use Rattle.audit.proofs.Listings.{list-stops, list-asks, list-goes}
--- `audit::files::walk_list` meets its contract. Assumes nothing.
--- `audit::files::walk_list` meets its contract. Assumes nothing.
+use Rattle.audit.proofs.KeyBlocks.{list-stops, list-counts, list-lists, list-goes}
 use borrow.Author.Needs.{needs}
 use Rattle.audit.proofs.files.walk_list.Statement.{statement}
 use Rattle.audit.proofs.files.walk_list.Tie as tie
@@ -22,13 +20,13 @@ with-list-requires : tie.Need-with-list-requires
 with-list-requires c κs = search needs
 
 walk-keys-requires : tie.Need-walk-keys-requires
-walk-keys-requires c κs = list-asks _ _ _ _ _ _ _ (c .before .before .before .before .before .meet-list .ensures) (c .before .before .if1 .left) _ (c .before .before .before .before .before .before .before .before .before .pre .0) (c .before .before .before .before .before .before .before .before .before .pre .1) (c .before .before .before .before .before .before .before .before .before .pre .2) (c .before .before .before .before .before .before .before .before .before .pre .3) (c .before .before .before .before .before .before .before .before .before .pre .4) (c .before .before .before .before .before .meet-list .kept .1 .1 .0) (c .with-list .ensures)
+walk-keys-requires c κs = search (list-counts, list-lists) depth 9
 
 same-length-2 : tie.Need-same-length-2
 same-length-2 c = search needs
 
 returns-2 : tie.Need-returns-2
-returns-2 c = search list-goes depth 7
+returns-2 c = search list-goes depth 9
 
 pub walk-list-spec : {M : Type 1} → statement M
 walk-list-spec =

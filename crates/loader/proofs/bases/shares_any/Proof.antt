@@ -1,7 +1,7 @@
 -- `loader::bases::shares_any` meets its contract: the hunks that are left decide. Assumes nothing.
 use borrow.Author.Needs.{needs}
 use Prim.Native.Nat.{_≤_, _-_}
-use mathlib.Core.Path.{_≡_, refl, sym, _∙_}
+use mathlib.Core.Path.{_≡_, refl}
 use native.Mathlib.Omega.{arith}
 use Rattle.loader.specs.Bases.{shares}
 use Rattle.loader.proofs.Entries.{shares-yes, shares-no, shares-none}
@@ -42,25 +42,25 @@ larger-of-requires : tie.Need-larger-of-requires Inv-loop μ-loop
 larger-of-requires c κs = search needs
 
 top-requires : tie.Need-top-requires Inv-loop μ-loop
-top-requires c κs = (c .before .before .before .before .before .before .before .pre .0, omega arith, omega arith)
+top-requires c κs = (search, omega arith, omega arith)
 
 top-requires-2 : tie.Need-top-requires-2 Inv-loop μ-loop
-top-requires-2 c κs = (c .before .before .before .before .before .before .before .before .pre .0, omega arith, omega arith)
+top-requires-2 c κs = (search, omega arith, omega arith)
 
 smaller-of-requires : tie.Need-smaller-of-requires Inv-loop μ-loop
 smaller-of-requires c κs = search needs
 
 returns : tie.Need-returns Inv-loop μ-loop
-returns c = sym (c .before .before .before .before .before .before .before .before .loop .inv .1 ∙ shares-yes _ _ _ _ _ _ _ _ (c .before .before .before .before .before .before .before .loop-test .taken) (c .before .before .before .before .larger-of .ensures) (c .before .before .before .top .ensures) (c .before .before .top2 .ensures) (c .before .smaller-of .ensures) (c .if1 .taken))
+returns c = search shares-yes depth 9
 
 loop-less : tie.Need-loop-less Inv-loop μ-loop
 loop-less c = search needs
 
 loop-again : tie.Need-loop-again Inv-loop μ-loop
-loop-again c = (omega arith, c .before .before .before .before .before .before .before .before .loop .inv .1 ∙ shares-no _ _ _ _ _ _ _ _ (c .before .before .before .before .before .before .before .loop-test .taken) (c .before .before .before .before .larger-of .ensures) (c .before .before .before .top .ensures) (c .before .before .top2 .ensures) (c .before .smaller-of .ensures) (c .if1 .left))
+loop-again c = (omega arith, search shares-no depth 9)
 
 returns-2 : tie.Need-returns-2 Inv-loop μ-loop
-returns-2 c = sym (c .before .loop .inv .1 ∙ shares-none _ _ _ _ (c .loop-test .left))
+returns-2 c = search shares-none
 
 pub shares-any-spec : {M : Type 1} → statement M
 shares-any-spec =

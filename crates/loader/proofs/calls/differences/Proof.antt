@@ -1,22 +1,20 @@
 -- `loader::calls::differences` meets its contract. Assumes nothing.
-use borrow.Author.Needs.{needs}
-use Prim.Native.Nat.{ℕ, _≤_, _<_, _-_}
-use mathlib.Core.Path.{_≡_, refl}
+use Prim.Native.Nat.{_-_}
 use native.Mathlib.Omega.{arith}
-use lib.ListN.{length, length-set}
-use Rattle.loader.specs.Memory.{moved, amountOf}
-use Rattle.loader.proofs.Copies.{differ-more}
+use lib.ListN.{length}
+use Rattle.loader.proofs.Copies.{Differs, differ-start, differ-old, differ-room, differ-turn, differ-all}
+use borrow.Author.Needs.{needs}
 use Rattle.loader.proofs.calls.differences.Statement.{statement}
 use Rattle.loader.proofs.calls.differences.Tie as tie
 
 abbrev Inv-loop : tie.InvT-loop
-Inv-loop old new amounts₀ i₀ amounts i = (i ≤ length new) × (length amounts ≡ length amounts₀) × ((k : ℕ) → k < i → amountOf amounts k ≡ moved old new k)
+Inv-loop old new amounts₀ i₀ amounts i = Differs old new amounts₀ amounts i
 
 abbrev μ-loop : tie.MeasureT-loop
 μ-loop old new amounts₀ i₀ amounts i = length new - i
 
 loop-holds : tie.Need-loop-holds Inv-loop μ-loop
-loop-holds c = (omega arith, refl, λ k h. absurd (omega arith))
+loop-holds c = differ-start _ _ _
 
 mul-wrapping-sub-u32 : tie.Need-mul-wrapping-sub-u32 Inv-loop μ-loop
 mul-wrapping-sub-u32 c = search needs
@@ -28,7 +26,7 @@ mul-wrapping-sub-u32-2 : tie.Need-mul-wrapping-sub-u32-2 Inv-loop μ-loop
 mul-wrapping-sub-u32-2 c = search needs
 
 shared-slice-read-wrapping-sub-u32-2 : tie.Need-shared-slice-read-wrapping-sub-u32-2 Inv-loop μ-loop
-shared-slice-read-wrapping-sub-u32-2 c = omega (arith, c .before .before .before .before .before .before .before .pre .0)
+shared-slice-read-wrapping-sub-u32-2 c = search differ-old
 
 wrapping-sub-u32-requires : tie.Need-wrapping-sub-u32-requires Inv-loop μ-loop
 wrapping-sub-u32-requires c κs = search needs
@@ -37,7 +35,7 @@ mul-amounts : tie.Need-mul-amounts Inv-loop μ-loop
 mul-amounts c = search needs
 
 slice-write-amounts : tie.Need-slice-write-amounts Inv-loop μ-loop
-slice-write-amounts c = omega (arith, c .before .before .before .before .loop .inv .1)
+slice-write-amounts c = search differ-room
 
 add-i : tie.Need-add-i Inv-loop μ-loop
 add-i c = search needs
@@ -47,15 +45,16 @@ loop-less c = search needs
 
 loop-again : tie.Need-loop-again Inv-loop μ-loop
 loop-again c =
-    let o = c .before .shared-slice-known4 .given (c .before .before .before .before .loop .i) in
-    let n = c .before .before .shared-slice-known3 .given (c .before .before .before .before .loop .i) in
-    (omega arith, simp length-set (c .before .before .before .before .loop .inv .1), differ-more (c .before .before .before .before .before .before .before .before .args .old .now) (c .before .before .before .before .before .before .before .before .args .new .now) (c .before .before .before .before .loop .amounts) (c .before .before .before .before .loop .i) (c .wrapping-sub-u32 .result) (omega (arith, c .before .before .before .before .loop .inv .1)) (omega arith) (omega (arith, o)) (omega (arith, n)) (c .wrapping-sub-u32 .ensures) (c .before .before .before .before .loop .inv .2))
+    let i = c .before .before .before .before .loop .i in
+    let o = c .before .shared-slice-known4 .given i in
+    let n = c .before .before .shared-slice-known3 .given i in
+    search (differ-turn, arith) depth 7
 
 same-length : tie.Need-same-length Inv-loop μ-loop
-same-length c = c .before .loop .inv .1
+same-length c = search
 
 returns : tie.Need-returns Inv-loop μ-loop
-returns c = let e : c .before .loop .i ≡ length (c .before .before .before .before .before .args .new .now) = omega arith in rw e at (c .before .loop .inv .2)
+returns c = search differ-all
 
 pub differences-spec : {M : Type 1} → statement M
 differences-spec =

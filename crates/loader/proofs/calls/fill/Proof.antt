@@ -1,5 +1,5 @@
 -- `loader::calls::fill` meets its contract. Assumes nothing.
-use Rattle.loader.proofs.Answering.{fill-room, fill-done}
+use Rattle.loader.proofs.Answering.{fill-from, fill-to, fill-done}
 use borrow.Author.Needs.{needs}
 use Rattle.loader.proofs.calls.fill.Statement.{statement}
 use Rattle.loader.proofs.calls.fill.Tie as tie
@@ -17,7 +17,7 @@ mul-copy-numbers : tie.Need-mul-copy-numbers
 mul-copy-numbers c = search needs
 
 copy-numbers-requires : tie.Need-copy-numbers-requires
-copy-numbers-requires c κs = let f = fill-room _ _ _ _ (c .before .before .before .before .before .before .before .pre) (c .before .before .before .a .given .1) in (f .0, f .1)
+copy-numbers-requires c κs = (search fill-from, search fill-to)
 
 enum-told : tie.Need-enum-told
 enum-told c = search needs
@@ -26,7 +26,7 @@ same-length : tie.Need-same-length
 same-length c = search needs
 
 returns : tie.Need-returns
-returns c = fill-done _ _ _ _ _ (c .before .before .before .before .before .before .a .given .1) (c .before .before .copy-numbers .ensures)
+returns c = search fill-done depth 7
 
 returns-2 : tie.Need-returns-2
 returns-2 c = search needs

@@ -1,5 +1,5 @@
 -- `loader::calls::last_tests` meets its contract. Assumes nothing.
-use Rattle.loader.proofs.Answering.{last-room, last-fits, last-clash}
+use Rattle.loader.proofs.Answering.{last-header, last-whole, last-room, last-fits, last-clash}
 use borrow.Author.Needs.{needs}
 use Rattle.loader.proofs.calls.last_tests.Statement.{statement}
 use Rattle.loader.proofs.calls.last_tests.Tie as tie
@@ -26,10 +26,10 @@ also-test-requires : tie.Need-also-test-requires
 also-test-requires c κs = search needs
 
 returns-2 : tie.Need-returns-2
-returns-2 c = last-room _ _ _ _ _ _ _ (c .before .before .before .before .before .a .given .1) (c .before .before .before .before .before .before .before .before .before .pre .0 _ _ (c .before .before .before .before .before .a .given .1)) _ (c .before .before .before .room-fault .ensures) _ _ (c .before .enum-told3 .given .1) (c .also-test .ensures)
+returns-2 c = search last-room depth 9
 
 mark-all-requires : tie.Need-mark-all-requires
-mark-all-requires c κs = let g = c .before .before .before .before .before .before .before .before .before .pre .0 _ _ (c .before .before .before .before .before .a .given .1) in (g .sound, g .even, last-fits _ _ _ _ _ _ _ (c .before .before .before .before .before .a .given .1) g _ (c .before .before .before .room-fault .ensures) (c .before .enum-told2 .given .1), c .before .before .before .before .before .before .before .before .before .pre .1)
+mark-all-requires c κs = (search last-header, search last-whole, search last-fits depth 7, search)
 
 also-test-requires-2 : tie.Need-also-test-requires-2
 also-test-requires-2 c κs = search needs
@@ -38,7 +38,7 @@ same-length : tie.Need-same-length
 same-length c = search needs
 
 returns-3 : tie.Need-returns-3
-returns-3 c = last-clash _ _ _ _ _ _ _ (c .before .before .before .before .before .before .before .before .before .a .given .1) (c .before .before .before .before .before .before .before .before .before .before .before .before .before .pre .0 _ _ (c .before .before .before .before .before .before .before .before .before .a .given .1)) _ (c .before .before .before .before .before .before .before .room-fault .ensures) _ _ (c .before .before .before .before .before .enum-told2 .given .1) (c .before .before .before .mark-all .ensures) (c .also-test2 .ensures)
+returns-3 c = search last-clash depth 9
 
 pub last-tests-spec : {M : Type 1} → statement M
 last-tests-spec =

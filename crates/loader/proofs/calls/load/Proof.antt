@@ -1,5 +1,4 @@
 -- `loader::calls::load` meets its contract. Assumes nothing.
-use mathlib.Core.Path.{refl}
 use Rattle.loader.proofs.Calling.{load-fills, load-returns}
 use borrow.Author.Needs.{needs}
 use Rattle.loader.proofs.calls.load.Statement.{statement}
@@ -9,7 +8,7 @@ load-core-requires : tie.Need-load-core-requires
 load-core-requires c κs = search needs
 
 fill-requires : tie.Need-fill-requires
-fill-requires c κs = load-fills _ _ _ (c .before .before .before .before .before .before .before .before .before .before .before .before .before .args .table .now) _ _ _ _ (c .before .before .before .before .before .load-core .ensures)
+fill-requires c κs = search load-fills
 
 same-length : tie.Need-same-length
 same-length c = search needs
@@ -21,7 +20,7 @@ same-length-3 : tie.Need-same-length-3
 same-length-3 c = search needs
 
 returns : tie.Need-returns
-returns c = load-returns _ _ _ _ _ _ _ _ (c .before .before .before .before .before .before .before .before .load-core .ensures) _ _ refl (c .before .before .fill .ensures)
+returns c = search load-returns depth 7
 
 pub load-spec : {M : Type 1} → statement M
 load-spec =

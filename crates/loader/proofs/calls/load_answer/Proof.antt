@@ -1,7 +1,6 @@
 -- `loader::calls::load_answer` meets its contract. Assumes nothing.
-use mathlib.Core.Path.{sym, _∙_}
 use native.Mathlib.Omega.{arith}
-use Rattle.loader.proofs.Answering.{checked, also-so, load-refused, load-last}
+use Rattle.loader.proofs.Answering.{checked-header, also-checked, load-refused, load-last}
 use borrow.Author.Needs.{needs}
 use Rattle.loader.proofs.calls.load_answer.Statement.{statement}
 use Rattle.loader.proofs.calls.load_answer.Tie as tie
@@ -16,22 +15,22 @@ enum-told-2 : tie.Need-enum-told-2
 enum-told-2 c = search needs
 
 returns : tie.Need-returns
-returns c = load-refused _ _ _ _ _ _ (c .before .before .check .ensures .answer) _ (c .enum-told2 .given .1)
+returns c = search load-refused depth 7
 
 bases-fault-requires : tie.Need-bases-fault-requires
-bases-fault-requires c κs = (checked _ _ _ (sym (c .before .before .check .ensures .answer) ∙ c .enum-told .given .1) .sound, omega arith)
+bases-fault-requires c κs = (search checked-header, omega arith)
 
 also-test-requires : tie.Need-also-test-requires
 also-test-requires c κs = search needs
 
 last-tests-requires : tie.Need-last-tests-requires
-last-tests-requires c κs = ((λ t n e. checked _ t n (sym (c .before .before .before .before .before .check .ensures .answer) ∙ also-so _ _ t n (sym (c .before .also-test .ensures) ∙ e) .0)), c .before .before .before .before .before .before .before .before .before .pre)
+last-tests-requires c κs = (search also-checked depth 7, search)
 
 same-length : tie.Need-same-length
 same-length c = search needs
 
 returns-2 : tie.Need-returns-2
-returns-2 c = load-last _ _ _ _ _ _ (c .before .before .before .before .before .before .before .before .check .ensures .answer) _ _ _ (c .before .before .before .before .before .bases-fault .ensures) (c .before .before .before .before .also-test .ensures) (c .before .before .last-tests .ensures)
+returns-2 c = search load-last depth 9
 
 pub load-answer-spec : {M : Type 1} → statement M
 load-answer-spec =

@@ -12,7 +12,7 @@ wipe-requires : tie.Need-wipe-requires
 wipe-requires c κs = search needs
 
 load-answer-requires : tie.Need-load-answer-requires
-load-answer-requires c κs = all-zero _ (length (c .before .before .before .before .before .before .before .before .before .args .work .now)) (c .before .before .before .wipe .ensures)
+load-answer-requires c κs = search all-zero
 
 wipe-requires-2 : tie.Need-wipe-requires-2
 wipe-requires-2 c κs = search needs
@@ -21,19 +21,19 @@ enum-known-a : tie.Need-enum-known-a
 enum-known-a c = search needs
 
 clear-requires : tie.Need-clear-requires
-clear-requires c κs = let f = load-facts _ _ _ _ _ _ _ _ (c .before .before .before .before .before .before .before .before .before .before .load-answer .ensures) (c .before .before .a .given .1) in omega (arith, f .fits, f .file-good .bytes)
+clear-requires c κs = let f = load-facts _ _ _ _ _ _ _ _ (c .before .before .before .before .before .before .before .before .before .before .load-answer .ensures) (c .before .before .a .given .1) in omega (arith, f .fits, f .file-accepted .bytes)
 
 store-all-requires : tie.Need-store-all-requires
-store-all-requires c κs = let f = load-facts _ _ _ _ _ _ _ _ (c .before .before .before .before .before .before .before .before .before .before .before .before .before .before .load-answer .ensures) (c .before .before .before .before .before .before .a .given .1) in (f .file-good .sound, f .file-good .even, omega (arith, f .fits))
+store-all-requires c κs = let f = load-facts _ _ _ _ _ _ _ _ (c .before .before .before .before .before .before .before .before .before .before .before .before .before .before .load-answer .ensures) (c .before .before .before .before .before .before .a .given .1) in (f .file-accepted .header, f .file-accepted .whole, omega (arith, f .fits))
 
 add-all-requires : tie.Need-add-all-requires
-add-all-requires c κs = let f = load-facts _ _ _ _ _ _ _ _ (c .before .before .before .before .before .before .before .before .before .before .before .before .before .before .before .before .before .before .load-answer .ensures) (c .before .before .before .before .before .before .before .before .before .before .a .given .1) in (f .file-good .sound, f .file-good .even, omega (arith, f .fits), omega (arith, f .count))
+add-all-requires c κs = let f = load-facts _ _ _ _ _ _ _ _ (c .before .before .before .before .before .before .before .before .before .before .before .before .before .before .before .before .before .before .load-answer .ensures) (c .before .before .before .before .before .before .before .before .before .before .a .given .1) in (f .file-accepted .header, f .file-accepted .whole, omega (arith, f .fits), omega (arith, f .count))
 
 slice-aggregate-write-all : tie.Need-slice-aggregate-write-all
 slice-aggregate-write-all c = search needs
 
 write-all-requires : tie.Need-write-all-requires
-write-all-requires c κs = let f = load-facts _ _ _ _ _ _ _ _ (c .before .before .before .before .before .before .before .before .before .before .before .before .before .before .before .before .before .before .before .before .before .before .load-answer .ensures) (c .before .before .before .before .before .before .before .before .before .before .before .before .before .before .a .given .1) in (f .file-good .sound, f .file-good .even, omega (arith, f .count), omega (arith, f .file-good .sound .few))
+write-all-requires c κs = let f = load-facts _ _ _ _ _ _ _ _ (c .before .before .before .before .before .before .before .before .before .before .before .before .before .before .before .before .before .before .before .before .before .before .load-answer .ensures) (c .before .before .before .before .before .before .before .before .before .before .before .before .before .before .a .given .1) in (f .file-accepted .header, f .file-accepted .whole, omega (arith, f .count), omega (arith, f .file-accepted .header .few))
 
 enum-told : tie.Need-enum-told
 enum-told c = search needs
@@ -51,7 +51,7 @@ same-length-3 : tie.Need-same-length-3
 same-length-3 c = search needs
 
 returns-2 : tie.Need-returns-2
-returns-2 c = core-refused _ (c .before .before .before .before .before .before .before .before .before .before .before .before .wipe .last .0) (c .before .before .before .before .before .before .before .before .load-answer .last .1 .1 .1 .1 .0) (c .before .before .before .before .wipe2 .last .0) (c .before .before .before .before .before .before .before .before .before .before .before .before .wipe .ensures) (omega arith) (c .before .before .before .before .wipe2 .ensures) _ _ _ _ _ refl _ (c .before .before .before .before .before .before .before .before .load-answer .ensures) _ (c .enum-told .given .1) refl
+returns-2 c = search core-refused depth 12
 
 pub load-core-spec : {M : Type 1} → statement M
 load-core-spec =

@@ -1,7 +1,6 @@
 -- `loader::calls::move_answer` meets its contract. Assumes nothing.
-use mathlib.Core.Path.{sym, _∙_}
 use native.Mathlib.Omega.{arith}
-use Rattle.loader.proofs.Answering.{checked, also-so, move-refused, move-last}
+use Rattle.loader.proofs.Answering.{checked-header, checked-long, checked-few, also-twice, move-refused, move-last}
 use borrow.Author.Needs.{needs}
 use Rattle.loader.proofs.calls.move_answer.Statement.{statement}
 use Rattle.loader.proofs.calls.move_answer.Tie as tie
@@ -16,34 +15,34 @@ enum-told-2 : tie.Need-enum-told-2
 enum-told-2 c = search needs
 
 returns : tie.Need-returns
-returns c = move-refused _ _ _ _ _ _ _ (c .before .before .check .ensures .answer) _ (c .enum-told2 .given .1)
+returns c = search move-refused depth 7
 
 bases-fault-requires : tie.Need-bases-fault-requires
-bases-fault-requires c κs = (checked _ _ _ (sym (c .before .before .check .ensures .answer) ∙ c .enum-told .given .1) .sound, omega arith)
+bases-fault-requires c κs = (search checked-header, omega arith)
 
 also-test-requires : tie.Need-also-test-requires
 also-test-requires c κs = search needs
 
 total-requires : tie.Need-total-requires
-total-requires c κs = omega (arith, checked _ _ _ (sym (c .before .before .before .before .check .ensures .answer) ∙ c .before .before .enum-told .given .1) .sound .long)
+total-requires c κs = search checked-long
 
 cast-bases-fault : tie.Need-cast-bases-fault
 cast-bases-fault c = search needs
 
 bases-fault-requires-2 : tie.Need-bases-fault-requires-2
-bases-fault-requires-2 c κs = let g = checked _ _ _ (sym (c .before .before .before .before .before .check .ensures .answer) ∙ c .before .before .before .enum-told .given .1) in (g .sound, omega (arith, c .total .ensures, g .sound .few))
+bases-fault-requires-2 c κs = (search checked-header, search checked-few)
 
 also-test-requires-2 : tie.Need-also-test-requires-2
 also-test-requires-2 c κs = search needs
 
 last-tests-requires : tie.Need-last-tests-requires
-last-tests-requires c κs = ((λ t n e. checked _ t n (sym (c .before .before .before .before .before .before .before .before .check .ensures .answer) ∙ also-so _ _ t n (sym (c .before .before .before .before .also-test .ensures) ∙ also-so _ _ t n (sym (c .before .also-test2 .ensures) ∙ e) .0) .0)), c .before .before .before .before .before .before .before .before .before .before .before .before .before .pre)
+last-tests-requires c κs = (search also-twice depth 7, search)
 
 same-length : tie.Need-same-length
 same-length c = search needs
 
 returns-2 : tie.Need-returns-2
-returns-2 c = move-last _ _ _ _ _ _ _ (c .before .before .before .before .before .before .before .before .before .before .before .check .ensures .answer) _ _ _ _ _ _ (c .before .before .before .before .before .before .total .ensures) (c .before .before .before .before .before .before .before .before .bases-fault .ensures) (c .before .before .before .before .before .before .before .also-test .ensures) (c .before .before .before .before .before .bases-fault2 .ensures) (c .before .before .before .before .also-test2 .ensures) (c .before .before .last-tests .ensures)
+returns-2 c = search move-last depth 12
 
 pub move-answer-spec : {M : Type 1} → statement M
 move-answer-spec =

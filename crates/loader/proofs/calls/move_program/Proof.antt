@@ -1,5 +1,4 @@
 -- `loader::calls::move_program` meets its contract. Assumes nothing.
-use mathlib.Core.Path.{refl}
 use Rattle.loader.proofs.Calling.{move-fills, move-returns}
 use borrow.Author.Needs.{needs}
 use Rattle.loader.proofs.calls.move_program.Statement.{statement}
@@ -9,7 +8,7 @@ move-core-requires : tie.Need-move-core-requires
 move-core-requires c κs = search needs
 
 fill-requires : tie.Need-fill-requires
-fill-requires c κs = move-fills _ _ _ _ (c .before .before .before .before .before .before .before .before .before .before .before .before .before .before .args .table .now) _ _ _ _ (c .before .before .before .before .before .move-core .ensures)
+fill-requires c κs = search move-fills
 
 same-length : tie.Need-same-length
 same-length c = search needs
@@ -21,7 +20,7 @@ same-length-3 : tie.Need-same-length-3
 same-length-3 c = search needs
 
 returns : tie.Need-returns
-returns c = move-returns _ _ _ _ _ _ _ _ _ (c .before .before .before .before .before .before .before .before .move-core .ensures) _ _ refl (c .before .before .fill .ensures)
+returns c = search move-returns depth 7
 
 pub move-program-spec : {M : Type 1} → statement M
 move-program-spec =

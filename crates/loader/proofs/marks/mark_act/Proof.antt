@@ -9,25 +9,25 @@ enum-known-a : tie.Need-enum-known-a
 enum-known-a c = search needs
 
 returns : tie.Need-returns
-returns c = mark-rest _ _ (c .match .keys2)
+returns c = search mark-rest
 
 word-requires : tie.Need-word-requires
-word-requires c κs = add-room _ _ _ (c .before .before .before .before .before .pre) _ _ _ (c .before .before .a .given .1) .0
+word-requires c κs = search add-room
 
 same-length : tie.Need-same-length
 same-length c = search needs
 
 returns-2 : tie.Need-returns-2
-returns-2 c = mark-met _ _ _ _ _ _ (c .before .before .before .before .a .given .1) (c .before .word .ensures) (c .if1 .taken)
+returns-2 c = search mark-met depth 7
 
 mark-requires : tie.Need-mark-requires
-mark-requires c κs = add-room _ _ _ (c .before .before .before .before .before .before .before .before .pre) _ _ _ (c .before .before .before .before .before .a .given .1) .0
+mark-requires c κs = search add-room
 
 same-length-2 : tie.Need-same-length-2
 same-length-2 c = search needs
 
 returns-3 : tie.Need-returns-3
-returns-3 c = mark-new _ _ _ _ _ _ _ (c .before .before .before .before .before .before .before .before .a .given .1) (c .before .before .before .before .before .word .ensures) (c .before .before .before .before .if1 .left) (c .before .before .mark .ensures)
+returns-3 c = search mark-new depth 9
 
 pub mark-act-spec : {M : Type 1} → statement M
 mark-act-spec =

@@ -1,19 +1,15 @@
 -- `loader::marks::mark_all` meets its contract: the marks are those of the targets seen. Assumes nothing.
-use borrow.Author.Needs.{needs}
 use Prim.Native.Nat.{_-_}
-use mathlib.Core.Path.{_≡_, refl, _∙_}
-use native.Mathlib.Omega.{arith}
 use lib.ListN.{length}
-use Rattle.program.proofs.Walks.{reads-on}
-use Rattle.program.proofs.Runs.{leads-far}
-use Rattle.loader.proofs.Acts.{fits, cursor-low}
-use Rattle.loader.proofs.Marking.{length-mark, Clashes, clash-start, clash-past, clash-on, clash-met, clash-bad, clash-end}
+use Rattle.program.proofs.Runs.{turn-less, turn-aligned, turn-fits}
+use Rattle.loader.proofs.Acts.{cursor-low}
+use Rattle.loader.proofs.Marking.{Clashes, clash-start, mark-long, mark-fits, clash-bad, clash-met, clash-turn, clash-end}
 use borrow.Author.Needs.{needs}
 use Rattle.loader.proofs.marks.mark_all.Statement.{statement}
 use Rattle.loader.proofs.marks.mark_all.Tie as tie
 
 abbrev Inv-loop : tie.InvT-loop
-Inv-loop file work₀ c₀ at₀ work c at = Clashes file work c at × (length work ≡ length work₀)
+Inv-loop file work₀ c₀ at₀ work c at = Clashes file work₀ work c at
 
 abbrev μ-loop : tie.MeasureT-loop
 μ-loop file work₀ c₀ at₀ work c at = length file - at
@@ -37,13 +33,13 @@ add-at : tie.Need-add-at Inv-loop μ-loop
 add-at c = search needs
 
 loop-holds : tie.Need-loop-holds Inv-loop μ-loop
-loop-holds c = (clash-start _ _ _ _ _ (c .before .before .before .before .pre .0) (c .before .begin .ensures) (c .total .ensures) refl (c .before .before .before .before .pre .3), refl)
+loop-holds c = search clash-start depth 7
 
 word-requires : tie.Need-word-requires Inv-loop μ-loop
-word-requires c κs = omega (arith, c .before .loop .inv .0 .reads .aligned)
+word-requires c κs = search needs
 
 step-requires : tie.Need-step-requires Inv-loop μ-loop
-step-requires c κs = c .before .before .loop .inv .0 .reads .sane
+step-requires c κs = search
 
 enum-known-n : tie.Need-enum-known-n Inv-loop μ-loop
 enum-known-n c = search needs
@@ -52,40 +48,40 @@ enum-told : tie.Need-enum-told Inv-loop μ-loop
 enum-told c = search needs
 
 same-length : tie.Need-same-length Inv-loop μ-loop
-same-length c = c .before .before .before .before .before .loop .inv .1
+same-length c = search
 
 returns : tie.Need-returns Inv-loop μ-loop
-returns c = clash-bad _ _ _ _ (c .before .before .before .before .before .loop .inv .0) _ _ (c .before .before .before .before .before .before .before .before .before .before .pre .1) (c .before .before .before .before .loop-test .taken) (c .before .before .before .word .ensures) (c .before .before .step .ensures) _ (c .enum-told .given .1)
+returns c = search clash-bad depth 9
 
 act-of-requires : tie.Need-act-of-requires Inv-loop μ-loop
-act-of-requires c κs = cursor-low _ _ (c .before .before .before .before .before .before .before .loop .inv .0 .reads .sane)
+act-of-requires c κs = search cursor-low
 
 mark-act-requires : tie.Need-mark-act-requires Inv-loop μ-loop
-mark-act-requires c κs = fits _ _ _ _ _ _ _ _ _ (c .before .before .before .before .before .before .before .before .loop .inv .0 .reads .sane) (c .before .before .before .before .before .step .ensures) (c .before .before .before .n .given .1) (c .act-of .ensures) (omega (arith, c .before .before .before .before .before .before .before .before .loop .inv .1)) (omega (arith, c .before .before .before .before .before .before .before .before .before .before .before .before .before .pre .0 .few))
+mark-act-requires c κs = search mark-fits depth 7
 
 same-length-2 : tie.Need-same-length-2 Inv-loop μ-loop
-same-length-2 c = length-mark _ _ _ _ (c .before .before .before .mark-act .ensures) ∙ c .before .before .before .before .before .before .before .before .before .before .before .before .loop .inv .1
+same-length-2 c = search mark-long
 
 returns-2 : tie.Need-returns-2 Inv-loop μ-loop
-returns-2 c = clash-met _ _ _ _ (c .before .before .before .before .before .before .before .before .before .before .before .before .loop .inv .0) _ _ (c .before .before .before .before .before .before .before .before .before .before .before .before .before .before .before .before .before .pre .1) (c .before .before .before .before .before .before .before .before .before .before .before .loop-test .taken) (c .before .before .before .before .before .before .before .before .before .before .word .ensures) (c .before .before .before .before .before .before .before .before .before .step .ensures) _ _ _ _ (c .before .before .before .before .before .before .before .n .given .1) (c .before .before .before .before .act-of .ensures) (fits _ _ _ _ _ _ _ _ _ (c .before .before .before .before .before .before .before .before .before .before .before .before .loop .inv .0 .reads .sane) (c .before .before .before .before .before .before .before .before .before .step .ensures) (c .before .before .before .before .before .before .before .n .given .1) (c .before .before .before .before .act-of .ensures) (omega (arith, c .before .before .before .before .before .before .before .before .before .before .before .before .loop .inv .1)) (omega (arith, c .before .before .before .before .before .before .before .before .before .before .before .before .before .before .before .before .before .pre .0 .few))) (c .before .before .before .mark-act .ensures) (c .if1 .taken)
+returns-2 c = search clash-met depth 9
 
 add-past : tie.Need-add-past Inv-loop μ-loop
 add-past c = search needs
 
 past-requires : tie.Need-past-requires Inv-loop μ-loop
-past-requires c κs = let r = reads-on _ _ _ _ _ _ (c .before .before .before .before .before .before .before .before .before .before .before .before .loop .inv .0 .reads) (c .before .before .before .before .before .before .before .before .before .before .before .before .before .before .before .before .before .pre .1) (c .before .before .before .before .before .before .before .before .before .before .before .loop-test .taken) (c .before .before .before .before .before .before .before .before .before .before .word .ensures) (c .before .before .before .before .before .before .before .before .before .step .ensures) (c .before .before .before .before .before .before .before .n .given .1) in (r .sane, c .before .before .before .before .before .before .before .before .before .before .before .before .before .before .before .before .before .pre .1, r .aligned)
+past-requires c κs = (search turn-fits depth 7, search, search turn-aligned)
 
 loop-less : tie.Need-loop-less Inv-loop μ-loop
-loop-less c = omega (arith, leads-far _ (c .before .past .ensures))
+loop-less c = search turn-less
 
 loop-again : tie.Need-loop-again Inv-loop μ-loop
-loop-again c = (clash-past _ _ (c .before .before .before .before .before .before .before .before .before .before .before .before .before .before .before .before .before .before .before .pre .1) (clash-on _ _ _ _ (c .before .before .before .before .before .before .before .before .before .before .before .before .before .before .loop .inv .0) _ _ (c .before .before .before .before .before .before .before .before .before .before .before .before .before .before .before .before .before .before .before .pre .1) (c .before .before .before .before .before .before .before .before .before .before .before .before .before .loop-test .taken) (c .before .before .before .before .before .before .before .before .before .before .before .before .word .ensures) (c .before .before .before .before .before .before .before .before .before .before .before .step .ensures) _ _ _ _ (c .before .before .before .before .before .before .before .before .before .n .given .1) (c .before .before .before .before .before .before .act-of .ensures) (fits _ _ _ _ _ _ _ _ _ (c .before .before .before .before .before .before .before .before .before .before .before .before .before .before .loop .inv .0 .reads .sane) (c .before .before .before .before .before .before .before .before .before .before .before .step .ensures) (c .before .before .before .before .before .before .before .before .before .n .given .1) (c .before .before .before .before .before .before .act-of .ensures) (omega (arith, c .before .before .before .before .before .before .before .before .before .before .before .before .before .before .loop .inv .1, c .before .before .before .before .before .before .before .before .before .before .before .before .before .before .before .before .before .before .before .pre .2)) (omega (arith, c .before .before .before .before .before .before .before .before .before .before .before .before .before .before .before .before .before .before .before .pre .0 .few))) (c .before .before .before .before .before .mark-act .ensures) (c .before .before .if1 .left)) (c .before .past .ensures), length-mark _ _ _ _ (c .before .before .before .before .before .mark-act .ensures) ∙ c .before .before .before .before .before .before .before .before .before .before .before .before .before .before .loop .inv .1)
+loop-again c = search clash-turn depth 9
 
 same-length-3 : tie.Need-same-length-3 Inv-loop μ-loop
-same-length-3 c = c .before .loop .inv .1
+same-length-3 c = search
 
 returns-3 : tie.Need-returns-3 Inv-loop μ-loop
-returns-3 c = clash-end _ _ _ _ (c .before .loop .inv .0) (c .loop-test .left)
+returns-3 c = search clash-end
 
 pub mark-all-spec : {M : Type 1} → statement M
 mark-all-spec =
@@ -106,12 +102,12 @@ mark-all-spec =
     enum-told
     same-length
     returns
+    add-past
+    past-requires
     act-of-requires
     mark-act-requires
     same-length-2
     returns-2
-    add-past
-    past-requires
     loop-less
     loop-again
     same-length-3

@@ -1,20 +1,16 @@
 -- `loader::memory::add_all` meets its contract: a pass that adds. Assumes nothing.
-use borrow.Author.Needs.{needs}
 use Prim.Native.Nat.{_-_}
-use mathlib.Core.Path.{_≡_, refl, _∙_}
-use native.Mathlib.Omega.{arith}
 use lib.ListN.{length}
-use Rattle.program.proofs.Passes.{Going, going-start, going-on, going-bad, going-end}
-use Rattle.program.proofs.Walks.{reads-on}
-use Rattle.program.proofs.Runs.{leads-far, going-past}
-use Rattle.loader.specs.Memory.{shift1, amountOf}
-use Rattle.loader.proofs.Acts.{calm-shift, fits, cursor-low, length-shift1, pass-shift}
+use Rattle.program.proofs.Passes.{Passing, passing-start, passing-fits, passing-bad, passing-end}
+use Rattle.program.proofs.Runs.{turn-less, turn-aligned, passing-turn}
+use Rattle.loader.specs.Memory.{shiftOne, amountOf}
+use Rattle.loader.proofs.Acts.{quiet-shift, act-room, cursor-low, length-shiftOne, shift-pass}
 use borrow.Author.Needs.{needs}
 use Rattle.loader.proofs.memory.add_all.Statement.{statement}
 use Rattle.loader.proofs.memory.add_all.Tie as tie
 
 abbrev Inv-loop : tie.InvT-loop
-Inv-loop file memory₀ amounts c₀ at₀ memory c at = Going (λ x a. shift1 x (amountOf amounts) a) file memory₀ memory c at × (length memory ≡ length memory₀)
+Inv-loop file memory₀ amounts c₀ at₀ memory c at = Passing (λ x a. shiftOne x (amountOf amounts) a) file memory₀ memory c at
 
 abbrev μ-loop : tie.MeasureT-loop
 μ-loop file memory₀ amounts c₀ at₀ memory c at = length file - at
@@ -38,13 +34,13 @@ add-at : tie.Need-add-at Inv-loop μ-loop
 add-at c = search needs
 
 loop-holds : tie.Need-loop-holds Inv-loop μ-loop
-loop-holds c = (going-start _ _ _ _ _ _ (c .before .before .before .before .before .pre .0) (c .before .begin .ensures) (c .total .ensures) refl, refl)
+loop-holds c = search passing-start depth 7
 
 word-requires : tie.Need-word-requires Inv-loop μ-loop
-word-requires c κs = omega (arith, c .before .loop .inv .0 .reads .aligned)
+word-requires c κs = search needs
 
 step-requires : tie.Need-step-requires Inv-loop μ-loop
-step-requires c κs = c .before .before .loop .inv .0 .reads .sane
+step-requires c κs = search
 
 enum-known-n : tie.Need-enum-known-n Inv-loop μ-loop
 enum-known-n c = search needs
@@ -53,34 +49,34 @@ enum-told : tie.Need-enum-told Inv-loop μ-loop
 enum-told c = search needs
 
 same-length : tie.Need-same-length Inv-loop μ-loop
-same-length c = c .before .before .before .before .before .loop .inv .1
+same-length c = search
 
 returns : tie.Need-returns Inv-loop μ-loop
-returns c = (going-bad _ _ _ _ _ _ (c .before .before .before .before .before .loop .inv .0) _ _ (c .before .before .before .before .before .before .before .before .before .before .before .pre .1) (c .before .before .before .before .loop-test .taken) (c .before .before .before .word .ensures) (c .before .before .step .ensures) _ (c .enum-told .given .1)) ∙ pass-shift _ _ _
+returns c = search (shift-pass, passing-bad) depth 9
 
 act-of-requires : tie.Need-act-of-requires Inv-loop μ-loop
-act-of-requires c κs = cursor-low _ _ (c .before .before .before .before .before .before .before .loop .inv .0 .reads .sane)
+act-of-requires c κs = search cursor-low
 
 add-act-requires : tie.Need-add-act-requires Inv-loop μ-loop
-add-act-requires c κs = fits _ _ _ _ _ _ _ _ _ (c .before .before .before .before .before .before .before .before .loop .inv .0 .reads .sane) (c .before .before .before .before .before .step .ensures) (c .before .before .before .n .given .1) (c .act-of .ensures) (omega (arith, c .before .before .before .before .before .before .before .before .loop .inv .1)) (omega arith)
+add-act-requires c κs = search act-room depth 7
 
 add-past : tie.Need-add-past Inv-loop μ-loop
 add-past c = search needs
 
 past-requires : tie.Need-past-requires Inv-loop μ-loop
-past-requires c κs = let r = reads-on _ _ _ _ _ _ (c .before .before .before .before .before .before .before .before .before .before .before .loop .inv .0 .reads) (c .before .before .before .before .before .before .before .before .before .before .before .before .before .before .before .before .before .pre .1) (c .before .before .before .before .before .before .before .before .before .before .loop-test .taken) (c .before .before .before .before .before .before .before .before .before .word .ensures) (c .before .before .before .before .before .before .before .before .step .ensures) (c .before .before .before .before .before .before .n .given .1) in (r .sane, c .before .before .before .before .before .before .before .before .before .before .before .before .before .before .before .before .before .pre .1, r .aligned)
+past-requires c κs = (search passing-fits depth 7, search, search turn-aligned)
 
 loop-less : tie.Need-loop-less Inv-loop μ-loop
-loop-less c = omega (arith, leads-far _ (c .before .past .ensures))
+loop-less c = search turn-less
 
 loop-again : tie.Need-loop-again Inv-loop μ-loop
-loop-again c = (going-past _ (calm-shift _) _ _ _ (c .before .before .before .before .before .before .before .before .before .before .before .before .before .before .before .before .before .before .before .pre .1) (going-on _ _ _ _ _ _ (c .before .before .before .before .before .before .before .before .before .before .before .before .before .loop .inv .0) _ _ (c .before .before .before .before .before .before .before .before .before .before .before .before .before .before .before .before .before .before .before .pre .1) (c .before .before .before .before .before .before .before .before .before .before .before .before .loop-test .taken) (c .before .before .before .before .before .before .before .before .before .before .before .word .ensures) (c .before .before .before .before .before .before .before .before .before .before .step .ensures) _ _ _ (c .before .before .before .before .before .before .before .before .n .given .1) (c .before .before .before .before .before .act-of .ensures) (c .before .before .before .before .add-act .ensures)) (c .before .past .ensures), length-shift1 (c .before .before .before .before .before .before .before .before .before .before .before .before .before .loop .memory) _ (amountOf (c .before .before .before .before .before .before .before .before .before .before .before .before .before .before .before .before .before .before .before .args .amounts .now)) (c .before .before .before .before .before .act-of .result) (c .before .before .before .before .add-act .ensures) ∙ c .before .before .before .before .before .before .before .before .before .before .before .before .before .loop .inv .1)
+loop-again c = search (passing-turn, quiet-shift, length-shiftOne) depth 9
 
 same-length-2 : tie.Need-same-length-2 Inv-loop μ-loop
-same-length-2 c = c .before .loop .inv .1
+same-length-2 c = search
 
 returns-2 : tie.Need-returns-2 Inv-loop μ-loop
-returns-2 c = (going-end _ _ _ _ _ _ (c .before .loop .inv .0) (c .loop-test .left)) ∙ pass-shift _ _ _
+returns-2 c = search (shift-pass, passing-end) depth 9
 
 pub add-all-spec : {M : Type 1} → statement M
 add-all-spec =
@@ -101,10 +97,10 @@ add-all-spec =
     enum-told
     same-length
     returns
-    act-of-requires
-    add-act-requires
     add-past
     past-requires
+    act-of-requires
+    add-act-requires
     loop-less
     loop-again
     same-length-2

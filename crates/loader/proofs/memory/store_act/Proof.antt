@@ -8,16 +8,16 @@ enum-known-a : tie.Need-enum-known-a
 enum-known-a c = search needs
 
 put-word-requires : tie.Need-put-word-requires
-put-word-requires c κs = store-room _ _ _ (c .before .before .before .before .before .pre) _ _ (c .before .before .a .given .1)
+put-word-requires c κs = search store-room
 
 same-length : tie.Need-same-length
 same-length c = search needs
 
 returns : tie.Need-returns
-returns c = store-done _ _ _ _ _ (c .before .before .before .before .before .a .given .1) (c .before .before .put-word .ensures)
+returns c = search store-done depth 7
 
 returns-2 : tie.Need-returns-2
-returns-2 c = store-rest _ (c .before .before .args .a) (c .match .keys2)
+returns-2 c = search store-rest depth 7
 
 pub store-act-spec : {M : Type 1} → statement M
 store-act-spec = tie.close (tie.spec enum-known-a put-word-requires same-length returns returns-2)

@@ -1,17 +1,15 @@
 -- `loader::memory::store_all` meets its contract: a pass that stores. Assumes nothing.
-use borrow.Author.Needs.{needs}
 use Prim.Native.Nat.{_-_}
-use mathlib.Core.Path.{_≡_, refl, _∙_}
-use native.Mathlib.Omega.{arith}
 use lib.ListN.{length}
-use Rattle.program.proofs.Passes.{Going, going-start, going-on, going-bad, going-end}
-use Rattle.loader.specs.Memory.{place1}
-use Rattle.loader.proofs.Acts.{fits, cursor-low, length-place1}
+use Rattle.program.proofs.Passes.{Passing, passing-start, passing-on, passing-bad, passing-end}
+use Rattle.loader.specs.Memory.{storeOne}
+use Rattle.loader.proofs.Acts.{act-room, cursor-low, length-storeOne}
+use borrow.Author.Needs.{needs}
 use Rattle.loader.proofs.memory.store_all.Statement.{statement}
 use Rattle.loader.proofs.memory.store_all.Tie as tie
 
 abbrev Inv-loop : tie.InvT-loop
-Inv-loop file memory₀ c₀ at₀ memory c at = Going place1 file memory₀ memory c at × (length memory ≡ length memory₀)
+Inv-loop file memory₀ c₀ at₀ memory c at = Passing storeOne file memory₀ memory c at
 
 abbrev μ-loop : tie.MeasureT-loop
 μ-loop file memory₀ c₀ at₀ memory c at = length file - at
@@ -35,13 +33,13 @@ add-at : tie.Need-add-at Inv-loop μ-loop
 add-at c = search needs
 
 loop-holds : tie.Need-loop-holds Inv-loop μ-loop
-loop-holds c = (going-start _ _ _ _ _ _ (c .before .before .before .before .pre .0) (c .before .begin .ensures) (c .total .ensures) refl, refl)
+loop-holds c = search passing-start depth 7
 
 word-requires : tie.Need-word-requires Inv-loop μ-loop
-word-requires c κs = omega (arith, c .before .loop .inv .0 .reads .aligned)
+word-requires c κs = search needs
 
 step-requires : tie.Need-step-requires Inv-loop μ-loop
-step-requires c κs = c .before .before .loop .inv .0 .reads .sane
+step-requires c κs = search
 
 enum-known-n : tie.Need-enum-known-n Inv-loop μ-loop
 enum-known-n c = search needs
@@ -50,16 +48,16 @@ enum-told : tie.Need-enum-told Inv-loop μ-loop
 enum-told c = search needs
 
 same-length : tie.Need-same-length Inv-loop μ-loop
-same-length c = c .before .before .before .before .before .loop .inv .1
+same-length c = search
 
 returns : tie.Need-returns Inv-loop μ-loop
-returns c = going-bad _ _ _ _ _ _ (c .before .before .before .before .before .loop .inv .0) _ _ (c .before .before .before .before .before .before .before .before .before .before .pre .1) (c .before .before .before .before .loop-test .taken) (c .before .before .before .word .ensures) (c .before .before .step .ensures) _ (c .enum-told .given .1)
+returns c = search passing-bad depth 9
 
 act-of-requires : tie.Need-act-of-requires Inv-loop μ-loop
-act-of-requires c κs = cursor-low _ _ (c .before .before .before .before .before .before .before .loop .inv .0 .reads .sane)
+act-of-requires c κs = search cursor-low
 
 store-act-requires : tie.Need-store-act-requires Inv-loop μ-loop
-store-act-requires c κs = fits _ _ _ _ _ _ _ _ _ (c .before .before .before .before .before .before .before .before .loop .inv .0 .reads .sane) (c .before .before .before .before .before .step .ensures) (c .before .before .before .n .given .1) (c .act-of .ensures) (omega (arith, c .before .before .before .before .before .before .before .before .loop .inv .1)) (omega (arith, c .before .before .before .before .before .before .before .before .before .before .before .before .before .pre .0 .few))
+store-act-requires c κs = search act-room depth 7
 
 add-at-2 : tie.Need-add-at-2 Inv-loop μ-loop
 add-at-2 c = search needs
@@ -68,13 +66,13 @@ loop-less : tie.Need-loop-less Inv-loop μ-loop
 loop-less c = search needs
 
 loop-again : tie.Need-loop-again Inv-loop μ-loop
-loop-again c = (going-on _ _ _ _ _ _ (c .before .before .before .before .before .before .before .before .before .before .before .loop .inv .0) _ _ (c .before .before .before .before .before .before .before .before .before .before .before .before .before .before .before .before .pre .1) (c .before .before .before .before .before .before .before .before .before .before .loop-test .taken) (c .before .before .before .before .before .before .before .before .before .word .ensures) (c .before .before .before .before .before .before .before .before .step .ensures) _ _ _ (c .before .before .before .before .before .before .n .given .1) (c .before .before .before .act-of .ensures) (c .before .before .store-act .ensures), length-place1 (c .before .before .before .before .before .before .before .before .before .before .before .loop .memory) _ (c .before .before .before .act-of .result) (c .before .before .store-act .ensures) ∙ c .before .before .before .before .before .before .before .before .before .before .before .loop .inv .1)
+loop-again c = search (passing-on, length-storeOne) depth 9
 
 same-length-2 : tie.Need-same-length-2 Inv-loop μ-loop
-same-length-2 c = c .before .loop .inv .1
+same-length-2 c = search
 
 returns-2 : tie.Need-returns-2 Inv-loop μ-loop
-returns-2 c = going-end _ _ _ _ _ _ (c .before .loop .inv .0) (c .loop-test .left)
+returns-2 c = search passing-end depth 9
 
 pub store-all-spec : {M : Type 1} → statement M
 store-all-spec =

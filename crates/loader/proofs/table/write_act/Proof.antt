@@ -1,8 +1,5 @@
 -- `loader::table::write_act` meets its contract. Assumes nothing.
-use mathlib.Core.Path.{refl}
-use native.Mathlib.Omega.{arith}
-use lib.ListN.{length-set}
-use Rattle.loader.proofs.Acts.{body-room, entry-done, entry-rest}
+use Rattle.loader.proofs.Acts.{place-fits, size-there, base-there, kind-there, place-there, words-there, address-there, record-done, record-rest}
 use borrow.Author.Needs.{needs}
 use Rattle.loader.proofs.table.write_act.Statement.{statement}
 use Rattle.loader.proofs.table.write_act.Tie as tie
@@ -20,10 +17,10 @@ mul-table-2 : tie.Need-mul-table-2
 mul-table-2 c = search needs
 
 slice-write-table : tie.Need-slice-write-table
-slice-write-table c = omega (arith, body-room _ _ _ (c .before .before .before .before .before .before .pre .1) _ _ _ (c .before .a .given .1) .0)
+slice-write-table c = search kind-there
 
 cast-table : tie.Need-cast-table
-cast-table c = omega (arith, body-room _ _ _ (c .before .before .before .before .before .before .pre .1) _ _ _ (c .before .a .given .1) .1)
+cast-table c = search place-fits
 
 mul-table-3 : tie.Need-mul-table-3
 mul-table-3 c = search needs
@@ -35,10 +32,10 @@ mul-table-4 : tie.Need-mul-table-4
 mul-table-4 c = search needs
 
 slice-write-table-2 : tie.Need-slice-write-table-2
-slice-write-table-2 c = simp length-set (omega (arith, body-room _ _ _ (c .before .before .before .before .before .before .pre .1) _ _ _ (c .before .a .given .1) .0))
+slice-write-table-2 c = search place-there
 
 size-requires : tie.Need-size-requires
-size-requires c κs = omega (arith, body-room _ _ _ (c .before .before .before .before .before .before .pre .1) _ _ _ (c .before .a .given .1) .0, c .before .before .before .before .before .before .pre .0 .long)
+size-requires c κs = search size-there
 
 mul-table-5 : tie.Need-mul-table-5
 mul-table-5 c = search needs
@@ -50,13 +47,13 @@ mul-table-6 : tie.Need-mul-table-6
 mul-table-6 c = search needs
 
 slice-write-table-3 : tie.Need-slice-write-table-3
-slice-write-table-3 c = simp length-set (omega (arith, body-room _ _ _ (c .before .before .before .before .before .before .before .pre .1) _ _ _ (c .before .before .a .given .1) .0))
+slice-write-table-3 c = search words-there
 
 mul-table-7 : tie.Need-mul-table-7
 mul-table-7 c = search needs
 
 shared-slice-read-table : tie.Need-shared-slice-read-table
-shared-slice-read-table c = omega (arith, body-room _ _ _ (c .before .before .before .before .before .before .before .before .pre .1) _ _ _ (c .before .before .before .a .given .1) .0)
+shared-slice-read-table c = search base-there
 
 mul-table-8 : tie.Need-mul-table-8
 mul-table-8 c = search needs
@@ -68,16 +65,16 @@ mul-table-9 : tie.Need-mul-table-9
 mul-table-9 c = search needs
 
 slice-write-table-4 : tie.Need-slice-write-table-4
-slice-write-table-4 c = simp length-set (omega (arith, body-room _ _ _ (c .before .before .before .before .before .before .before .before .pre .1) _ _ _ (c .before .before .before .a .given .1) .0))
+slice-write-table-4 c = search address-there
 
 same-length : tie.Need-same-length
 same-length c = search needs
 
 returns : tie.Need-returns
-returns c = entry-done _ _ _ _ _ _ _ _ _ _ (c .before .before .before .a .given .1) (c .before .size .ensures) refl refl
+returns c = search record-done depth 7
 
 returns-2 : tie.Need-returns-2
-returns-2 c = entry-rest _ _ _ (c .before .before .before .before .args .a) (c .match .keys2)
+returns-2 c = search record-rest depth 7
 
 pub write-act-spec : {M : Type 1} → statement M
 write-act-spec =

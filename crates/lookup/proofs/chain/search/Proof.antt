@@ -28,8 +28,8 @@ word-of-requires c κs = (omega (arith, slot-below _ _ _ (c .slot .ensures)), se
 loop-holds : tie.Need-loop-holds Inv-loop μ-loop
 loop-holds c = search starts depth 7
 
-place-fault-requires : tie.Need-place-fault-requires Inv-loop μ-loop
-place-fault-requires c κs = search needs
+position-fault-requires : tie.Need-position-fault-requires Inv-loop μ-loop
+position-fault-requires c κs = search needs
 
 refused-at-requires : tie.Need-refused-at-requires Inv-loop μ-loop
 refused-at-requires c κs = search needs
@@ -69,7 +69,7 @@ search-spec =
     add-word-of
     word-of-requires
     loop-holds
-    place-fault-requires
+    position-fault-requires
     refused-at-requires
     returns
     add-compared

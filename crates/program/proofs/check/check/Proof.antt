@@ -2,8 +2,8 @@
 use mathlib.Core.Path.{sym, _∙_}
 use native.Mathlib.Omega.{arith}
 use Rattle.program.proofs.AsNumbers.{checks}
-use Rattle.program.proofs.Heads.{few-hunks}
-use Rattle.program.proofs.Walks.{check-empty, check-odd, check-first, check-second, check-sound, check-hunks}
+use Rattle.program.proofs.Heads.{few-hunks, header-fits}
+use Rattle.program.proofs.Walks.{check-empty, check-odd, check-first, check-second, check-hunks}
 use borrow.Author.Needs.{needs}
 use Rattle.program.proofs.check.check.Statement.{statement}
 use Rattle.program.proofs.check.check.Tie as tie
@@ -12,13 +12,13 @@ refused-requires : tie.Need-refused-requires
 refused-requires c κs = search needs
 
 returns : tie.Need-returns
-returns c = checks _ _ (check-empty _ _ (c .before .if1 .taken) (c .refused .ensures))
+returns c = checks _ _ (search check-empty depth 7)
 
 refused-requires-2 : tie.Need-refused-requires-2
 refused-requires-2 c κs = search needs
 
 returns-2 : tie.Need-returns-2
-returns-2 c = checks _ _ (check-odd _ (c .before .before .if1 .left) _ (c .before .if2 .taken) (c .refused2 .ensures))
+returns-2 c = checks _ _ (search check-odd depth 7)
 
 head-words-requires : tie.Need-head-words-requires
 head-words-requires c κs = search needs
@@ -27,7 +27,7 @@ enum-known-a : tie.Need-enum-known-a
 enum-known-a c = search needs
 
 returns-3 : tie.Need-returns-3
-returns-3 c = checks _ _ (check-first _ (c .before .before .before .before .before .if1 .left) (c .before .before .before .before .if2 .left) _ (c .before .before .before .head-words .ensures) _ (c .before .a .given .1))
+returns-3 c = checks _ _ (search check-first depth 7)
 
 enum-told : tie.Need-enum-told
 enum-told c = search needs
@@ -45,16 +45,16 @@ enum-known-b : tie.Need-enum-known-b
 enum-known-b c = search needs
 
 returns-4 : tie.Need-returns-4
-returns-4 c = checks _ _ (check-second _ (c .before .before .before .before .before .before .before .before .before .if1 .left) (c .before .before .before .before .before .before .before .before .if2 .left) _ (c .before .before .before .before .before .before .before .head-words .ensures) (c .before .before .before .before .before .enum-told .given .1) _ (c .before .before .before .before .total .ensures) _ (c .before .before .before .head-words2 .ensures) _ (c .before .b .given .1))
+returns-4 c = checks _ _ (search check-second depth 12)
 
 enum-told-2 : tie.Need-enum-told-2
 enum-told-2 c = search needs
 
 hunks-requires : tie.Need-hunks-requires
-hunks-requires c κs = (check-sound _ (c .before .before .before .before .before .before .before .before .if1 .left) (c .before .before .before .before .before .before .before .if2 .left) _ (c .before .before .before .before .before .before .head-words .ensures) (c .before .before .before .before .enum-told .given .1) _ (c .before .before .before .total .ensures) _ (c .before .before .head-words2 .ensures) (c .enum-told2 .given .1), c .before .before .before .before .before .before .before .if2 .left)
+hunks-requires c κs = (header-fits _ (cc) (cc), search)
 
 returns-5 : tie.Need-returns-5
-returns-5 c = checks _ _ (check-hunks _ (c .before .before .before .before .before .before .before .before .before .if1 .left) (c .before .before .before .before .before .before .before .before .if2 .left) _ (c .before .before .before .before .before .before .before .head-words .ensures) (c .before .before .before .before .before .enum-told .given .1) _ (c .before .before .before .before .total .ensures) _ (c .before .before .before .head-words2 .ensures) (c .before .enum-told2 .given .1) _ (c .hunks .ensures))
+returns-5 c = checks _ _ (search check-hunks depth 12)
 
 pub check-spec : {M : Type 1} → statement M
 check-spec =

@@ -1,11 +1,8 @@
 -- `program::check::hunks` meets its contract: what is left of the walk decides. Assumes nothing.
-use borrow.Author.Needs.{needs}
 use Prim.Native.Nat.{_-_}
-use mathlib.Core.Path.{refl, sym, _∙_}
-use native.Mathlib.Omega.{arith}
 use lib.ListN.{length}
-use Rattle.program.proofs.Walks.{Reads, reads-start, reads-on, walk-bad, walk-end}
-use Rattle.program.proofs.Runs.{leads-far, leads-reads}
+use Rattle.program.proofs.Walks.{Reads, reads-start, reads-bad, reads-end}
+use Rattle.program.proofs.Runs.{turn-less, turn-aligned, turn-fits, reads-turn}
 use borrow.Author.Needs.{needs}
 use Rattle.program.proofs.check.hunks.Statement.{statement}
 use Rattle.program.proofs.check.hunks.Tie as tie
@@ -35,13 +32,13 @@ add-at : tie.Need-add-at Inv-loop μ-loop
 add-at c = search needs
 
 loop-holds : tie.Need-loop-holds Inv-loop μ-loop
-loop-holds c = reads-start _ _ _ _ (c .before .before .before .pre .0) (c .before .begin .ensures) (c .total .ensures) refl
+loop-holds c = search reads-start depth 7
 
 word-requires : tie.Need-word-requires Inv-loop μ-loop
 word-requires c κs = search needs
 
 step-requires : tie.Need-step-requires Inv-loop μ-loop
-step-requires c κs = c .before .before .loop .inv .sane
+step-requires c κs = search
 
 enum-known-n : tie.Need-enum-known-n Inv-loop μ-loop
 enum-known-n c = search needs
@@ -50,13 +47,13 @@ add-past : tie.Need-add-past Inv-loop μ-loop
 add-past c = search needs
 
 past-requires : tie.Need-past-requires Inv-loop μ-loop
-past-requires c κs = let r = reads-on _ _ _ _ _ _ (c .before .before .before .before .before .before .loop .inv) (c .before .before .before .before .before .before .before .before .before .before .pre .1) (c .before .before .before .before .before .loop-test .taken) (c .before .before .before .before .word .ensures) (c .before .before .before .step .ensures) (c .before .n .given .1) in (r .sane, c .before .before .before .before .before .before .before .before .before .before .pre .1, r .aligned)
+past-requires c κs = (search turn-fits depth 7, search, search turn-aligned)
 
 loop-less : tie.Need-loop-less Inv-loop μ-loop
-loop-less c = omega (arith, leads-far _ (c .before .past .ensures))
+loop-less c = search turn-less
 
 loop-again : tie.Need-loop-again Inv-loop μ-loop
-loop-again c = leads-reads _ (c .before .before .before .before .before .before .before .before .before .before .before .before .pre .1) (c .before .past .ensures) (reads-on _ _ _ _ _ _ (c .before .before .before .before .before .before .before .before .loop .inv) (c .before .before .before .before .before .before .before .before .before .before .before .before .pre .1) (c .before .before .before .before .before .before .before .loop-test .taken) (c .before .before .before .before .before .before .word .ensures) (c .before .before .before .before .before .step .ensures) (c .before .before .before .n .given .1))
+loop-again c = search reads-turn depth 7
 
 enum-known-n-2 : tie.Need-enum-known-n-2 Inv-loop μ-loop
 enum-known-n-2 c = search needs
@@ -65,13 +62,13 @@ refused-requires : tie.Need-refused-requires Inv-loop μ-loop
 refused-requires c κs = search needs
 
 returns : tie.Need-returns Inv-loop μ-loop
-returns c = c .refused .ensures ∙ sym (c .before .before .before .before .before .before .before .loop .inv .rest ∙ walk-bad _ _ _ _ _ (c .before .before .before .before .before .before .before .before .before .before .before .pre .1) (c .before .before .before .before .before .before .before .loop .inv .aligned) (c .before .before .before .before .before .before .loop-test .taken) (c .before .before .before .before .before .word .ensures) (c .before .before .before .before .step .ensures) _ (c .before .before .n2 .given .1))
+returns c = search reads-bad depth 7
 
 ended-requires : tie.Need-ended-requires Inv-loop μ-loop
 ended-requires c κs = search needs
 
 returns-2 : tie.Need-returns-2 Inv-loop μ-loop
-returns-2 c = c .ended .ensures ∙ sym (c .before .before .loop .inv .rest ∙ walk-end _ _ _ (c .before .loop-test .left))
+returns-2 c = search reads-end depth 7
 
 pub hunks-spec : {M : Type 1} → statement M
 hunks-spec =

@@ -1,8 +1,6 @@
 -- `program::reader::past` meets its contract. Assumes nothing.
-use mathlib.Core.Path.{refl}
-use native.Mathlib.Omega.{arith}
 use Rattle.program.specs.Runs.{here}
-use Rattle.program.proofs.Runs.{stored-some, past-stored, past-skipped}
+use Rattle.program.proofs.Runs.{stored-left, past-stored, past-skipped}
 use borrow.Author.Needs.{needs}
 use Rattle.program.proofs.reader.past.Statement.{statement}
 use Rattle.program.proofs.reader.past.Tie as tie
@@ -17,7 +15,7 @@ enum-known-m : tie.Need-enum-known-m
 enum-known-m c = search needs
 
 sub-least : tie.Need-sub-least
-sub-least c = omega (arith, stored-some _ _ _ (c .before .before .before .before .before .before .pre .0) (c .before .before .m .given .1))
+sub-least c = search stored-left
 
 cast-least : tie.Need-cast-least
 cast-least c = search needs
@@ -74,10 +72,10 @@ add-t26 : tie.Need-add-t26
 add-t26 c = search needs
 
 returns-2 : tie.Need-returns-2
-returns-2 c = past-stored _ _ _ _ _ _ _ (c .before .before .before .before .before .before .if1 .left) refl (c .before .before .before .before .before .before .before .before .pre .0) (c .before .before .before .before .m .given .1) (c .before .least .ensures) (c .stored-at .ensures)
+returns-2 c = search past-stored depth 9
 
 returns-3 : tie.Need-returns-3
-returns-3 c = past-skipped _ _ _ _ _ _ _ (c .before .before .before .before .before .if1 .left) refl _ (c .before .before .before .m2 .given .1) (c .before .least2 .ensures) (c .skip-at .ensures)
+returns-3 c = search past-skipped depth 9
 
 returns-4 : tie.Need-returns-4
 returns-4 c = here

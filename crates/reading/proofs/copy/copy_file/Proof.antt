@@ -1,7 +1,7 @@
 -- `reading::copy::copy_file` meets its contract: the first `done` bytes are copied. Assumes nothing.
 use Prim.Native.Nat.{_-_}
 use borrow.Author.Needs.{needs}
-use Rattle.reading.proofs.Turns.{Going, none, some, starts, ends, held, falls, place-fits, done-fits, from-inside, to-inside, goes}
+use Rattle.reading.proofs.Turns.{Going, none, some, starts, ends, held, falls, byte-fits, done-fits, from-inside, to-inside, goes}
 use Rattle.reading.proofs.copy.copy_file.Statement.{statement}
 use Rattle.reading.proofs.copy.copy_file.Tie as tie
 
@@ -44,11 +44,11 @@ sub-least-2 c = search needs
 least-requires-2 : tie.Need-least-requires-2 Inv-loop μ-loop
 least-requires-2 c κs = search needs
 
-data-place-requires : tie.Need-data-place-requires Inv-loop μ-loop
-data-place-requires c κs = search needs
+data-byte-requires : tie.Need-data-byte-requires Inv-loop μ-loop
+data-byte-requires c κs = search needs
 
 add-copy-bytes : tie.Need-add-copy-bytes Inv-loop μ-loop
-add-copy-bytes c = search (needs, place-fits) depth 7
+add-copy-bytes c = search (needs, byte-fits) depth 7
 
 copy-bytes-requires : tie.Need-copy-bytes-requires Inv-loop μ-loop
 copy-bytes-requires c κs = (search from-inside depth 7, search to-inside depth 7)
@@ -88,7 +88,7 @@ copy-file-spec =
     sub-least
     sub-least-2
     least-requires-2
-    data-place-requires
+    data-byte-requires
     add-copy-bytes
     copy-bytes-requires
     word-of-requires

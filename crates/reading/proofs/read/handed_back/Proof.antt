@@ -11,10 +11,10 @@ last-component-requires : tie.Need-last-component-requires
 last-component-requires c κs = search needs
 
 returns : tie.Need-returns
-returns c = handed-directory (c .before .before .before .args .path .now) (c .before .before .before .args .found) _ (c .before .match .keys2) (c .last-component .ensures)
+returns c = search handed-directory depth 9
 
 returns-2 : tie.Need-returns-2
-returns-2 c = handed-refusal _ _ _ (c .before .found .given .1)
+returns-2 c = search handed-refusal depth 9
 
 pub handed-back-spec : {M : Type 1} → statement M
 handed-back-spec = tie.close (tie.spec enum-known-found last-component-requires returns returns-2)

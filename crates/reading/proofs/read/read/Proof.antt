@@ -1,5 +1,6 @@
 -- `reading::read::read` meets its contract. Assumes nothing.
 use Rattle.volume.proofs.Sizes.{floppy-sized}
+use Rattle.reading.proofs.Readings.{on-floppy}
 use borrow.Author.Needs.{needs}
 use Rattle.reading.proofs.read.read.Statement.{statement}
 use Rattle.reading.proofs.read.read.Tie as tie
@@ -14,7 +15,7 @@ same-length : tie.Need-same-length
 same-length c = search needs
 
 returns : tie.Need-returns
-returns c = rw (c .before .before .before .before .floppy .ensures) at (c .before .before .read-on .ensures)
+returns c = search on-floppy depth 9
 
 pub read-spec : {M : Type 1} → statement M
 read-spec = tie.close (tie.spec floppy-requires read-on-requires same-length returns)

@@ -1,6 +1,5 @@
 -- `reading::read::read_on` meets its contract. Assumes nothing.
-use mathlib.Core.List.{[]}
-use Rattle.reading.proofs.Readings.{read-handed, file-long, file-inside, file-size, followed, read-failed, read-copied}
+use Rattle.reading.proofs.Readings.{read-handed, image-long, file-inside, file-size, followed, read-failed, read-copied}
 use borrow.Author.Needs.{needs}
 use Rattle.reading.proofs.read.read_on.Statement.{statement}
 use Rattle.reading.proofs.read.read_on.Tie as tie
@@ -15,10 +14,10 @@ handed-back-requires : tie.Need-handed-back-requires
 handed-back-requires c κs = search needs
 
 returns : tie.Need-returns
-returns c = read-handed _ _ _ _ _ _ (c .before .before .find-on .ensures) _ (c .before .match .keys2) (c .handed-back .ensures)
+returns c = search read-handed depth 9
 
 test-file-requires : tie.Need-test-file-requires
-test-file-requires c κs = (c .before .before .before .before .before .before .before .pre, file-long _ _ _ 0 [] _ (c .before .before .before .find-on .ensures) _ _ _ (c .before .found .given .1), file-inside _ _ _ 0 [] _ (c .before .before .before .find-on .ensures) _ _ _ (c .before .found .given .1))
+test-file-requires c κs = search (needs, image-long, file-inside) depth 9
 
 enum-known-t : tie.Need-enum-known-t
 enum-known-t c = search needs
@@ -27,16 +26,16 @@ enum-told : tie.Need-enum-told
 enum-told c = search needs
 
 copy-file-requires : tie.Need-copy-file-requires
-copy-file-requires c κs = (c .before .before .before .before .before .before .before .before .before .before .before .pre, file-long _ _ _ 0 [] _ (c .before .before .before .before .before .before .before .find-on .ensures) _ _ _ (c .before .before .before .before .before .found .given .1), file-inside _ _ _ 0 [] _ (c .before .before .before .before .before .before .before .find-on .ensures) _ _ _ (c .before .before .before .before .before .found .given .1), file-size _ _ _ 0 [] _ (c .before .before .before .before .before .before .before .find-on .ensures) _ _ _ (c .before .before .before .before .before .found .given .1), followed _ _ _ _ (c .before .before .before .test-file .ensures) (c .before .enum-told .given .1))
+copy-file-requires c κs = search (needs, image-long, file-inside, file-size, followed) depth 9
 
 returns-2 : tie.Need-returns-2
-returns-2 c = read-failed _ _ _ _ _ _ (c .before .before .before .before .before .before .before .find-on .ensures) _ _ _ (c .before .before .before .before .before .found .given .1) _ _ (c .before .before .before .test-file .ensures) (c .before .t .given .1)
+returns-2 c = search read-failed depth 9
 
 same-length : tie.Need-same-length
 same-length c = search needs
 
 returns-3 : tie.Need-returns-3
-returns-3 c = read-copied _ _ _ _ _ _ (c .before .before .before .before .before .before .before .before .before .before .find-on .ensures) _ _ _ (c .before .before .before .before .before .before .before .before .found .given .1) _ _ _ (c .before .before .before .before .before .before .test-file .ensures) (c .before .before .before .before .enum-told .given .1) (c .before .before .copy-file .ensures)
+returns-3 c = search read-copied depth 9
 
 pub read-on-spec : {M : Type 1} → statement M
 read-on-spec =

@@ -1,0 +1,127 @@
+//! Who is held to this package: the instrument `probe`, the exported functions, or both.
+
+use std::sync::atomic::{AtomicU64, Ordering};
+use std::thread;
+
+use crate::driver::Batch;
+use crate::model::{Model, CHECK, FAR_READ};
+use crate::native::Exports;
+
+/// Who is asked.
+#[derive(Clone, Copy, Debug, PartialEq, Eq)]
+pub enum Who {
+    /// No one: the answers due are worked out, and that is all.
+    Nobody,
+    /// The exported functions.
+    Exports,
+    /// These and `probe`.
+    Both,
+}
+
+/// Those who are asked. The exported functions answer each request at once, `probe` all of them in a run at the end.
+pub struct Sides {
+    exports: Option<Model<Exports>>,
+    probe: Option<Batch>,
+}
+
+impl Sides {
+    /// Nothing is asked yet.
+    pub fn new(who: Who) -> Sides {
+        let exports = (who != Who::Nobody).then(Model::default);
+        Sides { exports, probe: (who == Who::Both).then(Batch::new) }
+    }
+
+    /// Puts a request to all sides, and the line that it is to be answered with. Panics where the exported functions
+    /// answer otherwise, and tells what it is about.
+    pub fn ask(&mut self, about: &str, number: u32, body: &[u8], answer: &str) {
+        if let Some(exports) = &mut self.exports {
+            let got = exports.answer(number, body);
+            assert!(
+                got == answer,
+                "exported functions, number {number}, {about}: expected {answer:?}, got {got:?}"
+            );
+        }
+        // these two are none of its requests
+        if let Some(probe) = self.probe.as_mut().filter(|_| ![FAR_READ, CHECK].contains(&number)) {
+            probe.ask_about(about, number, body, answer);
+        }
+    }
+
+    /// Ends the input of `probe` as in [`Batch::break_off`].
+    pub fn break_off(&mut self, bytes: &[u8], answer: &str) {
+        if let Some(probe) = &mut self.probe {
+            probe.break_off(bytes, answer);
+        }
+    }
+
+    /// Runs `probe`, if it is asked; panics where it does not answer as it should.
+    pub fn run(self) {
+        if let Some(probe) = self.probe {
+            probe.compare("probe");
+        }
+    }
+}
+
+/// Does this with so many seeds from the first one on, in as many threads as there are processors.
+pub fn with_seeds(first: u64, count: u64, run: impl Fn(u64) + Sync) {
+    let next = AtomicU64::new(first);
+    let threads = thread::available_parallelism().map_or(1, usize::from);
+    thread::scope(|scope| {
+        for _ in 0..threads {
+            scope.spawn(|| loop {
+                let seed = next.fetch_add(1, Ordering::Relaxed);
+                if seed >= first + count {
+                    break;
+                }
+                run(seed);
+            });
+        }
+    });
+}
+
+#[cfg(test)]
+mod tests {
+    use super::*;
+    use crate::model::{FIND, IMAGE};
+    use crate::native::{Functions, ARCHIVE};
+    use std::panic::{catch_unwind, AssertUnwindSafe};
+
+    /// What a panic says.
+    fn message(run: impl FnOnce()) -> String {
+        let panic = catch_unwind(AssertUnwindSafe(run)).expect_err("a panic");
+        panic.downcast_ref::<String>().expect("a message").clone()
+    }
+
+    #[test]
+    fn a_difference_is_told() {
+        let mut sides = Sides::new(Who::Exports);
+        sides.ask("an image", IMAGE, &[0; 100], "image 100");
+        sides.ask("a short image", FIND, b"a", "refused 1 0");
+        let told = message(|| sides.ask("a short image", FIND, b"a", "refused 2 0"));
+        assert!(told.ends_with(r#"number 4, a short image: expected "refused 2 0", got "refused 1 0""#), "{told}");
+        let find: fn(&[u8], &[u8]) -> _ = |image, path| {
+            let mut answer = (ARCHIVE.find)(image, path);
+            answer.place = 3;
+            answer
+        };
+        let slipped = Exports::with(Functions { find, ..ARCHIVE });
+        let mut sides = Sides { exports: Some(Model::new(slipped)), probe: None };
+        let told = message(|| sides.ask("no image", FIND, b"a", "refused 1 0"));
+        assert!(told.ends_with(r#"expected "refused 1 0", got "refused 1 3""#), "{told}");
+    }
+
+    #[test]
+    fn nobody_is_asked() {
+        let mut sides = Sides::new(Who::Nobody);
+        sides.ask("nothing", FIND, b"a", "any answer");
+        sides.run();
+    }
+
+    #[test]
+    fn every_seed_has_its_turn_and_a_failure_is_one() {
+        let sum = AtomicU64::new(0);
+        with_seeds(5, 10, |seed| _ = sum.fetch_add(1 << (4 * (seed - 5)), Ordering::Relaxed));
+        assert_eq!(sum.into_inner(), 0x11_1111_1111);
+        assert!(catch_unwind(|| with_seeds(0, 3, |seed| assert!(seed != 2))).is_err());
+    }
+}

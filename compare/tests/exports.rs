@@ -1,0 +1,188 @@
+//! Holds the exported functions to this package where `probe` has no request or no room: longer areas, files and
+//! lists, and offsets that four bytes do not hold. The tests of audits, lookups and programs ask them all else.
+
+use compare::calls::Opinion;
+use compare::disk::Disk;
+use compare::driver::checksum;
+use compare::model::Model;
+use compare::native::Exports;
+use compare::paths::{far_offsets, Paths};
+use compare::program::{BSS, END, HEADER};
+use compare::programs::{bytes, long_file, worked_file, Room};
+use compare::rng::Rng;
+use compare::volumes::{any_style, Kind, Plan, Volume};
+
+const DISK: Disk = Disk::FLOPPY;
+
+/// What this package answers, and what the exported functions do.
+#[derive(Default)]
+struct Both {
+    opinion: Model<Opinion>,
+    exports: Model<Exports>,
+}
+
+/// Makes a call on both; the line that is due, which both give.
+macro_rules! same {
+    ($both:ident.$call:ident($($word:expr),*)) => {{
+        let due = $both.opinion.$call($($word),*);
+        let got = $both.exports.$call($($word),*);
+        assert_eq!(got, due, "{}", stringify!($call($($word),*)));
+        due
+    }};
+}
+
+/// The same, with the beginning of the line known beforehand.
+macro_rules! expect {
+    ($both:ident.$call:ident($($word:expr),*), $beginning:expr) => {{
+        let line = same!($both.$call($($word),*));
+        assert!(line.starts_with(&$beginning), "{line}, not {}", $beginning);
+    }};
+}
+
+/// A volume with a directory and a file of this size.
+fn volume(seed: u64, size: u32) -> Volume {
+    let (mut rng, mut plan) = (Rng::new(seed), Plan::default());
+    plan.add_named(None, b"c", Kind::Directory);
+    plan.add_named(None, b"file", Kind::File(size));
+    let style = any_style(&mut rng);
+    Volume::new(&mut rng, &DISK, &plan, style)
+}
+
+/// An output of so many bytes with these at its beginning, as a line shows it.
+fn output(beginning: &[u8], room: usize) -> String {
+    let rest = vec![0xAA; room - beginning.len()];
+    format!("out {}", checksum(&[beginning, &rest].concat()))
+}
+
+/// Without an opinion of this package. Cut to 32 bits, most of these offsets would lie in the file.
+#[test]
+fn reads_from_far_offsets_give_nothing() {
+    let volume = volume(170, 1_000);
+    let mut both = Both::default();
+    same!(both.take_image(&volume.image));
+    let contents = Paths::new(&volume).contents(1);
+    for (offset, count) in [(0, 10), (990, 10), (991, 9), (999, 1), (1_000, 0), (1_001, 0)] {
+        let due = format!("bytes {count} {}", output(&contents[offset.min(1_000)..][..count], 10));
+        assert_eq!(same!(both.read(b"FILE", offset, 10)), due);
+        for high in [1 << 32, 3 << 32, 1 << 48, 1 << 63, u32::MAX as usize * (1 << 32)] {
+            assert_eq!(same!(both.read(b"FILE", high + offset, 10)), format!("bytes 0 {}", output(b"", 10)));
+        }
+    }
+    for offset in far_offsets(&DISK, 1_000).into_iter().chain((0..1_100).map(|back| usize::MAX - back)) {
+        for room in [0, 1, 1_000, 1_100] {
+            assert_eq!(same!(both.read(b"file", offset, room)), format!("bytes 0 {}", output(b"", room)));
+        }
+    }
+}
+
+/// What is refused is refused at every offset.
+#[test]
+fn reads_from_far_offsets_are_refused_as_others() {
+    let volume = volume(171, 1_000);
+    let mut image = volume.image.clone();
+    image[volume.entries[1].data[2] as usize * 512 + 511] ^= 1;
+    let due = format!("refused 7 {} ", volume.entries[1].data[2]);
+    let mut both = Both::default();
+    for offset in [0, 1_000].into_iter().chain(far_offsets(&DISK, 1_000)) {
+        same!(both.take_image(&volume.image));
+        expect!(both.read(b"c", offset, 9), "refused 20 0 ");
+        expect!(both.read(b"", offset, 9), "refused 20 0 ");
+        expect!(both.read(b"file/x", offset, 9), "refused 20 0 ");
+        expect!(both.read(b"nobody", offset, 9), "refused 19 0 ");
+        expect!(both.read(b"c//", offset, 9), "refused 18 1 ");
+        same!(both.take_image(&image));
+        expect!(both.read(b"file", offset, 0), due);
+        expect!(both.read(b"file", offset, 9), due);
+    }
+    same!(both.take_image(&image[1..]));
+    expect!(both.read(b"file", usize::MAX, 9), "refused 1 0 ");
+}
+
+#[test]
+fn outputs_longer_than_any_file() {
+    let volume = volume(172, 844_240);
+    let mut both = Both::default();
+    same!(both.take_image(&volume.image));
+    for room in [844_239, 844_240, 844_241, 1_048_577, 3_000_001] {
+        expect!(both.read(b"file", 0, room), format!("bytes {} ", room.min(844_240)));
+    }
+    expect!(both.read(b"file", 844_239, 3_000_001), "bytes 1 ");
+}
+
+#[test]
+fn claim_areas_and_paths_of_any_length() {
+    let volume = volume(173, 5_000);
+    let mut both = Both::default();
+    same!(both.take_image(&volume.image));
+    for length in [1_759, 1_760, 1_761, 4_097, 1_000_003] {
+        expect!(both.audit(length), if length < 1_760 { "refused 2 0 " } else { "accepted 1 1 0 11 15 1743 " });
+    }
+    for length in [255, 256, 4_097, 1_000_003] {
+        let path = vec![b'x'; length];
+        expect!(both.find(&path), "refused 18 0");
+        expect!(both.read(&path, 1, 3), "refused 18 0 ");
+    }
+    for length in [901_119, 901_121, 1_802_241, 5_000_000] {
+        let mut image = volume.image.clone();
+        image.resize(length, 0);
+        same!(both.take_image(&image));
+        expect!(both.audit(1_000_003), "refused 1 0 ");
+        expect!(both.find(b""), "refused 1 0");
+        expect!(both.read(b"file", 0, 4_000), "refused 1 0 ");
+    }
+}
+
+/// 64 hunks of the largest size, which take 16 MiB, with room to the byte, with more, and with less of each.
+#[test]
+fn the_largest_program_of_all() {
+    let file = bytes(&[&[HEADER, 0, 64, 0, 63], &[65_536; 64][..], &[BSS, 65_536, END].repeat(64)].concat());
+    let bases = |from: u32| (0..64).map(|index| from.wrapping_add(index << 18)).collect::<Vec<u32>>();
+    let room = Room { memory: 1 << 24, records: 64, work: 1 << 24 };
+    let mut both = Both::default();
+    same!(both.take_file(&file));
+    assert_eq!(same!(both.check()), "checked 64 16777216");
+    let more = Room { memory: room.memory + 1, records: 65, work: room.work + 3 };
+    expect!(both.load(more, &bases(0)), "loaded 64 16777216 ");
+    expect!(both.relocate(room, &bases(0), &bases(0xFF00_0000)), "moved 64 16777216 ");
+    expect!(both.relocate(room, &bases(0), &bases(0xFF00_0004)), "refused 40 127 ");
+    for short in [
+        Room { memory: room.memory - 1, ..room },
+        Room { records: 63, ..room },
+        Room { work: room.work - 1, ..room },
+    ] {
+        expect!(both.relocate(short, &bases(0), &bases(4)), "refused 41 0 ");
+        expect!(both.load(short, &bases(0)), "refused 41 0 ");
+        expect!(both.load(room, &bases(4)), "loaded 64 16777216 ");
+    }
+}
+
+#[test]
+fn files_lists_and_tables_of_any_length() {
+    let room = Room { memory: 100, records: 1_000, work: 100 };
+    let mut both = Both::default();
+    let file = long_file(1 << 20);
+    same!(both.take_file(&file));
+    assert_eq!(same!(both.check()), "checked 1 4");
+    expect!(both.load(room, &[0x1000]), "loaded 1 4 ");
+    expect!(both.relocate(room, &[0x1000], &[0x2000]), "moved 1 4 ");
+    for (cut, due) in [(4, "refused 31 4194300 "), (1, "refused 30 0 ")] {
+        same!(both.take_file(&file[..file.len() - cut]));
+        assert_eq!(same!(both.check()), due.trim_end());
+        expect!(both.load(room, &[0x1000]), due);
+        expect!(both.relocate(room, &[0x1000], &[0x2000]), due);
+    }
+    same!(both.take_file(&[&file[..], &[0; 4]].concat()));
+    expect!(both.load(room, &[0x1000]), "refused 39 4194304 ");
+    same!(both.take_file(&worked_file()));
+    let good = [0x3000, 0x7000];
+    expect!(both.load(room, &good), "loaded 2 40 ");
+    for count in [0, 1, 3, 257, 70_000, 1_000_000] {
+        let list = vec![0x40; count];
+        expect!(both.relocate(room, &list, &good), "refused 40 0 ");
+        expect!(both.relocate(room, &good, &list), "refused 40 2 ");
+        expect!(both.load(room, &list), "refused 40 0 ");
+    }
+    for short in [Room { memory: 0, ..room }, Room { records: 0, ..room }, Room { work: 0, ..room }] {
+        expect!(both.load(short, &good), "refused 41 0 ");
+    }
+}
