@@ -1,6 +1,7 @@
 //! The calls of the library, whoever makes them.
 
 use crate::audit::{audit, Report};
+use crate::counter::SENTENCES;
 use crate::disk::Disk;
 use crate::loader::{load, relocate, Lent, Loaded};
 use crate::lookup::{find, Found};
@@ -31,6 +32,9 @@ pub trait Calls {
 
     /// Moves a program.
     fn relocate(&mut self, file: &[u8], old: &[u32], new: &[u32], lent: Lent) -> Result<Loaded, Refusal>;
+
+    /// Copies the sentence for a refusal's number, as far as it fits, and answers the length of all of it.
+    fn reason(&mut self, number: u32, output: &mut [u8]) -> usize;
 
     /// What was wrong with the last answer, beside what it says.
     fn fault(&self) -> Option<String> {
@@ -68,5 +72,11 @@ impl Calls for Opinion {
 
     fn relocate(&mut self, file: &[u8], old: &[u32], new: &[u32], lent: Lent) -> Result<Loaded, Refusal> {
         relocate(file, old, new, lent)
+    }
+
+    fn reason(&mut self, number: u32, output: &mut [u8]) -> usize {
+        let sentence = SENTENCES.iter().find(|&&(other, _)| other == number).map_or("", |&(_, text)| text);
+        output.iter_mut().zip(sentence.bytes()).for_each(|(place, byte)| *place = byte);
+        sentence.len()
     }
 }

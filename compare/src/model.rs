@@ -285,6 +285,14 @@ impl<C: Calls> Model<C> {
         ];
         self.told(line, &lent)
     }
+
+    /// The sentence for a refusal's number, in an output of any length.
+    pub fn reason(&mut self, number: u32, room: usize) -> String {
+        let mut output = Area::filled(BEFORE, room, self.shift());
+        let length = self.calls.reason(number, &mut output);
+        let line = format!("reason {length} out {}", checksum(&output));
+        self.told(line, &[("output", &output)])
+    }
 }
 
 /// The body of a load.

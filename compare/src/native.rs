@@ -20,6 +20,7 @@ pub(crate) struct Functions {
     pub(crate) check: fn(&[u8]) -> ProgramNumbers,
     pub(crate) load: fn(&[u8], &[u32], &mut [u8], &mut [Hunk], &mut [u8]) -> ProgramNumbers,
     pub(crate) relocate: fn(&[u8], &[u32], &[u32], &mut [u8], &mut [Hunk], &mut [u8]) -> ProgramNumbers,
+    pub(crate) reason: fn(u32, &mut [u8]) -> usize,
 }
 
 /// Those of the archive.
@@ -30,6 +31,7 @@ pub(crate) const ARCHIVE: Functions = Functions {
     check: jufferdeeg::check,
     load: jufferdeeg::load,
     relocate: jufferdeeg::move_program,
+    reason: jufferdeeg::reason_into,
 };
 
 /// The exported functions.
@@ -115,6 +117,11 @@ impl Calls for Exports {
         self.program(answer)
     }
 
+    fn reason(&mut self, number: u32, output: &mut [u8]) -> usize {
+        self.fault = None;
+        (self.functions.reason)(number, output)
+    }
+
     fn fault(&self) -> Option<String> {
         self.fault.clone()
     }
@@ -160,6 +167,8 @@ mod tests {
             model.load(room, &[0, 8]),
             model.take_file(&worked_file()[..100]),
             model.check(),
+            model.reason(9, 25),
+            model.reason(21, 5),
         ]
     }
 
@@ -230,6 +239,8 @@ mod tests {
             ("table", with!(load(file, bases, memory, table, work), table, -1, ZERO)),
             ("work area", with!(load(file, bases, memory, table, work), work, end(work), 0)),
             ("work area", with!(load(file, bases, memory, table, work), work, -1, 0)),
+            ("output", with!(reason(number, output), output, -1, 0)),
+            ("output", with!(reason(number, output), output, end(output), 0)),
             ("file", with!(relocate(file, old, new, memory, table, work), file, end(file), 0)),
             ("old bases", with!(relocate(file, old, new, memory, table, work), old, 0, !old[0])),
             ("new bases", with!(relocate(file, old, new, memory, table, work), new, 1, !new[1])),
@@ -286,6 +297,9 @@ mod tests {
             changed!(load(file, bases, memory, table, work), answer, memory[50] ^= 1),
             changed!(load(file, bases, memory, table, work), answer, table[3].base ^= 1),
             changed!(load(file, bases, memory, table, work), answer, work[44] ^= 1),
+            changed!(reason(number, output), answer, answer += 1),
+            changed!(reason(number, output), answer, output[0] ^= 0x20),
+            changed!(reason(number, output), answer, output[4] ^= 1),
             changed!(relocate(file, old, new, memory, table, work), answer, answer.hunks += 1),
             changed!(relocate(file, old, new, memory, table, work), answer, answer.place += 1),
             changed!(relocate(file, old, new, memory, table, work), answer, memory[0] ^= 1),

@@ -2,6 +2,7 @@
 //! lists, and offsets that four bytes do not hold. The tests of audits, lookups and programs ask them all else.
 
 use compare::calls::Opinion;
+use compare::counter::SENTENCES;
 use compare::disk::Disk;
 use compare::driver::checksum;
 use compare::model::Model;
@@ -185,4 +186,23 @@ fn files_lists_and_tables_of_any_length() {
     for short in [Room { memory: 0, ..room }, Room { records: 0, ..room }, Room { work: 0, ..room }] {
         expect!(both.load(short, &good), "refused 41 0 ");
     }
+}
+
+/// Every number with a sentence and those around them, into outputs of every length up to beyond the sentence.
+#[test]
+fn sentences_as_far_as_they_fit() {
+    let mut both = Both::default();
+    let mut numbers = Vec::new();
+    for number in (0..=100).chain([256 + 7, (1 << 16) + 7, (1 << 31) + 7, u32::MAX - 1, u32::MAX]) {
+        let sentence = SENTENCES.iter().find(|&&(other, _)| other == number).map_or("", |&(_, text)| text);
+        let length = sentence.len();
+        for room in (0..length + 4).chain([jufferdeeg::REASON_BYTES, 1_000]) {
+            let copied = &sentence.as_bytes()[..length.min(room)];
+            assert_eq!(same!(both.reason(number, room)), format!("reason {length} {}", output(copied, room)));
+        }
+        assert_eq!(jufferdeeg::reason(number), sentence, "{number}");
+        numbers.extend((length > 0).then_some(number));
+    }
+    assert!(numbers.into_iter().eq((1..=20).chain(30..=42)));
+    assert!(SENTENCES.iter().all(|(_, text)| text.len() <= jufferdeeg::REASON_BYTES));
 }
