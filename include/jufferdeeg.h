@@ -15,9 +15,9 @@
  *   it refused, number says why, place says where, and all else in the struct is 0.
  * - Words of an image, of a program file and of the memory that a program is loaded into have their highest byte
  *   first. Bases, records and answers are numbers of the machine.
- * - Stack, measured on x86-64 and aarch64 (examples/c/stack.c): an audit takes 400 and 512 bytes for each directory
- *   within a directory, 0.7 and 0.9 MB for the deepest volume that there can be; find and read take less than
- *   32 KB, the other calls less than 4 KB. */
+ * - Stack, not proved but measured, on both processors (examples/c/stack.c): an audit takes up to 1 MiB, for the
+ *   deepest volume that there can be, which is 590 bytes for each directory within a directory; find and read take
+ *   up to 32 KiB, the other calls up to 4 KiB. */
 #ifndef JUFFERDEEG_H
 #define JUFFERDEEG_H
 

@@ -3,7 +3,7 @@
  * as a path can lead, and a program of 64 hunks with a relocation each.
  *
  * It prints the distance from the caller's frame to the lowest byte that changed; less than 500 cannot be told apart.
- * `examples/c/run stack` builds and runs it. */
+ * It fails if a call takes more than jufferdeeg.h says. `examples/c/run stack` builds and runs it. */
 #define _GNU_SOURCE
 #include <pthread.h>
 #include <stdio.h>
@@ -17,6 +17,11 @@
 #define HUNKS JUFFERDEEG_MOST_HUNKS
 #define STACK_BYTES (4 << 20)
 #define PAINT 0xA5
+
+/* What jufferdeeg.h says. For an audit, less what the two directories would take that this volume lacks. */
+#define AUDIT_MOST ((1 << 20) - 2 * 590)
+#define FIND_MOST (32 << 10)
+#define OTHERS_MOST (4 << 10)
 
 static uint8_t image[JUFFERDEEG_IMAGE_BYTES], claim[JUFFERDEEG_CLAIM_BYTES], output[1024], path[255];
 static uint8_t file[4096], memory[4096], work[4096];
@@ -161,7 +166,7 @@ static void *on_thread(void *unused) {
     return unused;
 }
 
-static int measure(const char *name, uint32_t (*made)(void)) {
+static int measure(const char *name, uint32_t (*made)(void), size_t most) {
     pthread_attr_t attributes;
     pthread_t thread;
     call = made;
@@ -171,14 +176,15 @@ static int measure(const char *name, uint32_t (*made)(void)) {
         fprintf(stderr, "stack: there is no thread\n");
         return 1;
     }
-    printf("%s: number %u, %zu bytes of stack\n", name, number, taken);
-    return number != 0;
+    printf("%s: number %u, %zu bytes of stack, %s\n", name, number, taken, taken > most ? "TOO MUCH" : "as said");
+    return number != 0 || taken > most;
 }
 
 int main(void) {
     make_volume();
     make_program();
-    int bad = measure("audit", audit) + measure("find", find) + measure("read", read_file);
-    bad += measure("reason", reason);
-    return bad + measure("check", check) + measure("load", load) + measure("move", move);
+    int bad = measure("audit", audit, AUDIT_MOST);
+    bad += measure("find", find, FIND_MOST) + measure("read", read_file, FIND_MOST);
+    bad += measure("reason", reason, OTHERS_MOST) + measure("check", check, OTHERS_MOST);
+    return bad + measure("load", load, OTHERS_MOST) + measure("move", move, OTHERS_MOST);
 }

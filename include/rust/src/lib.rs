@@ -197,7 +197,7 @@ pub fn reason(number: u32) -> String {
     String::from_utf8_lossy(&room[..bytes]).into_owned()
 }
 
-/// Audits an image. Deep directories take stack: 0.9 MB for the deepest volume that there can be.
+/// Audits an image. Deep directories take stack: up to 1 MiB, for the deepest volume that there can be.
 pub fn audit(image: &[u8], claim: &mut [u8]) -> AuditNumbers {
     unsafe { c::jufferdeeg_audit(image.as_ptr(), image.len(), claim.as_mut_ptr(), claim.len()) }
 }
