@@ -1,4 +1,5 @@
--- What numbers are in a list, by computing: where the list is known, `listed`, `unlisted` and `in-part` ask for `tt`. Assumes nothing.
+-- What numbers are in a list, by computing: where the list is known, `listed`, `unlisted` and `in-part` ask for `tt`.
+-- Assumes nothing.
 use Prim.Native.Nat.{ℕ}
 use mathlib.Core.Path.{_≡_, refl}
 use mathlib.Core.Logic.{inl, inr}

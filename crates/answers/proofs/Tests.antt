@@ -102,7 +102,8 @@ then-go r f l m p q e = rw (tests-append l m) (go r (tests l) (tests m) (sym p �
 pub then-stop : (f : ℕ) (l m : List ℕ) → f ≡ tests l → (f ≡ 0 → ⊥) → f ≡ tests (l ++ m)
 unfolding first
 then-stop zero l m p q = absurd (q refl)
-then-stop (suc f) l m p q = rw (tests-append l m) (stop (suc f) (tests l) (tests m) (lt→ltb 0 (suc f) (omega arith)) (sym p))
+then-stop (suc f) l m p q =
+    rw (tests-append l m) (stop (suc f) (tests l) (tests m) (lt→ltb 0 (suc f) (omega arith)) (sym p))
 
 module _ (n w v a b : ℕ) (h : w ≡ a) (k : v ≡ b) where
   pub must-le : w ≤ v → must (leb a b) n ≡ 0
@@ -180,7 +181,33 @@ module _ (t : Bool) (x y v : ℕ) where
   unfolding pick
   pick-false q e = rw q e
 
-pub ruleset faults = (tt, go, stop, must-eq, must-ne, never-eq, never-ne, pick-eq, pick-ne, must-le, must-gt, must-true, must-false, must-same, must-differ, must-is, must-is-not, pick-at, pick-off, pick-is, pick-is-not, pick-most, pick-above, pick-true, pick-false)
+pub ruleset faults = (
+  tt,
+  go,
+  stop,
+  must-eq,
+  must-ne,
+  never-eq,
+  never-ne,
+  pick-eq,
+  pick-ne,
+  must-le,
+  must-gt,
+  must-true,
+  must-false,
+  must-same,
+  must-differ,
+  must-is,
+  must-is-not,
+  pick-at,
+  pick-off,
+  pick-is,
+  pick-is-not,
+  pick-most,
+  pick-above,
+  pick-true,
+  pick-false,
+)
 
 -- ---- a choice between values, as code makes it: by its parameters, or by values that it computed
 
@@ -254,4 +281,23 @@ module _ (a b v : ℕ) where
     pub gives-right : (a ≡ w → ⊥) → v ≡ must (eqb a b) v
     gives-right q = gives (λ z. q (z ∙ sym p))
 
-pub ruleset choices = (gives-none, gives, gives-none-le, gives-le, gives-none-right, gives-right, if-eq, if-ne, if-lt, if-ge, if-le, if-gt, if-eq-right, if-ne-right, if-lt-left, if-ge-left, if-lt-right, if-ge-right)
+pub ruleset choices = (
+  gives-none,
+  gives,
+  gives-none-le,
+  gives-le,
+  gives-none-right,
+  gives-right,
+  if-eq,
+  if-ne,
+  if-lt,
+  if-ge,
+  if-le,
+  if-gt,
+  if-eq-right,
+  if-ne-right,
+  if-lt-left,
+  if-ge-left,
+  if-lt-right,
+  if-ge-right,
+)

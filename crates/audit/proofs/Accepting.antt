@@ -1,4 +1,5 @@
--- What an accepted audit says: `accepted-exactly`, `accepted-claims`, `accepted-report`; and `audit-determined`. Assumes nothing.
+-- What an accepted audit says: `accepted-exactly`, `accepted-claims`, `accepted-report`; and `audit-determined`.
+-- Assumes nothing.
 use Prim.Native.Nat.{ℕ, zero, suc, _+_, _-_, _≤_, _<_}
 use mathlib.Core.Path.{_≡_, refl, sym, ap, _∙_, subst}
 use mathlib.Core.Logic.{_⊎_, _↔_, inl, inr}
@@ -37,7 +38,8 @@ zero-byte (suc n) zero = refl
 zero-byte (suc n) (suc k) = zero-byte n k
 
 -- any two outcomes allowed for one input coincide
-pub audit-determined : (d : Disk) (s : List ℕ) (n : ℕ) (r r′ : Audited) (c c′ : List ℕ) → Audits d s n r c → Audits d s n r′ c′ → (numbersOf r ≡ numbersOf r′) × (r ≡ r′) × (c ≡ c′)
+pub audit-determined : (d : Disk) (s : List ℕ) (n : ℕ) (r r′ : Audited) (c c′ : List ℕ) → Audits d s n r c
+    → Audits d s n r′ c′ → (numbersOf r ≡ numbersOf r′) × (r ≡ r′) × (c ≡ c′)
 audit-determined d s n r r′ c c′ a b =
     let e : r ≡ r′ = a .answer ∙ sym (b .answer) in
     (ap numbersOf e, e, a .claim ∙ ap (λ (x : Audited). claimAfter d s x n) e ∙ sym (b .claim))
@@ -49,7 +51,8 @@ module _ (d : Disk) (s : List ℕ) where
     used-inside k u =
         let fine = passes-in-tree d s (accepted-lawful d s .0 (subst Through (sym e) tt) .0) in
         let n = node-reached d s fine (u .1) in
-        subst (λ (j : ℕ). (firstKey ≤ j) × (j < d .blocks)) (node-key d s fine (u .1) ∙ u .2) (key-passed d (keyOf d (n .0)) (fine (n .0) (n .1) .0))
+        subst (λ (j : ℕ). (firstKey ≤ j) × (j < d .blocks)) (node-key d s fine (u .1) ∙ u .2)
+        (key-passed d (keyOf d (n .0)) (fine (n .0) (n .1) .0))
 
     -- the root is one
     enough : firstKey < d .blocks
@@ -62,9 +65,11 @@ module _ (d : Disk) (s : List ℕ) where
         go (inl h) = absurd (omega (arith, used-inside k (h .1) .0))
         go (inr h) = h .0
 
-    free-blocks : (f : ℕ) → bitsOf d s (bitmapKeyOf d s) c ≡ Right f → free c ≡ firstKey + freeFrom s (bitmapKeyOf d s) firstKey (bitSpan d)
+    free-blocks : (f : ℕ) → bitsOf d s (bitmapKeyOf d s) c ≡ Right f
+        → free c ≡ firstKey + freeFrom s (bitmapKeyOf d s) firstKey (bitSpan d)
     free-blocks f b =
-        count-free s (bitmapKeyOf d s) c (bitSpan d) (omega (arith, walked-report d s c m e .size, enough)) (boot-byte 0 (omega arith)) (boot-byte 1 (omega arith))
+        count-free s (bitmapKeyOf d s) c (bitSpan d) (omega (arith, walked-report d s c m e .size, enough))
+        (boot-byte 0 (omega arith)) (boot-byte 1 (omega arith))
         (right-exactly s (bitmapKeyOf d s) c firstKey 0 (bitSpan d) f .0 b .0)
 
   -- ---- an image is accepted if and only if it is a volume as the law says
@@ -76,7 +81,9 @@ module _ (d : Disk) (s : List ℕ) where
         there : (r : Report) × (auditOf d s n ≡ Accepted r) → Volume d s
         there (r, e) =
             let z = answers-exactly d s n (Accepted r) .0 e in
-            let b = bits-right d s (z .claims) (z .counts) (walked-report d s (z .claims) (z .counts) (z .walks)) (z .free) .0 (z .maps) in
+            let b =
+            bits-right d s (z .claims) (z .counts) (walked-report d s (z .claims) (z .counts) (z .walks))
+            (z .free) .0 (z .maps) in
             volume-decided d s .1 (subst Through (sym (z .walks)) tt, z .opened .long, z .opened .tag, b .0)
 
         back : Volume d s → (r : Report) × (auditOf d s n ≡ Accepted r)
@@ -85,8 +92,11 @@ module _ (d : Disk) (s : List ℕ) where
             let t = through d s (p .0) in
             let f = freeFrom s (bitmapKeyOf d s) firstKey (bitSpan d) in
             let m = bits-right d s (t .0) (t .1) (walked-report d s (t .0) (t .1) (t .2)) f .1 (p .3, refl) in
-            let o : Opened d s n = record { long = p .1; room = l; tag = p .2 } in
-            (reportOf (t .1) f, answers-exactly d s n (Accepted (reportOf (t .1) f)) .1 (record { opened = o; claims = t .0; counts = t .1; free = f; walks = t .2; maps = m; told = refl }))
+            let o : Opened d s n = record { long = p .1; room = l; tag = p .2 } in (
+              reportOf (t .1) f,
+              answers-exactly d s n (Accepted (reportOf (t .1) f)) .1
+                  (record { opened = o; claims = t .0; counts = t .1; free = f; walks = t .2; maps = m; told = refl }),
+            )
 
     -- ---- what it leaves
 
@@ -94,7 +104,9 @@ module _ (d : Disk) (s : List ℕ) where
       pub accepted-claims : (p : Report) → r ≡ Accepted p → Claimed d s n claim′
       accepted-claims p q =
           let z = answers-exactly d s n (Accepted p) .0 (sym (a .answer) ∙ q) in
-          let e : claim′ ≡ z .claims ++ zeros = a .claim ∙ ap (λ (x : Audited). claimAfter d s x n) q ∙ ap (λ (o : Outcome Counts). claimsOf o ++ zeros) (z .walks) in
+          let e : claim′ ≡ z .claims ++ zeros =
+          a .claim ∙ ap (λ (x : Audited). claimAfter d s x n) q ∙ ap (λ (o : Outcome Counts). claimsOf o ++ zeros)
+          (z .walks) in
           subst (Claimed d s n) (sym e) (claimed (z .claims) (z .counts) (z .walks) (z .opened .room))
         where
           zeros : List ℕ
@@ -103,14 +115,28 @@ module _ (d : Disk) (s : List ℕ) where
           claimed : (c : List ℕ) (m : Counts) → walkOf d s ≡ done c m → claimBytes d ≤ n → Claimed d s n (c ++ zeros)
           claimed c m e l =
               let w = walked-report d s c m e in
-              record { size = omega (arith, length-append c zeros, length-replicate {A = ℕ} (n - claimBytes d) 0, w .size); byte = λ k. at w k (decLt k (d .blocks)) }
+              record {
+                size = omega (
+                  arith,
+                  length-append c zeros,
+                  length-replicate {A = ℕ} (n - claimBytes d) 0,
+                  w .size,
+                );
+                byte = λ k. at w k (decLt k (d .blocks));
+              }
             where
-              at : Walked d s c m → (k : ℕ) → Dec (k < d .blocks) → ((getD (c ++ zeros) k 0 ≡ 1) × Used d s k) ⊎ ((getD (c ++ zeros) k 0 ≡ 0) × (¬ Used d s k))
-              at w k (yes u) = let z = w .size in rw (List·getD-append c zeros 0 k (omega arith)) (claim-byte d s c m w k u)
+              at : Walked d s c m → (k : ℕ) → Dec (k < d .blocks)
+                  → ((getD (c ++ zeros) k 0 ≡ 1) × Used d s k) ⊎ ((getD (c ++ zeros) k 0 ≡ 0) × (¬ Used d s k))
+              at w k (yes u) =
+                  let z = w .size in rw (List·getD-append c zeros 0 k (omega arith)) (claim-byte d s c m w k u)
               at w k (no u) =
                   let z = w .size in
                   let j : k ≡ length c + (k - length c) = omega arith in
-                  inr (ap (λ (i : ℕ). getD (c ++ zeros) i 0) j ∙ getD-append-add c zeros (k - length c) 0 ∙ zero-byte (n - claimBytes d) (k - length c), λ h. u (used-inside c m e k h .1))
+                  inr (
+                    ap (λ (i : ℕ). getD (c ++ zeros) i 0) j ∙ getD-append-add c zeros (k - length c) 0
+                        ∙ zero-byte (n - claimBytes d) (k - length c),
+                    λ h. u (used-inside c m e k h .1),
+                  )
 
       pub refused-claims : (x : Refusal) → r ≡ Refused x → claim′ ≡ replicate n 0
       refused-claims x q = a .claim ∙ ap (λ (y : Audited). claimAfter d s y n) q
@@ -122,7 +148,8 @@ module _ (d : Disk) (s : List ℕ) where
         let z = answers-exactly d s n (Accepted p) .0 q in
         subst (Reported d s) (sym (z .told)) (reported (z .claims) (z .counts) (z .walks) (z .free) (z .maps))
       where
-        reported : (c : List ℕ) (m : Counts) → walkOf d s ≡ done c m → (f : ℕ) → bitsOf d s (bitmapKeyOf d s) c ≡ Right f → Reported d s (reportOf m f)
+        reported : (c : List ℕ) (m : Counts) → walkOf d s ≡ done c m → (f : ℕ)
+            → bitsOf d s (bitmapKeyOf d s) c ≡ Right f → Reported d s (reportOf m f)
         reported c m e f b =
             let w = walked-report d s c m e in
             let x = bits-right d s c m w f .0 b in

@@ -23,6 +23,7 @@ module _ (d : Disk) (s : List ℕ) (n : ℕ) (r : Audited) (claim′ : List ℕ)
   pub zero-exactly : (numbersOf r .number ≡ 0) ↔ ((p : Report) × (r ≡ Accepted p))
   zero-exactly = go r number-listed
     where
-      go : (r : Audited) → ((x : Refusal) → r ≡ Refused x → numbersOf r .number ∈ auditRefusals) → (numbersOf r .number ≡ 0) ↔ ((p : Report) × (r ≡ Accepted p))
+      go : (r : Audited) → ((x : Refusal) → r ≡ Refused x → numbersOf r .number ∈ auditRefusals)
+          → (numbersOf r .number ≡ 0) ↔ ((p : Report) × (r ≡ Accepted p))
       go (Accepted p) h = (λ z. (p, refl), λ q. refl)
       go (Refused x) h = (λ z. unlisted auditRefusals (x .number) 0 tt (h x refl) z, λ q. impossible cc)

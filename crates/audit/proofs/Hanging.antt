@@ -23,12 +23,14 @@ use Rattle.volume.specs.Rules.{entryFault, fileFault}
 use Rattle.volume.proofs.Names.{name-short}
 use Rattle.volume.proofs.Passes.{entry-passed}
 use Rattle.walk.specs.declared.Counts.{Counts}
-use Rattle.walk.specs.Nodes.{Node, entry, chained, slotNodes, contents, leadsTo, noted, withEntry, twin, hangsFault, faultOf}
+use Rattle.walk.specs.Nodes.{Node, entry, chained, slotNodes, contents, leadsTo, noted, withEntry, twin, hangsFault}
+use Rattle.walk.specs.Nodes.{faultOf}
 use Rattle.audit.specs.declared.walked.Walked.{Walked}
 use Rattle.audit.specs.declared.walked.Walked.the-variants.{Done, Stopped}
 use Rattle.audit.specs.Walks.{Claims, Met, Walks, Ready, Known, Chain, EntryWalked}
 use Rattle.audit.proofs.Meeting.{met-tests}
-use Rattle.audit.proofs.Walking.{not-both, walks-none, walks-stopped, walks-then, walks-part, met-free, met-range, met-passed, met-stops, met-goes, ready-met, ready-walked}
+use Rattle.audit.proofs.Walking.{not-both, walks-none, walks-stopped, walks-then, walks-part, met-free}
+use Rattle.audit.proofs.Walking.{met-range, met-passed, met-stops, met-goes, ready-met, ready-walked}
 
 -- ---- names on a chain
 
@@ -36,7 +38,8 @@ pub known-holds : (d : Disk) (s : List ℕ) (k : ℕ) → length s ≡ imageByte
 known-holds d s k l h = omega (arith, h .high)
 
 -- the key after an entry
-pub chain-next : (d : Disk) (s : List ℕ) (head i e : ℕ) → Known d s e → e ≡ chainKey s head i → wordOf s e 124 ≡ chainKey s head (i + 1)
+pub chain-next : (d : Disk) (s : List ℕ) (head i e : ℕ) → Known d s e → e ≡ chainKey s head i
+    → wordOf s e 124 ≡ chainKey s head (i + 1)
 unfolding chainKey after
 chain-next d s head i e k h = rw (add-one i, ← h) (go e (k .low))
   where
@@ -45,7 +48,8 @@ chain-next d s head i e k h = rw (add-one i, ← h) (go e (k .low))
     go (suc e) l = refl
 
 module _ (d : Disk) (s : List ℕ) (k head : ℕ) where
-  pub twin-found : (i p : ℕ) → same d (nameOf s (chainKey s head i)) (nameOf s k) ≡ true → i < p → true ≡ twin d s k head p
+  pub twin-found : (i p : ℕ) → same d (nameOf s (chainKey s head i)) (nameOf s k) ≡ true → i < p
+      → true ≡ twin d s k head p
   unfolding twin pick
   twin-found i zero e l = absurd (omega arith)
   twin-found i (suc p) e l = go (decLt i p) (twin-found i p e)
@@ -54,11 +58,13 @@ module _ (d : Disk) (s : List ℕ) (k head : ℕ) where
       either true x h = refl
       either false x h = h
 
-      go : Dec (i < p) → (i < p → true ≡ twin d s k head p) → true ≡ pick (same d (nameOf s (chainKey s head p)) (nameOf s k)) true (twin d s k head p)
+      go : Dec (i < p) → (i < p → true ≡ twin d s k head p)
+          → true ≡ pick (same d (nameOf s (chainKey s head p)) (nameOf s k)) true (twin d s k head p)
       go (yes q) f = either (same d (nameOf s (chainKey s head p)) (nameOf s k)) (twin d s k head p) (f q)
       go (no q) f = let w : p ≡ i = omega arith in rw (w, e)
 
-  pub twin-step : (i : ℕ) → same d (nameOf s (chainKey s head i)) (nameOf s k) ≡ false → twin d s k head i ≡ false → twin d s k head (i + 1) ≡ false
+  pub twin-step : (i : ℕ) → same d (nameOf s (chainKey s head i)) (nameOf s k) ≡ false → twin d s k head i ≡ false
+      → twin d s k head (i + 1) ≡ false
   unfolding twin pick
   twin-step i e t = rw (add-one i, e) t
 
@@ -71,7 +77,8 @@ module _ (d : Disk) (s : List ℕ) (k head : ℕ) where
   unfolding twin chainKey
   twin-start position = record { upto = omega arith; here = refl; none = refl }
 
-  module _ (position e i : ℕ) (v : TwinInv position e i) (l : i < position) (earlier : (q : ℕ) → q < position → Known d s (chainKey s head q)) where
+  module _ (position e i : ℕ) (v : TwinInv position e i) (l : i < position)
+      (earlier : (q : ℕ) → q < position → Known d s (chainKey s head q)) where
     twin-known : Known d s e
     twin-known = rw (v .here) (earlier i l)
 
@@ -84,14 +91,21 @@ module _ (d : Disk) (s : List ℕ) (k head : ℕ) where
     pub twin-yes : (b : Bool) → b ≡ same d (nameOf s e) (nameOf s k) → b ≡ true → true ≡ twin d s k head position
     twin-yes b q t = twin-found i position (rw (v .here) at (sym q ∙ t)) l
 
-    pub twin-again : (b : Bool) (e′ : ℕ) → b ≡ same d (nameOf s e) (nameOf s k) → b ≡ false → e′ ≡ wordOf s e 124 → TwinInv position e′ (i + 1)
-    twin-again b e′ q t f = record { upto = omega arith; here = f ∙ chain-next d s head i e twin-known (v .here); none = twin-step i (rw (v .here) at (sym q ∙ t)) (v .none) }
+    pub twin-again : (b : Bool) (e′ : ℕ) → b ≡ same d (nameOf s e) (nameOf s k) → b ≡ false → e′ ≡ wordOf s e 124
+        → TwinInv position e′ (i + 1)
+    twin-again b e′ q t f =
+        record {
+          upto = omega arith;
+          here = f ∙ chain-next d s head i e twin-known (v .here);
+          none = twin-step i (rw (v .here) at (sym q ∙ t)) (v .none);
+        }
 
   pub twin-no : (position e i : ℕ) → TwinInv position e i → position ≤ i → false ≡ twin d s k head position
   twin-no position e i v l = let w : position ≡ i = omega (arith, v .upto) in rw w (sym (v .none))
 
 -- the entries before a position, by the chain's head
-pub earlier-known : (d : Disk) (s : List ℕ) (t i p head : ℕ) → Chain d s t i p → head ≡ slotWord s t i → (q : ℕ) → q < p → Known d s (chainKey s head q)
+pub earlier-known : (d : Disk) (s : List ℕ) (t i p head : ℕ) → Chain d s t i p → head ≡ slotWord s t i → (q : ℕ)
+    → q < p → Known d s (chainKey s head q)
 earlier-known d s t i p head h e q l = rw e (h .earlier q l)
 
 -- ---- the tests of an entry
@@ -101,13 +115,20 @@ module _ (d : Disk) (s : List ℕ) (k t i p : ℕ) (f : ℕ) (e : f ≡ entryFau
   unfolding hangsFault first
   hangs-own h = go (entryFault d s k t i) e
     where
-      go : (a : ℕ) → f ≡ a → f ≡ first a (first (never (twin d s k (slotWord s t i) p) fault.doubleName) (pick (directory s k) 0 (fileFault d s k)))
+      go : (a : ℕ) → f ≡ a
+          → f ≡ first a (first (never (twin d s k (slotWord s t i) p) fault.doubleName)
+          (pick (directory s k) 0 (fileFault d s k)))
       go zero e = absurd (h e)
       go (suc a) e = e
 
   module _ (z : f ≡ 0) where
     pub entry-known : firstKey ≤ k → k < d .blocks → Known d s k
-    entry-known l h = record { low = l; high = h; short = name-short s k true (sym (entry-passed d s k t i (sym e ∙ z) .entry .name)) refl }
+    entry-known l h =
+        record {
+          low = l;
+          high = h;
+          short = name-short s k true (sym (entry-passed d s k t i (sym e ∙ z) .entry .name)) refl;
+        }
 
     module _ (head : ℕ) (w : head ≡ slotWord s t i) (b : Bool) (q : b ≡ twin d s k head p) where
       pub hangs-twin : b ≡ true → fault.doubleName ≡ hangsFault d s k t i p
@@ -123,16 +144,22 @@ module _ (d : Disk) (s : List ℕ) (k t i p : ℕ) (f : ℕ) (e : f ≡ entryFau
         unfolding hangsFault first never pick
         hangs-file r h x = rw (sym e ∙ z, ← w, sym q ∙ y, sym g ∙ h) x
 
-pub met-entry : (d : Disk) (s cl cl′ : List ℕ) (r f k t i p : ℕ) → Claims d cl k r cl′ → r ≡ 0 → f ≡ hangsFault d s k t i p → Met d s (entry k t i p) cl f cl′
+pub met-entry : (d : Disk) (s cl cl′ : List ℕ) (r f k t i p : ℕ) → Claims d cl k r cl′ → r ≡ 0
+    → f ≡ hangsFault d s k t i p → Met d s (entry k t i p) cl f cl′
 unfolding faultOf
 met-entry d s cl cl′ r f k t i p h z e = met-tests d s (entry k t i p) cl cl′ r f h z e
 
 -- ---- an entry
 
 module _ (d : Disk) (s : List ℕ) (k t i p : ℕ) (cl cl₁ : List ℕ) (f : ℕ) (m : Met d s (entry k t i p) cl f cl₁) where
-  pub entry-stops : (n : Counts) (cl″ : List ℕ) (r : Walked) → (f ≡ 0 → ⊥) → r ≡ Stopped (refusal f k) → EntryWalked d s k t i p n cl r cl″
+  pub entry-stops : (n : Counts) (cl″ : List ℕ) (r : Walked) → (f ≡ 0 → ⊥) → r ≡ Stopped (refusal f k)
+      → EntryWalked d s k t i p n cl r cl″
   entry-stops n cl″ r h e =
-      record { walks = met-stops d s (entry k t i p) cl cl₁ f m _ n cl″ r h e; known = λ c q. not-both _ c (sym e ∙ q); less = λ c q. not-both _ c (sym e ∙ q) }
+      record {
+        walks = met-stops d s (entry k t i p) cl cl₁ f m _ n cl″ r h e;
+        known = λ c q. not-both _ c (sym e ∙ q);
+        less = λ c q. not-both _ c (sym e ∙ q);
+      }
 
   module _ (z : f ≡ 0) where
     tested : hangsFault d s k t i p ≡ 0
@@ -143,7 +170,8 @@ module _ (d : Disk) (s : List ℕ) (k t i p : ℕ) (cl cl₁ : List ℕ) (f : �
     unfolding hangsFault
     met-known =
         let r = met-range d s (entry k t i p) cl cl₁ f m z in
-        entry-known d s k t i p (entryFault d s k t i) refl (first-zero (entryFault d s k t i) _ tested .0) (r .0) (r .1)
+        entry-known d s k t i p (entryFault d s k t i) refl (first-zero (entryFault d s k t i) _ tested .0) (r .0)
+        (r .1)
 
     pub met-high : k < d .blocks
     met-high = met-known .high
@@ -152,7 +180,9 @@ module _ (d : Disk) (s : List ℕ) (k t i p : ℕ) (cl cl₁ : List ℕ) (f : �
     pub met-file : (b : Bool) → b ≡ directory s k → b ≡ false → fileFault d s k ≡ 0
     unfolding hangsFault pick
     met-file b g h =
-        let r = first-zero (never (twin d s k (slotWord s t i) p) fault.doubleName) _ (first-zero (entryFault d s k t i) _ tested .1) .1 in
+        let r =
+        first-zero (never (twin d s k (slotWord s t i) p) fault.doubleName) _
+        (first-zero (entryFault d s k t i) _ tested .1) .1 in
         rw (sym g ∙ h) at r
 
     entry-claims : free cl ≡ suc (free cl₁)
@@ -173,17 +203,21 @@ module _ (d : Disk) (s : List ℕ) (k t i p : ℕ) (cl cl₁ : List ℕ) (f : �
       unfolding noted
       entry-ready r l = ready-met d s (entry k t i p) n cl cl₁ f r m z l c (q ∙ rw kind refl)
 
-      pub entry-goes : (r : Walked) (cl₂ : List ℕ) → Walks d s (contents d s k b) [] c cl₁ r cl₂ → EntryWalked d s k t i p n cl r cl₂
+      pub entry-goes : (r : Walked) (cl₂ : List ℕ) → Walks d s (contents d s k b) [] c cl₁ r cl₂
+          → EntryWalked d s k t i p n cl r cl₂
       unfolding noted leadsTo
       entry-goes r cl₂ w =
           record {
-            walks = rw (add-one p) (met-goes d s (entry k t i p) cl cl₁ f m _ n cl₂ r z (rw (← kind, ← q) (walks-part d s _ [] (chained (wordOf s k 124) t i (suc p)) c cl₁ cl₂ r w)));
+            walks =
+                rw (add-one p) (met-goes d s (entry k t i p) cl cl₁ f m _ n cl₂ r z
+                (rw (← kind, ← q) (walks-part d s _ [] (chained (wordOf s k 124) t i (suc p)) c cl₁ cl₂ r w)));
             known = λ x e. met-known;
             less = λ x e. omega (arith, w .less x e, entry-claims);
           }
 
 -- what the code asks of it once it is walked
-module _ (d : Disk) (s : List ℕ) (k t i p : ℕ) (n : Counts) (cl : List ℕ) (r : Walked) (cl′ : List ℕ) (u : EntryWalked d s k t i p n cl r cl′) (c : Counts) (e : r ≡ Done c) where
+module _ (d : Disk) (s : List ℕ) (k t i p : ℕ) (n : Counts) (cl : List ℕ) (r : Walked) (cl′ : List ℕ)
+    (u : EntryWalked d s k t i p n cl r cl′) (c : Counts) (e : r ≡ Done c) where
   pub entry-holds : Ready d s cl n → Holds s k
   entry-holds y = known-holds d s k (y .image) (u .known c e)
 
@@ -206,7 +240,8 @@ module _ (d : Disk) (s : List ℕ) (t i : ℕ) where
     pub most : free cl₀ ≤ mostBlocks
     pub walked : Walks d s (chainFrom (slotWord s t i) 0) (chainFrom k p) n₀ cl₀ (Done n) cl
 
-  pub chain-start : (cl : List ℕ) (n : Counts) (k : ℕ) → Ready d s cl n → t < d .blocks → i < slots → k ≡ slotWord s t i → ChainInv n cl cl n k 0
+  pub chain-start : (cl : List ℕ) (n : Counts) (k : ℕ) → Ready d s cl n → t < d .blocks → i < slots
+      → k ≡ slotWord s t i → ChainInv n cl cl n k 0
   unfolding chainKey
   chain-start cl n k r l h e =
       record {
@@ -222,7 +257,9 @@ module _ (d : Disk) (s : List ℕ) (t i : ℕ) where
   module _ (n₀ : Counts) (cl₀ cl : List ℕ) (n : Counts) (k p : ℕ) (v : ChainInv n₀ cl₀ cl n k p) where
     module _ (w : Walked) (cl′ : List ℕ) (h : k ≡ 0 → ⊥) (u : EntryWalked d s k t i p n cl w cl′) where
       chain-on : Walks d s (chainFrom (slotWord s t i) 0) (chainFrom (wordOf s k 124) (p + 1)) n₀ cl₀ w cl′
-      chain-on = rw (append-nil _) at (walks-then d s _ _ (entry k t i p ∷ []) _ [] n₀ n cl₀ cl cl′ (Done n) w (v .walked) refl (is-link k h) (u .walks))
+      chain-on =
+          rw (append-nil _) at (walks-then d s _ _ (entry k t i p ∷ []) _ [] n₀ n cl₀ cl cl′ (Done n) w (v .walked)
+          refl (is-link k h) (u .walks))
         where
           is-link : (k : ℕ) → (k ≡ 0 → ⊥) → chainFrom k p ≡ (entry k t i p ∷ []) ++ []
           is-link zero h = absurd (h refl)
@@ -231,7 +268,8 @@ module _ (d : Disk) (s : List ℕ) (t i : ℕ) where
       pub chain-out : (x : Refusal) → w ≡ Stopped x → Walks d s (chainFrom (slotWord s t i) 0) [] n₀ cl₀ w cl′
       chain-out x e = walks-stopped d s _ _ [] n₀ cl₀ cl′ w x chain-on e
 
-      pub chain-again : (c : Counts) (k′ : ℕ) → w ≡ Done c → length cl′ ≡ length cl → k′ ≡ wordOf s k 124 → ChainInv n₀ cl₀ cl′ c k′ (p + 1)
+      pub chain-again : (c : Counts) (k′ : ℕ) → w ≡ Done c → length cl′ ≡ length cl → k′ ≡ wordOf s k 124
+          → ChainInv n₀ cl₀ cl′ c k′ (p + 1)
       chain-again c k′ e l f =
           record {
             ready = ready-walked d s _ _ n c cl cl′ w (v .ready) (u .walks) e l;
@@ -268,7 +306,15 @@ module _ (d : Disk) (s : List ℕ) (t : ℕ) where
     pub walked : Walks d s (slotNodes s t 0 slots) (slotsFrom i) n₀ cl₀ (Done n) cl
 
   pub slots-start : (cl : List ℕ) (n : Counts) → Ready d s cl n → t < d .blocks → SlotsInv n cl cl n 0
-  slots-start cl n r l = record { ready = r; long = refl; inside = l; upto = omega arith; fewer = le-refl _; walked = walks-none d s (slotNodes s t 0 slots) n cl }
+  slots-start cl n r l =
+      record {
+        ready = r;
+        long = refl;
+        inside = l;
+        upto = omega arith;
+        fewer = le-refl _;
+        walked = walks-none d s (slotNodes s t 0 slots) n cl;
+      }
 
   module _ (n₀ : Counts) (cl₀ cl : List ℕ) (n : Counts) (i : ℕ) (v : SlotsInv n₀ cl₀ cl n i) where
     one-more : i < slots → slotsFrom i ≡ chained (slotWord s t i) t i 0 ++ slotsFrom (i + 1)
@@ -277,13 +323,19 @@ module _ (d : Disk) (s : List ℕ) (t : ℕ) where
         let e : slots - i ≡ suc (slots - (i + 1)) = omega arith in
         rw (e, add-one i) refl
 
-    slots-on : (r : Walked) (cl′ : List ℕ) → i < slots → Walks d s (chained (slotWord s t i) t i 0) [] n cl r cl′ → Walks d s (slotNodes s t 0 slots) (slotsFrom (i + 1)) n₀ cl₀ r cl′
-    slots-on r cl′ h w = walks-then d s _ (slotsFrom i) (chained (slotWord s t i) t i 0) [] (slotsFrom (i + 1)) n₀ n cl₀ cl cl′ (Done n) r (v .walked) refl (one-more h) w
+    slots-on : (r : Walked) (cl′ : List ℕ) → i < slots → Walks d s (chained (slotWord s t i) t i 0) [] n cl r cl′
+        → Walks d s (slotNodes s t 0 slots) (slotsFrom (i + 1)) n₀ cl₀ r cl′
+    slots-on r cl′ h w =
+        walks-then d s _ (slotsFrom i) (chained (slotWord s t i) t i 0) [] (slotsFrom (i + 1)) n₀ n cl₀ cl cl′
+        (Done n) r (v .walked) refl (one-more h) w
 
-    pub slots-out : (r : Walked) (x : Refusal) (cl′ : List ℕ) → i < slots → Walks d s (chained (slotWord s t i) t i 0) [] n cl r cl′ → r ≡ Stopped x → Walks d s (slotNodes s t 0 slots) [] n₀ cl₀ r cl′
+    pub slots-out : (r : Walked) (x : Refusal) (cl′ : List ℕ) → i < slots
+        → Walks d s (chained (slotWord s t i) t i 0) [] n cl r cl′ → r ≡ Stopped x
+        → Walks d s (slotNodes s t 0 slots) [] n₀ cl₀ r cl′
     slots-out r x cl′ h w e = walks-stopped d s _ _ [] n₀ cl₀ cl′ r x (slots-on r cl′ h w) e
 
-    pub slots-again : (cl′ : List ℕ) (m : Counts) (k p : ℕ) → i < slots → ChainInv d s t i n cl cl′ m k p → k ≡ 0 → SlotsInv n₀ cl₀ cl′ m (i + 1)
+    pub slots-again : (cl′ : List ℕ) (m : Counts) (k p : ℕ) → i < slots → ChainInv d s t i n cl cl′ m k p → k ≡ 0
+        → SlotsInv n₀ cl₀ cl′ m (i + 1)
     slots-again cl′ m k p h c z =
         record {
           ready = c .ready;

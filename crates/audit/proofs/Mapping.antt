@@ -52,7 +52,8 @@ module _ (d : Disk) (s : List ℕ) (bitmapKey : ℕ) (cl : List ℕ) where
     bits-few h = omega (arith, v .few, v .high, h .most)
 
     module _ (q : k < d .blocks) (f w : Bool) (e : f ≡ isFree s bitmapKey k) (g : w ≡ bitWrong f (getD cl k 0)) where
-      one-more : bitsFrom s bitmapKey cl k free (d .blocks - k) ≡ pick w (Wrong k) (bitsFrom s bitmapKey cl (k + 1) (pick f (free + 1) free) (d .blocks - (k + 1)))
+      one-more : bitsFrom s bitmapKey cl k free (d .blocks - k) ≡ pick w (Wrong k)
+          (bitsFrom s bitmapKey cl (k + 1) (pick f (free + 1) free) (d .blocks - (k + 1)))
       unfolding bitsFrom
       one-more = let n : d .blocks - k ≡ suc (d .blocks - (k + 1)) = omega arith in rw (n, ← e, ← g, add-one k) refl
 

@@ -45,13 +45,21 @@ module _ (d : Disk) (cl : List ℕ) (k : ℕ) where
   unfolding first must
   claim-out b e h = record { told = rw (sym e ∙ h); claims = λ z. absurd (omega (arith, z)); keeps = λ t. refl }
 
-  pub claim-taken : (b : Bool) → b ≡ inRange d k → b ≡ true → k < length cl → (getD cl k 0 ≡ 0 → ⊥) → Claims d cl k fault.claimedTwice cl
+  pub claim-taken : (b : Bool) → b ≡ inRange d k → b ≡ true → k < length cl → (getD cl k 0 ≡ 0 → ⊥)
+      → Claims d cl k fault.claimedTwice cl
   unfolding first must
-  claim-taken b e h l t = record { told = rw (sym e ∙ h, byte-any cl k 1 0 l, claimed-taken fault.claimedTwice (getD cl k 0) t); claims = λ z. absurd (omega (arith, z)); keeps = λ t. refl }
+  claim-taken b e h l t =
+      record {
+        told = rw (sym e ∙ h, byte-any cl k 1 0 l, claimed-taken fault.claimedTwice (getD cl k 0) t);
+        claims = λ z. absurd (omega (arith, z));
+        keeps = λ t. refl;
+      }
 
-  pub claim-new : (b : Bool) → b ≡ inRange d k → b ≡ true → k < length cl → getD cl k 0 ≡ 0 → Claims d cl k 0 (set cl k 1)
+  pub claim-new : (b : Bool) → b ≡ inRange d k → b ≡ true → k < length cl → getD cl k 0 ≡ 0
+      → Claims d cl k 0 (set cl k 1)
   unfolding first must
-  claim-new b e h l z = record { told = rw (sym e ∙ h, byte-any cl k 1 0 l, z); claims = λ _. refl; keeps = λ t. absurd (t refl) }
+  claim-new b e h l z =
+      record { told = rw (sym e ∙ h, byte-any cl k 1 0 l, z); claims = λ _. refl; keeps = λ t. absurd (t refl) }
 
 -- a key that is claimed lies in the volume, and so in the image
 module _ (d : Disk) (cl cl′ : List ℕ) (k r : ℕ) (h : Claims d cl k r cl′) (z : r ≡ 0) where
@@ -72,7 +80,12 @@ module _ (d : Disk) (cl cl′ : List ℕ) (k r : ℕ) (h : Claims d cl k r cl′
 module _ (d : Disk) (s : List ℕ) (n : Node) (cl cl′ : List ℕ) where
   pub met-claim : (r : ℕ) → Claims d cl (keyOf d n) r cl′ → (r ≡ 0 → ⊥) → Met d s n cl r cl′
   unfolding verdict first
-  met-claim r h t = record { told = h .told ∙ go (keyFault d (keyOf d n)) (claimed fault.claimedTwice (getD cl (keyOf d n) 1)) (λ z. t (h .told ∙ z)); claims = λ z. absurd (t z) }
+  met-claim r h t =
+      record {
+        told = h .told ∙ go (keyFault d (keyOf d n)) (claimed fault.claimedTwice (getD cl (keyOf d n) 1))
+            (λ z. t (h .told ∙ z));
+        claims = λ z. absurd (t z);
+      }
     where
       go : (a b : ℕ) → (first a b ≡ 0 → ⊥) → first a b ≡ first a (first b (faultOf d s n))
       go zero zero h = absurd (h refl)
@@ -93,7 +106,8 @@ module _ (d : Disk) (s cl cl′ : List ℕ) (r f : ℕ) where
   unfolding faultOf
   met-bitmap k h z e = met-tests d s (bitmap k) cl cl′ r f h z e
 
-  pub met-root : (k : ℕ) → k ≡ rootOf d → Claims d cl k r cl′ → r ≡ 0 → f ≡ first (rootFault d s) (mapFault d s) → Met d s root cl f cl′
+  pub met-root : (k : ℕ) → k ≡ rootOf d → Claims d cl k r cl′ → r ≡ 0 → f ≡ first (rootFault d s) (mapFault d s)
+      → Met d s root cl f cl′
   unfolding faultOf
   met-root k e h z e′ = met-tests d s root cl cl′ r f (rw e at h) z e′
 
@@ -101,5 +115,6 @@ module _ (d : Disk) (s cl cl′ : List ℕ) (r f : ℕ) where
   met-root-claim k e h t = met-claim d s root cl cl′ r (rw e at h) t
 
 -- the root lies in the image where its claim passes
-pub root-holds : (d : Disk) (s cl cl′ : List ℕ) (k r : ℕ) → k ≡ rootOf d → Claims d cl k r cl′ → r ≡ 0 → length s ≡ imageBytes d → Holds s (rootOf d)
+pub root-holds : (d : Disk) (s cl cl′ : List ℕ) (k r : ℕ) → k ≡ rootOf d → Claims d cl k r cl′ → r ≡ 0
+    → length s ≡ imageBytes d → Holds s (rootOf d)
 root-holds d s cl cl′ k r e h z l = rw e at (claims-holds d cl cl′ k r h z s l)

@@ -1,4 +1,5 @@
--- The numbers of refusals: the walk's are `walkRefusals` (`walk-number`), and each test knows its own (`numbered`, `by-walk`). Assumes nothing.
+-- The numbers of refusals: the walk's are `walkRefusals` (`walk-number`), and each test knows its own (`numbered`,
+-- `by-walk`). Assumes nothing.
 use Prim.Native.Nat.{ℕ}
 use mathlib.Core.Path.{_≡_, refl}
 use mathlib.Core.Bool.{Bool, true, false}
@@ -10,7 +11,9 @@ use Rattle.answers.specs.Tests.{pick}
 use Rattle.answers.specs.Members.{_∈_}
 use Rattle.answers.proofs.Members.{listed, unlisted}
 use Rattle.volume.specs.declared.disk.Disk.{Disk}
-use Rattle.walk.specs.Refusals.{Cause, number-4, number-5, number-6, number-7, number-8, number-9, number-10, number-10-list, number-11, number-12, number-13, number-14, number-14-list, number-15, number-16}
+use Rattle.walk.specs.Refusals.{Cause, number-4, number-5, number-6, number-7, number-8, number-9, number-10}
+use Rattle.walk.specs.Refusals.{number-10-list, number-11, number-12, number-13, number-14, number-14-list, number-15}
+use Rattle.walk.specs.Refusals.{number-16}
 use Rattle.audit.specs.Audits.{walkRefusals}
 use Rattle.audit.specs.Verdicts.{Test, size, area, tag, walk, bits, testOf}
 
@@ -46,9 +49,13 @@ Numbered v bits = v ≡ fault.wrongBit
 module _ (v : ℕ) where
   pub numbered : Numbered v (testOf v)
   unfolding pick
-  numbered = go (eqb v fault.imageLength) refl (eqb v fault.claimArea) refl (eqb v fault.bootTag) refl (eqb v fault.wrongBit) refl
+  numbered =
+      go (eqb v fault.imageLength) refl (eqb v fault.claimArea) refl (eqb v fault.bootTag) refl (eqb v fault.wrongBit)
+      refl
     where
-      go : (a : Bool) → eqb v fault.imageLength ≡ a → (b : Bool) → eqb v fault.claimArea ≡ b → (c : Bool) → eqb v fault.bootTag ≡ c → (e : Bool) → eqb v fault.wrongBit ≡ e → Numbered v (pick a size (pick b area (pick c tag (pick e bits walk))))
+      go : (a : Bool) → eqb v fault.imageLength ≡ a → (b : Bool) → eqb v fault.claimArea ≡ b → (c : Bool)
+          → eqb v fault.bootTag ≡ c → (e : Bool) → eqb v fault.wrongBit ≡ e
+          → Numbered v (pick a size (pick b area (pick c tag (pick e bits walk))))
       go true p b q c r e w = eqb-true v fault.imageLength p
       go false p true q c r e w = eqb-true v fault.claimArea q
       go false p false q true r e w = eqb-true v fault.bootTag r
@@ -58,4 +65,9 @@ module _ (v : ℕ) where
   pub by-walk : v ∈ walkRefusals → testOf v ≡ walk
   unfolding pick
   by-walk m =
-      rw (ne-eqb v fault.imageLength (unlisted walkRefusals v fault.imageLength tt m), ne-eqb v fault.claimArea (unlisted walkRefusals v fault.claimArea tt m), ne-eqb v fault.bootTag (unlisted walkRefusals v fault.bootTag tt m), ne-eqb v fault.wrongBit (unlisted walkRefusals v fault.wrongBit tt m))
+      rw (
+        ne-eqb v fault.imageLength (unlisted walkRefusals v fault.imageLength tt m),
+        ne-eqb v fault.claimArea (unlisted walkRefusals v fault.claimArea tt m),
+        ne-eqb v fault.bootTag (unlisted walkRefusals v fault.bootTag tt m),
+        ne-eqb v fault.wrongBit (unlisted walkRefusals v fault.wrongBit tt m),
+      )

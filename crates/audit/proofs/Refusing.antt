@@ -1,5 +1,5 @@
--- What a refused audit says: `refused-exactly`, `refused-number`, and each number by itself (`refused-1`, `refused-2`, `refused-3`,
--- `refused-walk` with `refused-cause`, `refused-17`). Assumes nothing.
+-- What a refused audit says: `refused-exactly`, `refused-number`, and each number by itself (`refused-1`,
+-- `refused-2`, `refused-3`, `refused-walk` with `refused-cause`, `refused-17`). Assumes nothing.
 use Prim.Native.Nat.{ℕ, _≤_, _<_}
 use mathlib.Core.Path.{_≡_, subst}
 use mathlib.Core.Logic.{_≢_, _↔_}
@@ -53,14 +53,17 @@ module _ (d : Disk) (s : List ℕ) (n k : ℕ) where
   unfolding pick
   refused-1 = refused-exactly d s n fault.imageLength k
 
-  pub refused-2 : (auditOf d s n ≡ refuse fault.claimArea k) ↔ ((k ≡ 0) × (length s ≡ imageBytes d) × (n < claimBytes d))
+  pub refused-2 : (auditOf d s n ≡ refuse fault.claimArea k)
+      ↔ ((k ≡ 0) × (length s ≡ imageBytes d) × (n < claimBytes d))
   unfolding pick
   refused-2 = refused-exactly d s n fault.claimArea k
 
-  pub refused-3 : (auditOf d s n ≡ refuse fault.bootTag k) ↔ ((k ≡ 0) × (length s ≡ imageBytes d) × (claimBytes d ≤ n) × (wordAt s 0 ≢ tagOf d))
+  pub refused-3 : (auditOf d s n ≡ refuse fault.bootTag k)
+      ↔ ((k ≡ 0) × (length s ≡ imageBytes d) × (claimBytes d ≤ n) × (wordAt s 0 ≢ tagOf d))
   unfolding pick
   refused-3 = refused-exactly d s n fault.bootTag k
 
-  pub refused-17 : (auditOf d s n ≡ refuse fault.wrongBit k) ↔ ((claimBytes d ≤ n) × Tree d s × Valid d s × FirstWrong d s k)
+  pub refused-17 : (auditOf d s n ≡ refuse fault.wrongBit k)
+      ↔ ((claimBytes d ≤ n) × Tree d s × Valid d s × FirstWrong d s k)
   unfolding pick
   refused-17 = refused-exactly d s n fault.wrongBit k

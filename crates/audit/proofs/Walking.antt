@@ -49,28 +49,35 @@ module _ (d : Disk) (s : List ℕ) where
 
   pub walks-none : (todo : List Node) (n : Counts) (cl : List ℕ) → Walks d s todo todo n cl (Done n) cl
   unfolding goesOn
-  walks-none todo n cl = record { same = λ ns. refl; count = λ c e. rw (same-counts n c e) (le-refl _); less = λ c e. le-refl _ }
+  walks-none todo n cl =
+      record { same = λ ns. refl; count = λ c e. rw (same-counts n c e) (le-refl _); less = λ c e. le-refl _ }
 
   -- where it has stopped it does not matter what was left
-  pub walks-stopped : (a b y : List Node) (n : Counts) (cl cl′ : List ℕ) (r : Walked) (x : Refusal) → Walks d s a b n cl r cl′ → r ≡ Stopped x → Walks d s a y n cl r cl′
+  pub walks-stopped : (a b y : List Node) (n : Counts) (cl cl′ : List ℕ) (r : Walked) (x : Refusal)
+      → Walks d s a b n cl r cl′ → r ≡ Stopped x → Walks d s a y n cl r cl′
   unfolding goesOn
   walks-stopped a b y n cl cl′ r x h e =
       record { same = λ ns. h .same ns ∙ rw e refl; count = h .count; less = h .less }
 
   module _ (a b x y z : List Node) (n c : Counts) (cl cl₁ cl₂ : List ℕ) (q r : Walked) where
-    pub walks-then : Walks d s a b n cl q cl₁ → q ≡ Done c → b ≡ x ++ z → Walks d s x y c cl₁ r cl₂ → Walks d s a (y ++ z) n cl r cl₂
+    pub walks-then : Walks d s a b n cl q cl₁ → q ≡ Done c → b ≡ x ++ z → Walks d s x y c cl₁ r cl₂
+        → Walks d s a (y ++ z) n cl r cl₂
     unfolding goesOn
     walks-then g e l h =
         record {
-          same = λ ns. g .same ns ∙ rw (e, l) (ap (λ (t : List Node). run (graph d s) cl₁ c t) (append-assoc x z ns) ∙ h .same (z ++ ns) ∙ ap (λ (t : List Node). goesOn d s r cl₂ t) (sym (append-assoc y z ns)));
+          same =
+              λ ns. g .same ns ∙ rw (e, l) (ap (λ (t : List Node). run (graph d s) cl₁ c t) (append-assoc x z ns)
+              ∙ h .same (z ++ ns) ∙ ap (λ (t : List Node). goesOn d s r cl₂ t) (sym (append-assoc y z ns)));
           count = λ m f. omega (arith, g .count c e, h .count m f);
           less = λ m f. omega (arith, g .less c e, h .less m f);
         }
 
   -- what comes after it stays
-  pub walks-part : (x y z : List Node) (n : Counts) (cl cl′ : List ℕ) (r : Walked) → Walks d s x y n cl r cl′ → Walks d s (x ++ z) (y ++ z) n cl r cl′
+  pub walks-part : (x y z : List Node) (n : Counts) (cl cl′ : List ℕ) (r : Walked) → Walks d s x y n cl r cl′
+      → Walks d s (x ++ z) (y ++ z) n cl r cl′
   unfolding goesOn
-  walks-part x y z n cl cl′ r h = walks-then (x ++ z) (x ++ z) x y z n n cl cl cl′ (Done n) r (walks-none (x ++ z) n cl) refl refl h
+  walks-part x y z n cl cl′ r h =
+      walks-then (x ++ z) (x ++ z) x y z n n cl cl cl′ (Done n) r (walks-none (x ++ z) n cl) refl refl h
 
   -- ---- a block that is met
 
@@ -87,31 +94,50 @@ module _ (d : Disk) (s : List ℕ) where
     pub met-passed : f ≡ 0 → faultOf d s n ≡ 0
     met-passed z = passed (graph d s) cl n (sym (h .told) ∙ z) .2
 
-    pub met-stops : (rest : List Node) (c : Counts) (cl″ : List ℕ) (r : Walked) → (f ≡ 0 → ⊥) → r ≡ Stopped (refusal f (keyOf d n)) → Walks d s (n ∷ []) rest c cl r cl″
+    pub met-stops : (rest : List Node) (c : Counts) (cl″ : List ℕ) (r : Walked) → (f ≡ 0 → ⊥)
+        → r ≡ Stopped (refusal f (keyOf d n)) → Walks d s (n ∷ []) rest c cl r cl″
     unfolding goesOn
     met-stops rest c cl″ r t e = rw e (go f (h .told) t)
       where
-        go : (f : ℕ) → f ≡ verdict (graph d s) cl n → (f ≡ 0 → ⊥) → Walks d s (n ∷ []) rest c cl (Stopped (refusal f (keyOf d n))) cl″
+        go : (f : ℕ) → f ≡ verdict (graph d s) cl n → (f ≡ 0 → ⊥)
+            → Walks d s (n ∷ []) rest c cl (Stopped (refusal f (keyOf d n))) cl″
         go zero e t = absurd (t refl)
-        go (suc v) e t = record { same = λ ns. run-stop (graph d s) cl c n ns v (sym e); count = λ m. not-both _ m; less = λ m. not-both _ m }
+        go (suc v) e t =
+            record {
+              same = λ ns. run-stop (graph d s) cl c n ns v (sym e);
+              count = λ m. not-both _ m;
+              less = λ m. not-both _ m;
+            }
 
     -- what it leads to comes next
-    pub met-goes : (rest : List Node) (c : Counts) (cl″ : List ℕ) (r : Walked) → f ≡ 0 → Walks d s (leadsTo d s n) rest (noted s n c) cl′ r cl″ → Walks d s (n ∷ []) rest c cl r cl″
+    pub met-goes : (rest : List Node) (c : Counts) (cl″ : List ℕ) (r : Walked) → f ≡ 0
+        → Walks d s (leadsTo d s n) rest (noted s n c) cl′ r cl″ → Walks d s (n ∷ []) rest c cl r cl″
     met-goes rest c cl″ r z w =
         record {
-          same = λ ns. run-enter (graph d s) cl c n ns (sym (h .told) ∙ z) ∙ ap (λ (t : List ℕ). run (graph d s) t (noted s n c) (leadsTo d s n ++ ns)) (sym (h .claims z)) ∙ w .same ns;
+          same =
+              λ ns. run-enter (graph d s) cl c n ns (sym (h .told) ∙ z)
+              ∙ ap (λ (t : List ℕ). run (graph d s) t (noted s n c) (leadsTo d s n ++ ns)) (sym (h .claims z))
+              ∙ w .same ns;
           count = λ m e. omega (arith, w .count m e, met-free z, noted-total s n c);
           less = λ m e. omega (arith, w .less m e, met-free z);
         }
 
   -- ---- what the walk stands on
 
-  pub ready-met : (n : Node) (c : Counts) (cl cl′ : List ℕ) (f : ℕ) → Ready d s cl c → Met d s n cl f cl′ → f ≡ 0 → length cl′ ≡ length cl → (m : Counts) → m ≡ noted s n c → Ready d s cl′ m
+  pub ready-met : (n : Node) (c : Counts) (cl cl′ : List ℕ) (f : ℕ) → Ready d s cl c → Met d s n cl f cl′ → f ≡ 0
+      → length cl′ ≡ length cl → (m : Counts) → m ≡ noted s n c → Ready d s cl′ m
   ready-met n c cl cl′ f h w z l m e =
-      record { sized = h .sized; image = h .image; claim = l ∙ h .claim; room = rw e (omega (arith, h .room, met-free n cl cl′ f w z, noted-total s n c)) }
+      record {
+        sized = h .sized;
+        image = h .image;
+        claim = l ∙ h .claim;
+        room = rw e (omega (arith, h .room, met-free n cl cl′ f w z, noted-total s n c));
+      }
 
-  pub ready-walked : (a b : List Node) (n c : Counts) (cl cl′ : List ℕ) (r : Walked) → Ready d s cl n → Walks d s a b n cl r cl′ → r ≡ Done c → length cl′ ≡ length cl → Ready d s cl′ c
-  ready-walked a b n c cl cl′ r h w e l = record { sized = h .sized; image = h .image; claim = l ∙ h .claim; room = omega (arith, h .room, w .count c e) }
+  pub ready-walked : (a b : List Node) (n c : Counts) (cl cl′ : List ℕ) (r : Walked) → Ready d s cl n
+      → Walks d s a b n cl r cl′ → r ≡ Done c → length cl′ ≡ length cl → Ready d s cl′ c
+  ready-walked a b n c cl cl′ r h w e l =
+      record { sized = h .sized; image = h .image; claim = l ∙ h .claim; room = omega (arith, h .room, w .count c e) }
 
   -- no count has as much as it can hold
   pub ready-most : (cl : List ℕ) (n : Counts) → Ready d s cl n → total n ≤ mostBlocks

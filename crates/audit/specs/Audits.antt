@@ -35,7 +35,8 @@ numbersOf (Refused r) = refusedAs nothingToReport r
 abbrev pub walkRefusals : List ℕ
 walkRefusals =
     fault.rootWords ∷ fault.badKey ∷ fault.claimedTwice ∷ fault.blockSum ∷ fault.blockType ∷ fault.link
-    ∷ fault.wrongTies ∷ fault.badName ∷ fault.wrongSlot ∷ fault.doubleName ∷ fault.fileLayout ∷ fault.dataLayout ∷ fault.bitmapWords ∷ []
+    ∷ fault.wrongTies ∷ fault.badName ∷ fault.wrongSlot ∷ fault.doubleName ∷ fault.fileLayout ∷ fault.dataLayout
+    ∷ fault.bitmapWords ∷ []
 
 -- and of all that an audit gives
 abbrev pub auditRefusals : List ℕ

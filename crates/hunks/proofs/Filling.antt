@@ -27,14 +27,20 @@ pub from-take : (ns : List ℕ) (k i n : ℕ) → 4 * (i + n) ≤ k → recordsF
 unfolding recordsFrom
 from-take ns k i zero h = refl
 from-take ns k i (suc n) h =
-    ap₂ _∷_ (rw (getD-take k ns (4 * i) 0 (omega arith), getD-take k ns (4 * i + 1) 0 (omega arith), getD-take k ns (4 * i + 2) 0 (omega arith), getD-take k ns (4 * i + 3) 0 (omega arith)))
+    ap₂ _∷_ (rw (
+      getD-take k ns (4 * i) 0 (omega arith),
+      getD-take k ns (4 * i + 1) 0 (omega arith),
+      getD-take k ns (4 * i + 2) 0 (omega arith),
+      getD-take k ns (4 * i + 3) 0 (omega arith),
+    ))
     (from-take ns k (i + 1) n (omega arith))
 
 pub filled-zero : (ns : List ℕ) (t : List Hunk) → filled ns 0 t ≡ t
 unfolding recordsFrom
 filled-zero ns t = refl
 
-pub filled-more : (ns : List ℕ) (i : ℕ) (t : List Hunk) (h r : Hunk) → r ≡ recordAt ns i → i < length t → set (filled ns i t) i r ≡ filled ns (i + 1) t
+pub filled-more : (ns : List ℕ) (i : ℕ) (t : List Hunk) (h r : Hunk) → r ≡ recordAt ns i → i < length t
+    → set (filled ns i t) i r ≡ filled ns (i + 1) t
 filled-more ns i t h r e l =
     let z : i ≡ 0 + i = omega arith in
     let s : suc i ≡ i + 1 = omega arith in
@@ -51,7 +57,8 @@ length-filled ns n t h =
 
 -- ---- what stands at each number
 
-from-at : (ns : List ℕ) (k n i : ℕ) (s : List Hunk) (d : Hunk) → i < n → getD (recordsFrom ns k n ++ s) i d ≡ recordAt ns (k + i)
+from-at : (ns : List ℕ) (k n i : ℕ) (s : List Hunk) (d : Hunk) → i < n
+    → getD (recordsFrom ns k n ++ s) i d ≡ recordAt ns (k + i)
 unfolding recordsFrom
 from-at ns k zero i s d h = absurd (not-suc-le-zero h)
 from-at ns k (suc n) zero s d h = let e : k ≡ k + 0 = omega arith in ap (recordAt ns) e
@@ -59,10 +66,12 @@ from-at ns k (suc n) (suc i) s d h =
     let e : k + 1 + i ≡ k + suc i = omega arith in
     from-at ns (k + 1) n i s d (le-of-suc-le-suc h) ∙ ap (recordAt ns) e
 
-pub record-of : (ns : List ℕ) (n : ℕ) (t : List Hunk) (i : ℕ) (d : Hunk) → i < n → getD (filled ns n t) i d ≡ recordAt ns i
+pub record-of : (ns : List ℕ) (n : ℕ) (t : List Hunk) (i : ℕ) (d : Hunk) → i < n
+    → getD (filled ns n t) i d ≡ recordAt ns i
 record-of ns n t i d h = let e : 0 + i ≡ i = omega arith in from-at ns 0 n i (drop n t) d h ∙ ap (recordAt ns) e
 
-pub record-stays : (ns : List ℕ) (n : ℕ) (t : List Hunk) (i : ℕ) (d : Hunk) → n ≤ i → getD (filled ns n t) i d ≡ getD t i d
+pub record-stays : (ns : List ℕ) (n : ℕ) (t : List Hunk) (i : ℕ) (d : Hunk) → n ≤ i
+    → getD (filled ns n t) i d ≡ getD t i d
 record-stays ns n t i d h =
     let l = length-from ns 0 n in
     let e : i ≡ length (recordsFrom ns 0 n) + (i - n) = omega (arith, l) in

@@ -47,7 +47,8 @@ numbers-drop (suc n) (h ∷ t) = numbers-drop n t ∙ ap (λ k. drop k (numbersI
 drop-next : (l : List ℕ) (j k : ℕ) → k ≡ suc j → j < length l → drop j l ≡ getD l j 0 ∷ drop k l
 drop-next l j k e h = drop-cons l j 0 h ∙ ap (λ q. getD l j 0 ∷ drop q l) (sym e)
 
-pub numbers-from : (ns : List ℕ) (i n : ℕ) → 4 * (i + n) ≤ length ns → numbersIn (recordsFrom ns i n) ≡ take (4 * n) (drop (4 * i) ns)
+pub numbers-from : (ns : List ℕ) (i n : ℕ) → 4 * (i + n) ≤ length ns
+    → numbersIn (recordsFrom ns i n) ≡ take (4 * n) (drop (4 * i) ns)
 unfolding numbersIn recordsFrom
 numbers-from ns i zero h = refl
 numbers-from ns i (suc n) h =
@@ -55,17 +56,21 @@ numbers-from ns i (suc n) h =
     let b = drop-next ns (4 * i + 1) (4 * i + 2) (omega arith) (omega arith) in
     let c = drop-next ns (4 * i + 2) (4 * i + 3) (omega arith) (omega arith) in
     let d = drop-next ns (4 * i + 3) (4 * (i + 1)) (omega arith) (omega arith) in
-    ap (λ l. getD ns (4 * i) 0 ∷ getD ns (4 * i + 1) 0 ∷ getD ns (4 * i + 2) 0 ∷ getD ns (4 * i + 3) 0 ∷ l) (numbers-from ns (i + 1) n (omega arith))
+    ap (λ l. getD ns (4 * i) 0 ∷ getD ns (4 * i + 1) 0 ∷ getD ns (4 * i + 2) 0 ∷ getD ns (4 * i + 3) 0 ∷ l)
+    (numbers-from ns (i + 1) n (omega arith))
     ∙ ap (λ l. take (suc (suc (suc (suc (4 * n))))) l)
-    (sym (a ∙ ap (λ l. getD ns (4 * i) 0 ∷ l) (b ∙ ap (λ l. getD ns (4 * i + 1) 0 ∷ l) (c ∙ ap (λ l. getD ns (4 * i + 2) 0 ∷ l) d))))
+    (sym (a ∙ ap (λ l. getD ns (4 * i) 0 ∷ l)
+    (b ∙ ap (λ l. getD ns (4 * i + 1) 0 ∷ l) (c ∙ ap (λ l. getD ns (4 * i + 2) 0 ∷ l) d))))
     ∙ ap (λ k. take k (drop (4 * i) ns)) (sym (four-more n))
 
 -- Filled with a file's records, a table's numbers are the loader's.
-pub numbers-table : (file bases : List ℕ) (t : List Hunk) → HeaderFits file → numbersIn (hunksOf file bases t) ≡ tableOf file bases (numbersIn t)
+pub numbers-table : (file bases : List ℕ) (t : List Hunk) → HeaderFits file
+    → numbersIn (hunksOf file bases t) ≡ tableOf file bases (numbersIn t)
 numbers-table file bases t s =
     let l = length-records file bases s in
     numbers-append (recordsFrom (recordsOf file bases) 0 (totalOf file)) (drop (totalOf file) t)
-    ∙ ap₂ _++_ (numbers-from (recordsOf file bases) 0 (totalOf file) (omega (arith, l)) ∙ take-all (4 * totalOf file) (recordsOf file bases) (omega (arith, l)))
+    ∙ ap₂ _++_ (numbers-from (recordsOf file bases) 0 (totalOf file) (omega (arith, l))
+    ∙ take-all (4 * totalOf file) (recordsOf file bases) (omega (arith, l)))
     (numbers-drop (totalOf file) t)
 
 -- ---- equal numbers, equal tables
@@ -83,32 +88,47 @@ same-table [] [] e = refl
 same-table [] (h ∷ t) e = absurd (omega (arith, ap length e))
 same-table (g ∷ s) [] e = absurd (omega (arith, ap length e))
 same-table (g ∷ s) (h ∷ t) e =
-    ap₂ _∷_ (same-hunk g h (ap (λ l. getD l 0 0) e) (ap (λ l. getD l 1 0) e) (ap (λ l. getD l 2 0) e) (ap (λ l. getD l 3 0) e)) (same-table s t (ap (drop 4) e))
+    ap₂ _∷_ (same-hunk g h (ap (λ l. getD l 0 0) e) (ap (λ l. getD l 1 0) e) (ap (λ l. getD l 2 0) e)
+    (ap (λ l. getD l 3 0) e)) (same-table s t (ap (drop 4) e))
 
 -- ---- a load and a move, over the numbers of their tables
 
-as-numbers : (a : Answer) (file bases : List ℕ) (t t1 : List Hunk) → t1 ≡ kept a (hunksOf file bases t) t → ((x n : ℕ) → a ≡ Accepted x n → HeaderFits file) → numbersIn t1 ≡ effect a (tableOf file bases (numbersIn t)) (numbersIn t)
+as-numbers : (a : Answer) (file bases : List ℕ) (t t1 : List Hunk) → t1 ≡ kept a (hunksOf file bases t) t
+    → ((x n : ℕ) → a ≡ Accepted x n → HeaderFits file)
+    → numbersIn t1 ≡ effect a (tableOf file bases (numbersIn t)) (numbersIn t)
 as-numbers (Accepted x n) file bases t t1 e f = ap numbersIn e ∙ numbers-table file bases t (f x n refl)
 as-numbers (Refused r) file bases t t1 e f = ap numbersIn e
 
-pub load-numbers : (file bases m : List ℕ) (t : List Hunk) (w : List ℕ) (r : Answer) (m1 : List ℕ) (t1 : List Hunk) (w1 : List ℕ) → Loads file bases m t w r m1 t1 w1 → numbers.Loads file bases m (numbersIn t) w r m1 (numbersIn t1) w1
+pub load-numbers : (file bases m : List ℕ) (t : List Hunk) (w : List ℕ) (r : Answer) (m1 : List ℕ) (t1 : List Hunk)
+    (w1 : List ℕ)
+    → Loads file bases m t w r m1 t1 w1 → numbers.Loads file bases m (numbersIn t) w r m1 (numbersIn t1) w1
 load-numbers file bases m t w r m1 t1 w1 l =
-    let e : r ≡ loadAnswer file bases (length m) (length (numbersIn t) / 4) (length w) = l .answer ∙ ap (λ k. loadAnswer file bases (length m) k (length w)) (sym (quarter t)) in
+    let e : r ≡ loadAnswer file bases (length m) (length (numbersIn t) / 4) (length w) =
+    l .answer ∙ ap (λ k. loadAnswer file bases (length m) k (length w)) (sym (quarter t)) in
     record {
       answer = e;
       numbers = ap numbersOf e;
       loaded = l .loaded;
-      recorded = as-numbers r file bases t t1 (l .recorded) (λ x n e. load-facts file bases (length m) (length t) (length w) x n r (l .answer) e .file-accepted .header);
+      recorded =
+          as-numbers r file bases t t1 (l .recorded)
+          (λ x n e. load-facts file bases (length m) (length t) (length w) x n r (l .answer)
+          e .file-accepted .header);
       clean = l .clean;
     }
 
-pub move-numbers : (file old new m : List ℕ) (t : List Hunk) (w : List ℕ) (r : Answer) (m1 : List ℕ) (t1 : List Hunk) (w1 : List ℕ) → Moves file old new m t w r m1 t1 w1 → numbers.Moves file old new m (numbersIn t) w r m1 (numbersIn t1) w1
+pub move-numbers : (file old new m : List ℕ) (t : List Hunk) (w : List ℕ) (r : Answer) (m1 : List ℕ) (t1 : List Hunk)
+    (w1 : List ℕ)
+    → Moves file old new m t w r m1 t1 w1 → numbers.Moves file old new m (numbersIn t) w r m1 (numbersIn t1) w1
 move-numbers file old new m t w r m1 t1 w1 l =
-    let e : r ≡ moveAnswer file old new (length m) (length (numbersIn t) / 4) (length w) = l .answer ∙ ap (λ k. moveAnswer file old new (length m) k (length w)) (sym (quarter t)) in
+    let e : r ≡ moveAnswer file old new (length m) (length (numbersIn t) / 4) (length w) =
+    l .answer ∙ ap (λ k. moveAnswer file old new (length m) k (length w)) (sym (quarter t)) in
     record {
       answer = e;
       numbers = ap numbersOf e;
       shifted = l .shifted;
-      recorded = as-numbers r file new t t1 (l .recorded) (λ x n e. move-facts file old new (length m) (length t) (length w) x n r (l .answer) e .load .file-accepted .header);
+      recorded =
+          as-numbers r file new t t1 (l .recorded)
+          (λ x n e. move-facts file old new (length m) (length t) (length w) x n r (l .answer)
+          e .load .file-accepted .header);
       clean = l .clean;
     }

@@ -22,15 +22,18 @@ use Rattle.hunks.proofs.Numbering.{length-numbers, numbers-from, same-t
 -- ---- record by record
 
 -- Record i of the program is its hunk's, and a further record stays.
-pub hunk-record : (file bases : List ℕ) (t : List Hunk) (i : ℕ) (d : Hunk) → i < totalOf file → getD (hunksOf file bases t) i d ≡ recordAt (recordsOf file bases) i
+pub hunk-record : (file bases : List ℕ) (t : List Hunk) (i : ℕ) (d : Hunk) → i < totalOf file
+    → getD (hunksOf file bases t) i d ≡ recordAt (recordsOf file bases) i
 hunk-record file bases t i d h = record-of (recordsOf file bases) (totalOf file) t i d h
 
-pub hunk-stays : (file bases : List ℕ) (t : List Hunk) (i : ℕ) (d : Hunk) → totalOf file ≤ i → getD (hunksOf file bases t) i d ≡ getD t i d
+pub hunk-stays : (file bases : List ℕ) (t : List Hunk) (i : ℕ) (d : Hunk) → totalOf file ≤ i
+    → getD (hunksOf file bases t) i d ≡ getD t i d
 hunk-stays file bases t i d h = record-stays (recordsOf file bases) (totalOf file) t i d h
 
 -- ---- in the terms of the page
 
-page-numbers : (p i : ℕ) (hs : List page.Hunk) (bases : List ℕ) → numbersIn (pageRecords p i hs bases) ≡ recordNumbers p i hs bases
+page-numbers : (p i : ℕ) (hs : List page.Hunk) (bases : List ℕ)
+    → numbersIn (pageRecords p i hs bases) ≡ recordNumbers p i hs bases
 unfolding pageRecords numbersIn
 page-numbers p i [] bases = refl
 page-numbers p i (h ∷ hs) bases = rw (page-numbers (p + 4 * h .size) (i + 1) hs bases)
@@ -40,11 +43,19 @@ unfolding pageRecords
 length-page p i [] bases = refl
 length-page p i (h ∷ hs) bases = ap suc (length-page (p + 4 * h .size) (i + 1) hs bases)
 
-module _ (file : List ℕ) (hs : List page.Hunk) (pr : Program hs) (whole : length file % 4 ≡ 0) (e : wordsAt file 0 (length file / 4) ≡ written hs) where
+module _ (file : List ℕ) (hs : List page.Hunk) (pr : Program hs) (whole : length file % 4 ≡ 0)
+    (e : wordsAt file 0 (length file / 4) ≡ written hs) where
   -- Of a file that is hunks, written out, the table gets one record a hunk; further records stay.
-  pub page-table : (bases : List ℕ) (t : List Hunk) → hunksOf file bases t ≡ pageRecords 0 0 hs bases ++ drop (length (pageRecords 0 0 hs bases)) t
+  pub page-table : (bases : List ℕ) (t : List Hunk)
+      → hunksOf file bases t ≡ pageRecords 0 0 hs bases ++ drop (length (pageRecords 0 0 hs bases)) t
   page-table bases t =
       let ns : List ℕ = recordNumbers 0 0 hs bases in
-      let l : length ns ≡ 4 * length hs = sym (ap length (page-numbers 0 0 hs bases)) ∙ length-numbers (pageRecords 0 0 hs bases) ∙ ap (λ k. 4 * k) (length-page 0 0 hs bases) in
-      let q : recordsFrom ns 0 (length hs) ≡ pageRecords 0 0 hs bases = same-table _ _ (numbers-from ns 0 (length hs) (omega (arith, l)) ∙ take-all (4 * length hs) ns (omega (arith, l)) ∙ sym (page-numbers 0 0 hs bases)) in
-      ap₂ (λ ms k. filled ms k t) (page-records file hs pr whole e bases) (is-total file hs pr whole e) ∙ ap (λ s. s ++ drop (length hs) t) q ∙ ap (λ k. pageRecords 0 0 hs bases ++ drop k t) (sym (length-page 0 0 hs bases))
+      let l : length ns ≡ 4 * length hs =
+      sym (ap length (page-numbers 0 0 hs bases)) ∙ length-numbers (pageRecords 0 0 hs bases)
+      ∙ ap (λ k. 4 * k) (length-page 0 0 hs bases) in
+      let q : recordsFrom ns 0 (length hs) ≡ pageRecords 0 0 hs bases =
+      same-table _ _ (numbers-from ns 0 (length hs) (omega (arith, l))
+      ∙ take-all (4 * length hs) ns (omega (arith, l)) ∙ sym (page-numbers 0 0 hs bases)) in
+      ap₂ (λ ms k. filled ms k t) (page-records file hs pr whole e bases) (is-total file hs pr whole e)
+      ∙ ap (λ s. s ++ drop (length hs) t) q ∙ ap (λ k. pageRecords 0 0 hs bases ++ drop k t)
+      (sym (length-page 0 0 hs bases))

@@ -64,7 +64,8 @@ fn load_counted(
     records: usize,
     work: &mut [u8],
 ) -> Counted
-    ensures { λ r. ⌜ HandsLoad (now (file .entry)) (now (bases .entry)) (now (memory .entry)) (now (work .entry)) records r (now (memory .exit)) (now (work .exit)) ⌝ }
+    ensures { λ r. ⌜ HandsLoad (now (file .entry)) (now (bases .entry)) (now (memory .entry)) (now (work .entry))
+        records r (now (memory .exit)) (now (work .exit)) ⌝ }
 {
     with_count(load_core(file, bases, memory, records, work))
 }
@@ -78,7 +79,8 @@ fn move_counted(
     records: usize,
     work: &mut [u8],
 ) -> Counted
-    ensures { λ r. ⌜ HandsMove (now (file .entry)) (now (old .entry)) (now (new .entry)) (now (memory .entry)) (now (work .entry)) records r (now (memory .exit)) (now (work .exit)) ⌝ }
+    ensures { λ r. ⌜ HandsMove (now (file .entry)) (now (old .entry)) (now (new .entry)) (now (memory .entry))
+        (now (work .entry)) records r (now (memory .exit)) (now (work .exit)) ⌝ }
 {
     with_count(move_core(file, old, new, memory, records, work))
 }
@@ -103,7 +105,8 @@ pub fn load(
     table: &mut [Hunk],
     work: &mut [u8],
 ) -> Answer
-    ensures { λ r. ⌜ Loads (now (file .entry)) (now (bases .entry)) (now (memory .entry)) (now (table .entry)) (now (work .entry)) r (now (memory .exit)) (now (table .exit)) (now (work .exit)) ⌝ }
+    ensures { λ r. ⌜ Loads (now (file .entry)) (now (bases .entry)) (now (memory .entry)) (now (table .entry))
+        (now (work .entry)) r (now (memory .exit)) (now (table .exit)) (now (work .exit)) ⌝ }
 {
     let c = load_counted(file, bases, memory, table.len(), work);
     fill(table, c);
@@ -119,7 +122,8 @@ pub fn move_program(
     table: &mut [Hunk],
     work: &mut [u8],
 ) -> Answer
-    ensures { λ r. ⌜ Moves (now (file .entry)) (now (old .entry)) (now (new .entry)) (now (memory .entry)) (now (table .entry)) (now (work .entry)) r (now (memory .exit)) (now (table .exit)) (now (work .exit)) ⌝ }
+    ensures { λ r. ⌜ Moves (now (file .entry)) (now (old .entry)) (now (new .entry)) (now (memory .entry))
+        (now (table .entry)) (now (work .entry)) r (now (memory .exit)) (now (table .exit)) (now (work .exit)) ⌝ }
 {
     let c = move_counted(file, old, new, memory, table.len(), work);
     fill(table, c);

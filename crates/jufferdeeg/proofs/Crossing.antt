@@ -16,19 +16,36 @@ use Rattle.jufferdeeg.specs.declared.programs.ProgramNumbers.{ProgramNum
 use Rattle.jufferdeeg.specs.Volumes.{auditNumbers, readNumbers, AuditsFloppy, ReadsFloppy}
 use Rattle.jufferdeeg.specs.Programs.{programNumbers, LoadsNumbers, MovesNumbers}
 
-pub audits : (s : List ℕ) (n : ℕ) (a : Audited) (r : AuditNumbers) (claim′ : List ℕ) → Audits floppy s n a claim′ → r ≡ auditNumbers a → AuditsFloppy s n r claim′
+pub audits : (s : List ℕ) (n : ℕ) (a : Audited) (r : AuditNumbers) (claim′ : List ℕ) → Audits floppy s n a claim′
+    → r ≡ auditNumbers a → AuditsFloppy s n r claim′
 audits s n a r claim′ h e =
     record { answer = e ∙ ap auditNumbers (h .answer); call = subst (λ x. Audits floppy s n x claim′) (h .answer) h }
 
-pub reads : (s path : List ℕ) (o : ℕ) (output : List ℕ) (a : Reading) (r : ReadNumbers) (output′ : List ℕ) → Reads floppy s path o output a output′ → r ≡ readNumbers a → ReadsFloppy s path o output r output′
+pub reads : (s path : List ℕ) (o : ℕ) (output : List ℕ) (a : Reading) (r : ReadNumbers) (output′ : List ℕ)
+    → Reads floppy s path o output a output′ → r ≡ readNumbers a → ReadsFloppy s path o output r output′
 reads s path o output a r output′ h e =
-    record { answer = e ∙ ap readNumbers (h .answer); call = subst (λ x. Reads floppy s path o output x output′) (h .answer) h }
+    record {
+      answer = e ∙ ap readNumbers (h .answer);
+      call = subst (λ x. Reads floppy s path o output x output′)
+          (h .answer) h;
+    }
 
-module _ (file : List ℕ) (m : List ℕ) (t : List Hunk) (w : List ℕ) (a : Answer) (r : ProgramNumbers) (m′ : List ℕ) (t′ : List Hunk) (w′ : List ℕ) where
-  pub loads : (bases : List ℕ) → Loads file bases m t w a m′ t′ w′ → r ≡ programNumbers a → LoadsNumbers file bases m t w r m′ t′ w′
+module _ (file : List ℕ) (m : List ℕ) (t : List Hunk) (w : List ℕ) (a : Answer) (r : ProgramNumbers) (m′ : List ℕ)
+    (t′ : List Hunk) (w′ : List ℕ) where
+  pub loads : (bases : List ℕ) → Loads file bases m t w a m′ t′ w′ → r ≡ programNumbers a
+      → LoadsNumbers file bases m t w r m′ t′ w′
   loads bases h e =
-      record { answer = e ∙ ap programNumbers (h .answer); call = subst (λ x. Loads file bases m t w x m′ t′ w′) (h .answer) h }
+      record {
+        answer = e ∙ ap programNumbers (h .answer);
+        call = subst (λ x. Loads file bases m t w x m′ t′ w′)
+            (h .answer) h;
+      }
 
-  pub moves : (old new : List ℕ) → Moves file old new m t w a m′ t′ w′ → r ≡ programNumbers a → MovesNumbers file old new m t w r m′ t′ w′
+  pub moves : (old new : List ℕ) → Moves file old new m t w a m′ t′ w′ → r ≡ programNumbers a
+      → MovesNumbers file old new m t w r m′ t′ w′
   moves old new h e =
-      record { answer = e ∙ ap programNumbers (h .answer); call = subst (λ x. Moves file old new m t w x m′ t′ w′) (h .answer) h }
+      record {
+        answer = e ∙ ap programNumbers (h .answer);
+        call = subst (λ x. Moves file old new m t w x m′ t′ w′)
+            (h .answer) h;
+      }

@@ -11,28 +11,44 @@ use Rattle.jufferdeeg.specs.Volumes.{findOnFloppy, AuditsFloppy, ReadsFl
 use Rattle.jufferdeeg.specs.Programs.{checkNumbers, LoadsNumbers, MovesNumbers}
 use Rattle.jufferdeeg.specs.Reasons.{Reasons}
 
-pub audit-crosses : (s : List ℕ) (n : ℕ) (r r′ : AuditNumbers) (c c′ : List ℕ) → AuditsFloppy s n r c → AuditsFloppy s n r′ c′ → (r ≡ r′) × (c ≡ c′)
+pub audit-crosses : (s : List ℕ) (n : ℕ) (r r′ : AuditNumbers) (c c′ : List ℕ) → AuditsFloppy s n r c
+    → AuditsFloppy s n r′ c′ → (r ≡ r′) × (c ≡ c′)
 audit-crosses s n r r′ c c′ h h′ = (h .answer ∙ sym (h′ .answer), h .call .claim ∙ sym (h′ .call .claim))
 
 pub find-crosses : (s path : List ℕ) (r r′ : FindNumbers) → r ≡ findOnFloppy s path → r′ ≡ findOnFloppy s path → r ≡ r′
 find-crosses s path r r′ h h′ = h ∙ sym h′
 
-pub read-crosses : (s path : List ℕ) (o : ℕ) (output : List ℕ) (r r′ : ReadNumbers) (a a′ : List ℕ) → ReadsFloppy s path o output r a → ReadsFloppy s path o output r′ a′ → (r ≡ r′) × (a ≡ a′)
+pub read-crosses : (s path : List ℕ) (o : ℕ) (output : List ℕ) (r r′ : ReadNumbers) (a a′ : List ℕ)
+    → ReadsFloppy s path o output r a → ReadsFloppy s path o output r′ a′ → (r ≡ r′) × (a ≡ a′)
 read-crosses s path o output r r′ a a′ h h′ = (h .answer ∙ sym (h′ .answer), h .call .left ∙ sym (h′ .call .left))
 
 pub check-crosses : (file : List ℕ) (r r′ : ProgramNumbers) → r ≡ checkNumbers file → r′ ≡ checkNumbers file
     → r ≡ r′
 check-crosses file r r′ h h′ = h ∙ sym h′
 
-module _ (file m : List ℕ) (t : List Hunk) (w : List ℕ) (r r′ : ProgramNumbers) (m1 : List ℕ) (t1 : List Hunk) (w1 m2 : List ℕ) (t2 : List Hunk) (w2 : List ℕ) where
-  pub load-crosses : (bases : List ℕ) → LoadsNumbers file bases m t w r m1 t1 w1 → LoadsNumbers file bases m t w r′ m2 t2 w2 → (r ≡ r′) × (m1 ≡ m2) × (t1 ≡ t2) × (w1 ≡ w2)
-  load-crosses bases h h′ =
-      (h .answer ∙ sym (h′ .answer), h .call .loaded ∙ sym (h′ .call .loaded), h .call .recorded ∙ sym (h′ .call .recorded), h .call .clean ∙ sym (h′ .call .clean))
+module _ (file m : List ℕ) (t : List Hunk) (w : List ℕ) (r r′ : ProgramNumbers) (m1 : List ℕ) (t1 : List Hunk)
+    (w1 m2 : List ℕ) (t2 : List Hunk) (w2 : List ℕ) where
+  pub load-crosses : (bases : List ℕ) → LoadsNumbers file bases m t w r m1 t1 w1
+      → LoadsNumbers file bases m t w r′ m2 t2 w2 → (r ≡ r′) × (m1 ≡ m2) × (t1 ≡ t2) × (w1 ≡ w2)
+  load-crosses bases h h′ = (
+    h .answer ∙ sym (h′ .answer),
+    h .call .loaded ∙ sym (h′ .call .loaded),
+    h .call .recorded
+        ∙ sym (h′ .call .recorded),
+    h .call .clean ∙ sym (h′ .call .clean),
+  )
 
-  pub move-crosses : (old new : List ℕ) → MovesNumbers file old new m t w r m1 t1 w1 → MovesNumbers file old new m t w r′ m2 t2 w2 → (r ≡ r′) × (m1 ≡ m2) × (t1 ≡ t2) × (w1 ≡ w2)
-  move-crosses old new h h′ =
-      (h .answer ∙ sym (h′ .answer), h .call .shifted ∙ sym (h′ .call .shifted), h .call .recorded ∙ sym (h′ .call .recorded), h .call .clean ∙ sym (h′ .call .clean))
+  pub move-crosses : (old new : List ℕ) → MovesNumbers file old new m t w r m1 t1 w1
+      → MovesNumbers file old new m t w r′ m2 t2 w2 → (r ≡ r′) × (m1 ≡ m2) × (t1 ≡ t2) × (w1 ≡ w2)
+  move-crosses old new h h′ = (
+    h .answer ∙ sym (h′ .answer),
+    h .call .shifted ∙ sym (h′ .call .shifted),
+    h .call .recorded
+        ∙ sym (h′ .call .recorded),
+    h .call .clean ∙ sym (h′ .call .clean),
+  )
 
-pub reason-crosses : (n : ℕ) (output : List ℕ) (r r′ : ℕ) (a a′ : List ℕ) → Reasons n output r a → Reasons n output r′ a′
+pub reason-crosses : (n : ℕ) (output : List ℕ) (r r′ : ℕ) (a a′ : List ℕ) → Reasons n output r a
+    → Reasons n output r′ a′
     → (r ≡ r′) × (a ≡ a′)
 reason-crosses n output r r′ a a′ h h′ = (h .answer ∙ sym (h′ .answer), h .left ∙ sym (h′ .left))

@@ -1,5 +1,5 @@
--- What a C program sees: when the number of an exported call is 0, which numbers there are else, when each of them is given at which place, and what
--- a refused call leaves. Assumes nothing.
+-- What a C program sees: when the number of an exported call is 0, which numbers there are else, when each of them is
+-- given at which place, and what a refused call leaves. Assumes nothing.
 use Prim.Native.Nat.{ℕ, _*_, _≤_}
 use mathlib.Core.Path.{_≡_, refl, sym, ap, ap₂, _∙_}
 use mathlib.Core.Logic.{_≢_, _↔_, _⊎_, inl, inr}
@@ -55,7 +55,8 @@ use Rattle.jufferdeeg.specs.declared.volumes.AuditNumbers.{AuditNumbers}
 use Rattle.jufferdeeg.specs.declared.volumes.FindNumbers.{FindNumbers}
 use Rattle.jufferdeeg.specs.declared.volumes.ReadNumbers.{ReadNumbers}
 use Rattle.jufferdeeg.specs.declared.programs.ProgramNumbers.{ProgramNumbers}
-use Rattle.jufferdeeg.specs.Volumes.{auditNumbers, findNumbers, readNumbers, findOnFloppy, AuditsFloppy, ReadsFloppy}
+use Rattle.jufferdeeg.specs.Volumes.{auditNumbers, findNumbers, readNumbers, findOnFloppy, AuditsFloppy}
+use Rattle.jufferdeeg.specs.Volumes.{ReadsFloppy}
 use Rattle.jufferdeeg.specs.Programs.{programNumbers, checkNumbers, loadsAs, movesAs, LoadsNumbers, MovesNumbers}
 
 -- one condition for another, and that for a third
@@ -65,7 +66,8 @@ chain f g = (λ x. g .0 (f .0 x), λ z. f .1 (g .1 z))
 -- ---- the audit of an image s with a claim area of n bytes
 
 -- a number other than 0, with its place, is a refusal's
-audit-says : (x : Audited) (v k : ℕ) → v ≢ 0 → ((auditNumbers x .number ≡ v) × (auditNumbers x .place ≡ k)) ↔ (x ≡ audit.refuse v k)
+audit-says : (x : Audited) (v k : ℕ) → v ≢ 0
+    → ((auditNumbers x .number ≡ v) × (auditNumbers x .place ≡ k)) ↔ (x ≡ audit.refuse v k)
 audit-says x v k z = (there x, λ e. rw e (refl, refl))
   where
     there : (y : Audited) → (auditNumbers y .number ≡ v) × (auditNumbers y .place ≡ k) → y ≡ audit.refuse v k
@@ -93,28 +95,39 @@ module _ (s : List ℕ) (n : ℕ) (r : AuditNumbers) (claim′ : List ℕ) (a : 
 
   -- another number v is given at place k if and only if its test says so
   pub audit-refused-at : (v k : ℕ) → v ≢ 0 → ((r .number ≡ v) × (r .place ≡ k)) ↔ Says floppy s n v k (testOf v)
-  audit-refused-at v k z = rw (a .answer) (chain (audit-says (audit.auditOf floppy s n) v k z) (audit-refusing.refused-exactly floppy s n v k))
+  audit-refused-at v k z =
+      rw (a .answer) (chain (audit-says (audit.auditOf floppy s n) v k z)
+      (audit-refusing.refused-exactly floppy s n v k))
 
   -- the number is 0 or one of these
   pub audit-number : r .number ∈ (0 ∷ audit.auditRefusals)
-  audit-number = rw (a .answer) (go (audit.auditOf floppy s n) (audit-numbers.number-listed floppy s n _ claim′ (a .call)))
+  audit-number =
+      rw (a .answer) (go (audit.auditOf floppy s n) (audit-numbers.number-listed floppy s n _ claim′ (a .call)))
     where
-      go : (x : Audited) → ((f : Refusal) → x ≡ audited.Refused f → audit.numbersOf x .number ∈ audit.auditRefusals) → auditNumbers x .number ∈ (0 ∷ audit.auditRefusals)
+      go : (x : Audited) → ((f : Refusal) → x ≡ audited.Refused f → audit.numbersOf x .number ∈ audit.auditRefusals)
+          → auditNumbers x .number ∈ (0 ∷ audit.auditRefusals)
       go (audited.Accepted p) h = inl refl
       go (audited.Refused f) h = inr (h f refl)
 
   -- a refused audit reports nothing, and its claim area comes back cleared
-  pub audit-refused : r .number ≢ 0 → (claim′ ≡ replicate n 0) × (r .directories ≡ 0) × (r .files ≡ 0) × (r .«list_blocks» ≡ 0) × (r .«data_blocks» ≡ 0) × (r .used ≡ 0) × (r .free ≡ 0)
+  pub audit-refused : r .number ≢ 0
+      → (claim′ ≡ replicate n 0) × (r .directories ≡ 0) × (r .files ≡ 0) × (r .«list_blocks» ≡ 0)
+      × (r .«data_blocks» ≡ 0) × (r .used ≡ 0) × (r .free ≡ 0)
   audit-refused z = go (audit.auditOf floppy s n) refl (a .call .claim)
     where
-      go : (x : Audited) → audit.auditOf floppy s n ≡ x → claim′ ≡ audit.claimAfter floppy s x n → (claim′ ≡ replicate n 0) × (r .directories ≡ 0) × (r .files ≡ 0) × (r .«list_blocks» ≡ 0) × (r .«data_blocks» ≡ 0) × (r .used ≡ 0) × (r .free ≡ 0)
+      go : (x : Audited) → audit.auditOf floppy s n ≡ x → claim′ ≡ audit.claimAfter floppy s x n
+          → (claim′ ≡ replicate n 0) × (r .directories ≡ 0) × (r .files ≡ 0) × (r .«list_blocks» ≡ 0)
+          × (r .«data_blocks» ≡ 0) × (r .used ≡ 0) × (r .free ≡ 0)
       go (audited.Accepted p) e c = absurd (z (audit-accepts .1 (p, e)))
-      go (audited.Refused f) e c = let q = a .answer ∙ ap auditNumbers e in (c, rw q refl, rw q refl, rw q refl, rw q refl, rw q refl, rw q refl)
+      go (audited.Refused f) e c =
+          let q = a .answer ∙ ap auditNumbers e in
+          (c, rw q refl, rw q refl, rw q refl, rw q refl, rw q refl, rw q refl)
 
 -- ---- a path
 
 -- a number other than 0, with its place, is a refusal's
-find-says : (x : Found) (v k : ℕ) → v ≢ 0 → ((findNumbers x .number ≡ v) × (findNumbers x .place ≡ k)) ↔ (x ≡ lookup.refuse v k)
+find-says : (x : Found) (v k : ℕ) → v ≢ 0
+    → ((findNumbers x .number ≡ v) × (findNumbers x .place ≡ k)) ↔ (x ≡ lookup.refuse v k)
 find-says x v k z = (there x, λ e. rw e (refl, refl))
   where
     there : (y : Found) → (findNumbers y .number ≡ v) × (findNumbers y .place ≡ k) → y ≡ lookup.refuse v k
@@ -124,7 +137,9 @@ find-says x v k z = (there x, λ e. rw e (refl, refl))
 
 -- the path leads to the directory of that key, with so many entries compared
 abbrev pub FindsDirectory : List ℕ → List ℕ → FindNumbers → Type 0
-FindsDirectory s path r = (r .kind ≡ 2) × (r .size ≡ 0) × lookups.Opened floppy s path × Trail floppy s (rootOf floppy) (components path) (r .key) (r .compared)
+FindsDirectory s path r =
+    (r .kind ≡ 2) × (r .size ≡ 0) × lookups.Opened floppy s path × Trail floppy s (rootOf floppy) (components path)
+    (r .key) (r .compared)
 
 -- or to the file of that key and size
 abbrev pub FindsFile : List ℕ → List ℕ → FindNumbers → Type 0
@@ -135,30 +150,40 @@ module _ (s path : List ℕ) (r : FindNumbers) (a : r ≡ findOnFloppy s path) w
   finds = record { answer = refl; numbers = refl }
 
   -- the number is 0 if and only if the answer is a directory or a file
-  find-answers : (r .number ≡ 0) ↔ (((k : ℕ) × (c : ℕ) × (lookup.findOf floppy s path ≡ found.Directory k c)) ⊎ ((k : ℕ) × (z : ℕ) × (c : ℕ) × (lookup.findOf floppy s path ≡ found.File k z c)))
+  find-answers : (r .number ≡ 0)
+      ↔ (((k : ℕ) × (c : ℕ) × (lookup.findOf floppy s path ≡ found.Directory k c))
+      ⊎ ((k : ℕ) × (z : ℕ) × (c : ℕ) × (lookup.findOf floppy s path ≡ found.File k z c)))
   find-answers = rw a (lookup-numbers.zero-exactly floppy s path _ finds)
 
   -- the number is 0 if and only if the path leads to a directory or to a file
   pub find-zero : (r .number ≡ 0) ↔ (FindsDirectory s path r ⊎ FindsFile s path r)
   find-zero = (λ z. there (find-answers .0 z), back)
     where
-      there : ((k : ℕ) × (c : ℕ) × (lookup.findOf floppy s path ≡ found.Directory k c)) ⊎ ((k : ℕ) × (z : ℕ) × (c : ℕ) × (lookup.findOf floppy s path ≡ found.File k z c)) → FindsDirectory s path r ⊎ FindsFile s path r
-      there (inl (k, c, e)) = let q = finding.directory-exactly floppy s path k c .0 e in inl (rw (a ∙ ap findNumbers e) (refl, refl, q .0, q .1))
+      there : ((k : ℕ) × (c : ℕ) × (lookup.findOf floppy s path ≡ found.Directory k c))
+          ⊎ ((k : ℕ) × (z : ℕ) × (c : ℕ) × (lookup.findOf floppy s path ≡ found.File k z c))
+          → FindsDirectory s path r ⊎ FindsFile s path r
+      there (inl (k, c, e)) =
+          let q = finding.directory-exactly floppy s path k c .0 e in
+          inl (rw (a ∙ ap findNumbers e) (refl, refl, q .0, q .1))
       there (inr (k, z, c, e)) = inr (rw (a ∙ ap findNumbers e) (refl, finding.file-exactly floppy s path k z c .0 e))
 
       back : FindsDirectory s path r ⊎ FindsFile s path r → r .number ≡ 0
-      back (inl (i, j, o, t)) = find-answers .1 (inl (_, _, finding.directory-exactly floppy s path (r .key) (r .compared) .1 (o, t)))
-      back (inr (i, f)) = find-answers .1 (inr (_, _, _, finding.file-exactly floppy s path (r .key) (r .size) (r .compared) .1 f))
+      back (inl (i, j, o, t)) =
+          find-answers .1 (inl (_, _, finding.directory-exactly floppy s path (r .key) (r .compared) .1 (o, t)))
+      back (inr (i, f)) =
+          find-answers .1 (inr (_, _, _, finding.file-exactly floppy s path (r .key) (r .size) (r .compared) .1 f))
 
   -- another number v is given at place k if and only if `Refuses` holds of them
   pub find-refused-at : (v k : ℕ) → v ≢ 0 → ((r .number ≡ v) × (r .place ≡ k)) ↔ lookups.Refuses floppy s path v k
-  find-refused-at v k z = rw a (chain (find-says (lookup.findOf floppy s path) v k z) (finding.refused-exactly floppy s path v k))
+  find-refused-at v k z =
+      rw a (chain (find-says (lookup.findOf floppy s path) v k z) (finding.refused-exactly floppy s path v k))
 
   -- the number is 0 or one of these
   pub find-number : r .number ∈ (0 ∷ lookup.findRefusals)
   find-number = rw a (go (lookup.findOf floppy s path) (lookup-numbers.number-listed floppy s path _ finds))
     where
-      go : (x : Found) → ((f : Refusal) → x ≡ found.Refused f → lookup.numbersOf x .number ∈ lookup.findRefusals) → findNumbers x .number ∈ (0 ∷ lookup.findRefusals)
+      go : (x : Found) → ((f : Refusal) → x ≡ found.Refused f → lookup.numbersOf x .number ∈ lookup.findRefusals)
+          → findNumbers x .number ∈ (0 ∷ lookup.findRefusals)
       go (found.Directory k c) h = inl refl
       go (found.File k z c) h = inl refl
       go (found.Refused f) h = inr (h f refl)
@@ -167,7 +192,8 @@ module _ (s path : List ℕ) (r : FindNumbers) (a : r ≡ findOnFloppy s path) w
   pub find-refused : r .number ≢ 0 → (r .kind ≡ 0) × (r .key ≡ 0) × (r .size ≡ 0) × (r .compared ≡ 0)
   find-refused z = go (lookup.findOf floppy s path) refl
     where
-      go : (x : Found) → lookup.findOf floppy s path ≡ x → (r .kind ≡ 0) × (r .key ≡ 0) × (r .size ≡ 0) × (r .compared ≡ 0)
+      go : (x : Found) → lookup.findOf floppy s path ≡ x
+          → (r .kind ≡ 0) × (r .key ≡ 0) × (r .size ≡ 0) × (r .compared ≡ 0)
       go (found.Directory k c) e = absurd (z (find-answers .1 (inl (k, c, e))))
       go (found.File k y c) e = absurd (z (find-answers .1 (inr (k, y, c, e))))
       go (found.Refused f) e = let q = a ∙ ap findNumbers e in (rw q refl, rw q refl, rw q refl, rw q refl)
@@ -175,14 +201,16 @@ module _ (s path : List ℕ) (r : FindNumbers) (a : r ≡ findOnFloppy s path) w
 -- ---- a read at offset o
 
 -- a number other than 0, with its place, is a refusal's
-read-says : (x : Reading) (v k : ℕ) → v ≢ 0 → ((readNumbers x .number ≡ v) × (readNumbers x .place ≡ k)) ↔ (x ≡ read.refuse v k)
+read-says : (x : Reading) (v k : ℕ) → v ≢ 0
+    → ((readNumbers x .number ≡ v) × (readNumbers x .place ≡ k)) ↔ (x ≡ read.refuse v k)
 read-says x v k z = (there x, λ e. rw e (refl, refl))
   where
     there : (y : Reading) → (readNumbers y .number ≡ v) × (readNumbers y .place ≡ k) → y ≡ read.refuse v k
     there (reading.Bytes n) (a, b) = absurd (z (sym a))
     there (reading.Refused f) (a, b) = ap₂ read.refuse a b
 
-module _ (s path : List ℕ) (o : ℕ) (output : List ℕ) (r : ReadNumbers) (output′ : List ℕ) (a : ReadsFloppy s path o output r output′) where
+module _ (s path : List ℕ) (o : ℕ) (output : List ℕ) (r : ReadNumbers) (output′ : List ℕ)
+    (a : ReadsFloppy s path o output r output′) where
   -- the number is 0 if and only if the answer is a number of bytes
   read-answers : (r .number ≡ 0) ↔ ((n : ℕ) × (read.readOf floppy s path o (length output) ≡ reading.Bytes n))
   read-answers = rw (a .answer) (read-numbers.zero-exactly floppy s path o output _ output′ (a .call))
@@ -198,13 +226,18 @@ module _ (s path : List ℕ) (o : ℕ) (output : List ℕ) (r : ReadNumbers) (ou
 
   -- another number v is given at place k if and only if `Refuses` holds of them
   pub read-refused-at : (v k : ℕ) → v ≢ 0 → ((r .number ≡ v) × (r .place ≡ k)) ↔ outcomes.Refuses floppy s path v k
-  read-refused-at v k z = rw (a .answer) (chain (read-says (read.readOf floppy s path o (length output)) v k z) (unread.refused-exactly floppy s path o (length output) v k))
+  read-refused-at v k z =
+      rw (a .answer) (chain (read-says (read.readOf floppy s path o (length output)) v k z)
+      (unread.refused-exactly floppy s path o (length output) v k))
 
   -- the number is 0 or one of these
   pub read-number : r .number ∈ (0 ∷ read.readRefusals)
-  read-number = rw (a .answer) (go (read.readOf floppy s path o (length output)) (read-numbers.number-listed floppy s path o output _ output′ (a .call)))
+  read-number =
+      rw (a .answer) (go (read.readOf floppy s path o (length output))
+      (read-numbers.number-listed floppy s path o output _ output′ (a .call)))
     where
-      go : (x : Reading) → ((f : Refusal) → x ≡ reading.Refused f → read.numbersOf x .number ∈ read.readRefusals) → readNumbers x .number ∈ (0 ∷ read.readRefusals)
+      go : (x : Reading) → ((f : Refusal) → x ≡ reading.Refused f → read.numbersOf x .number ∈ read.readRefusals)
+          → readNumbers x .number ∈ (0 ∷ read.readRefusals)
       go (reading.Bytes n) h = inl refl
       go (reading.Refused f) h = inr (h f refl)
 
@@ -212,19 +245,22 @@ module _ (s path : List ℕ) (o : ℕ) (output : List ℕ) (r : ReadNumbers) (ou
   pub read-refused : r .number ≢ 0 → (output′ ≡ output) × (r .count ≡ 0)
   read-refused z = go (read.readOf floppy s path o (length output)) refl (a .call .left)
     where
-      go : (x : Reading) → read.readOf floppy s path o (length output) ≡ x → output′ ≡ read.outputAfter floppy s path o output x → (output′ ≡ output) × (r .count ≡ 0)
+      go : (x : Reading) → read.readOf floppy s path o (length output) ≡ x
+          → output′ ≡ read.outputAfter floppy s path o output x → (output′ ≡ output) × (r .count ≡ 0)
       go (reading.Bytes n) e c = absurd (z (read-answers .1 (n, e)))
       go (reading.Refused f) e c = let q = a .answer ∙ ap readNumbers e in (c, rw q refl)
 
 -- ---- a program file: its check, a load and a move
 
 -- 0 or one of these
-program-number : (ns : List ℕ) (x : Answer) → ((f : Refusal) → x ≡ Refused f → numbersOf x .number ∈ ns) → numbersOf x .number ∈ (0 ∷ ns)
+program-number : (ns : List ℕ) (x : Answer) → ((f : Refusal) → x ≡ Refused f → numbersOf x .number ∈ ns)
+    → numbersOf x .number ∈ (0 ∷ ns)
 program-number ns (Accepted t n) h = inl refl
 program-number ns (Refused f) h = inr (h f refl)
 
 -- a number other than 0, with its place, is a refusal's
-program-says : (x : Answer) (v k : ℕ) → v ≢ 0 → ((numbersOf x .number ≡ v) × (numbersOf x .place ≡ k)) ↔ (x ≡ Refused (refusal v k))
+program-says : (x : Answer) (v k : ℕ) → v ≢ 0
+    → ((numbersOf x .number ≡ v) × (numbersOf x .place ≡ k)) ↔ (x ≡ Refused (refusal v k))
 program-says x v k z = (there x, λ e. rw e (refl, refl))
   where
     there : (y : Answer) → (numbersOf y .number ≡ v) × (numbersOf y .place ≡ k) → y ≡ Refused (refusal v k)
@@ -232,7 +268,8 @@ program-says x v k z = (there x, λ e. rw e (refl, refl))
     there (Refused f) (a, b) = ap₂ (λ (v k : ℕ). Refused (refusal v k)) a b
 
 -- what is accepted has the numbers of its answer
-accepted-values : (x : Answer) (r : ProgramNumbers) → r ≡ programNumbers x → Accepts x → x ≡ Accepted (r .hunks) (r .bytes)
+accepted-values : (x : Answer) (r : ProgramNumbers) → r ≡ programNumbers x → Accepts x
+    → x ≡ Accepted (r .hunks) (r .bytes)
 accepted-values x r e (t, n, q) = let p = e ∙ ap programNumbers q in rw p q
 
 -- the file holds hunks, and these are their number and the bytes that they take
@@ -276,18 +313,22 @@ module _ (file : List ℕ) (r : ProgramNumbers) (a : r ≡ checkNumbers file) wh
       go (Refused f) e = rw (a ∙ ap programNumbers e) (refl, refl)
 
 -- what is refused has no values, and what it was lent stays
-refused-keeps : (x : Answer) (r : ProgramNumbers) (m n m′ : List ℕ) (t u t′ : List Hunk) → r ≡ programNumbers x → r .number ≢ 0 → m′ ≡ effect x n m → t′ ≡ kept x u t → (m′ ≡ m) × (t′ ≡ t) × (r .hunks ≡ 0) × (r .bytes ≡ 0)
+refused-keeps : (x : Answer) (r : ProgramNumbers) (m n m′ : List ℕ) (t u t′ : List Hunk) → r ≡ programNumbers x
+    → r .number ≢ 0 → m′ ≡ effect x n m → t′ ≡ kept x u t → (m′ ≡ m) × (t′ ≡ t) × (r .hunks ≡ 0) × (r .bytes ≡ 0)
 refused-keeps (Accepted y k) r m n m′ t u t′ e z p q = absurd (z (ap (λ (v : ProgramNumbers). v .number) e))
 refused-keeps (Refused f) r m n m′ t u t′ e z p q = (p, q, rw e refl, rw e refl)
 
-module _ (file m : List ℕ) (t : List Hunk) (w : List ℕ) (r : ProgramNumbers) (m′ : List ℕ) (t′ : List Hunk) (w′ : List ℕ) where
+module _ (file m : List ℕ) (t : List Hunk) (w : List ℕ) (r : ProgramNumbers) (m′ : List ℕ) (t′ : List Hunk)
+    (w′ : List ℕ) where
   module _ (bases : List ℕ) (a : LoadsNumbers file bases m t w r m′ t′ w′) where
     -- the number is 0 if and only if the answer is one that accepts
     pub load-accepts : (r .number ≡ 0) ↔ Accepts (loadsAs file m t w bases)
     load-accepts = rw (a .answer) (hunk-numbers.load-zero-exactly file m t w _ m′ t′ w′ bases (a .call))
 
     -- the number is 0 if and only if the file holds hunks and `Takes` holds of them, with their number and bytes
-    pub load-zero : (r .number ≡ 0) ↔ ((hs : List paper.Hunk) × paper.Holds file hs × Takes hs (bases ∷ []) (length m) (length t) (length w) (r .hunks) (r .bytes))
+    pub load-zero : (r .number ≡ 0)
+        ↔ ((hs : List paper.Hunk) × paper.Holds file hs × Takes hs (bases ∷ []) (length m) (length t) (length w)
+        (r .hunks) (r .bytes))
     load-zero =
         let v = verdicts.load-accepted file bases (length m) (length t) (length w) (r .hunks) (r .bytes) in
         (λ z. v .0 (accepted-values _ r (a .answer) (load-accepts .0 z)), λ h. load-accepts .1 (_, _, v .1 h))
@@ -300,17 +341,27 @@ module _ (file m : List ℕ) (t : List Hunk) (w : List ℕ) (r : ProgramNumbers)
         a .answer ∙ ap programNumbers (x .2 ∙ sym (l .0))
 
     -- another number v is given at place k if and only if `CallWhy` holds of them
-    pub load-refused-at : (v k : ℕ) → v ≢ 0 → ((r .number ≡ v) × (r .place ≡ k)) ↔ CallWhy file (bases ∷ []) (length m) (length t) (length w) (refusal v k)
+    pub load-refused-at : (v k : ℕ) → v ≢ 0
+        → ((r .number ≡ v) × (r .place ≡ k)) ↔ CallWhy file (bases ∷ []) (length m) (length t) (length w)
+        (refusal v k)
     load-refused-at v k z =
-        rw (a .answer) (chain (program-says (loadsAs file m t w bases) v k z) (verdicts.load-refused file bases (length m) (length t) (length w) (refusal v k)))
+        rw (a .answer) (chain (program-says (loadsAs file m t w bases) v k z)
+        (verdicts.load-refused file bases (length m) (length t) (length w) (refusal v k)))
 
     -- the number is 0 or one of these
     pub load-number : r .number ∈ (0 ∷ callRefusals)
-    load-number = rw (a .answer) (program-number callRefusals (loadsAs file m t w bases) (hunk-numbers.load-listed file m t w _ m′ t′ w′ bases (a .call)))
+    load-number =
+        rw (a .answer) (program-number callRefusals (loadsAs file m t w bases)
+        (hunk-numbers.load-listed file m t w _ m′ t′ w′ bases (a .call)))
 
     -- a refused load leaves memory and table, and its work area comes back cleared
-    pub load-refused : r .number ≢ 0 → (m′ ≡ m) × (t′ ≡ t) × (w′ ≡ replicate (length w) 0) × (r .hunks ≡ 0) × (r .bytes ≡ 0)
-    load-refused z = let k = refused-keeps (loadsAs file m t w bases) r m (loadOf file bases m) m′ t (hunksOf file bases t) t′ (a .answer) z (a .call .loaded) (a .call .recorded) in (k .0, k .1, a .call .clean, k .2, k .3)
+    pub load-refused : r .number ≢ 0
+        → (m′ ≡ m) × (t′ ≡ t) × (w′ ≡ replicate (length w) 0) × (r .hunks ≡ 0) × (r .bytes ≡ 0)
+    load-refused z =
+        let k =
+        refused-keeps (loadsAs file m t w bases) r m (loadOf file bases m) m′ t (hunksOf file bases t) t′
+        (a .answer) z (a .call .loaded) (a .call .recorded) in
+        (k .0, k .1, a .call .clean, k .2, k .3)
 
   module _ (old new : List ℕ) (a : MovesNumbers file old new m t w r m′ t′ w′) where
     -- the number is 0 if and only if the answer is one that accepts
@@ -318,7 +369,9 @@ module _ (file m : List ℕ) (t : List Hunk) (w : List ℕ) (r : ProgramNumbers)
     move-accepts = rw (a .answer) (hunk-numbers.move-zero-exactly file m t w _ m′ t′ w′ old new (a .call))
 
     -- the number is 0 if and only if the file holds hunks and `Takes` holds of them, with their number and bytes
-    pub move-zero : (r .number ≡ 0) ↔ ((hs : List paper.Hunk) × paper.Holds file hs × Takes hs (old ∷ new ∷ []) (length m) (length t) (length w) (r .hunks) (r .bytes))
+    pub move-zero : (r .number ≡ 0)
+        ↔ ((hs : List paper.Hunk) × paper.Holds file hs × Takes hs (old ∷ new ∷ []) (length m) (length t) (length w)
+        (r .hunks) (r .bytes))
     move-zero =
         let v = verdicts.move-accepted file old new (length m) (length t) (length w) (r .hunks) (r .bytes) in
         (λ z. v .0 (accepted-values _ r (a .answer) (move-accepts .0 z)), λ h. move-accepts .1 (_, _, v .1 h))
@@ -332,14 +385,24 @@ module _ (file m : List ℕ) (t : List Hunk) (w : List ℕ) (r : ProgramNumbers)
         a .answer ∙ ap programNumbers (x .2 ∙ sym (k .0))
 
     -- another number v is given at place k if and only if `CallWhy` holds of them
-    pub move-refused-at : (v k : ℕ) → v ≢ 0 → ((r .number ≡ v) × (r .place ≡ k)) ↔ CallWhy file (old ∷ new ∷ []) (length m) (length t) (length w) (refusal v k)
+    pub move-refused-at : (v k : ℕ) → v ≢ 0
+        → ((r .number ≡ v) × (r .place ≡ k)) ↔ CallWhy file (old ∷ new ∷ []) (length m) (length t) (length w)
+        (refusal v k)
     move-refused-at v k z =
-        rw (a .answer) (chain (program-says (movesAs file m t w old new) v k z) (verdicts.move-refused file old new (length m) (length t) (length w) (refusal v k)))
+        rw (a .answer) (chain (program-says (movesAs file m t w old new) v k z)
+        (verdicts.move-refused file old new (length m) (length t) (length w) (refusal v k)))
 
     -- the number is 0 or one of these
     pub move-number : r .number ∈ (0 ∷ callRefusals)
-    move-number = rw (a .answer) (program-number callRefusals (movesAs file m t w old new) (hunk-numbers.move-listed file m t w _ m′ t′ w′ old new (a .call)))
+    move-number =
+        rw (a .answer) (program-number callRefusals (movesAs file m t w old new)
+        (hunk-numbers.move-listed file m t w _ m′ t′ w′ old new (a .call)))
 
     -- a refused move leaves memory and table, and its work area comes back cleared
-    pub move-refused : r .number ≢ 0 → (m′ ≡ m) × (t′ ≡ t) × (w′ ≡ replicate (length w) 0) × (r .hunks ≡ 0) × (r .bytes ≡ 0)
-    move-refused z = let k = refused-keeps (movesAs file m t w old new) r m (moveOf file old new m) m′ t (hunksOf file new t) t′ (a .answer) z (a .call .shifted) (a .call .recorded) in (k .0, k .1, a .call .clean, k .2, k .3)
+    pub move-refused : r .number ≢ 0
+        → (m′ ≡ m) × (t′ ≡ t) × (w′ ≡ replicate (length w) 0) × (r .hunks ≡ 0) × (r .bytes ≡ 0)
+    move-refused z =
+        let k =
+        refused-keeps (movesAs file m t w old new) r m (moveOf file old new m) m′ t (hunksOf file new t) t′
+        (a .answer) z (a .call .shifted) (a .call .recorded) in
+        (k .0, k .1, a .call .clean, k .2, k .3)

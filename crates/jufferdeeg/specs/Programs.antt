@@ -12,7 +12,8 @@ use Rattle.jufferdeeg.specs.declared.programs.ProgramNumbers.{ProgramNum
 
 abbrev pub programNumbers : Answer → ProgramNumbers
 programNumbers a =
-    let n = numbersOf a in record { number = n .number; place = n .place; hunks = n .values .hunks; bytes = n .values .bytes }
+    let n = numbersOf a in
+    record { number = n .number; place = n .place; hunks = n .values .hunks; bytes = n .values .bytes }
 
 -- ---- the promises: those of the call that it makes, and its answer's numbers
 
@@ -26,10 +27,12 @@ module _ (file memory : List ℕ) (table : List Hunk) (work : List ℕ) where
   abbrev pub movesAs : List ℕ → List ℕ → Answer
   movesAs old new = moveAnswer file old new (length memory) (length table) (length work)
 
-pub record LoadsNumbers (file bases memory : List ℕ) (table : List Hunk) (work : List ℕ) (r : ProgramNumbers) (memory′ : List ℕ) (table′ : List Hunk) (work′ : List ℕ) : Type 0 where
+pub record LoadsNumbers (file bases memory : List ℕ) (table : List Hunk) (work : List ℕ) (r : ProgramNumbers)
+    (memory′ : List ℕ) (table′ : List Hunk) (work′ : List ℕ) : Type 0 where
   pub answer : r ≡ programNumbers (loadsAs file memory table work bases)
   pub call : Loads file bases memory table work (loadsAs file memory table work bases) memory′ table′ work′
 
-pub record MovesNumbers (file old new memory : List ℕ) (table : List Hunk) (work : List ℕ) (r : ProgramNumbers) (memory′ : List ℕ) (table′ : List Hunk) (work′ : List ℕ) : Type 0 where
+pub record MovesNumbers (file old new memory : List ℕ) (table : List Hunk) (work : List ℕ) (r : ProgramNumbers)
+    (memory′ : List ℕ) (table′ : List Hunk) (work′ : List ℕ) : Type 0 where
   pub answer : r ≡ programNumbers (movesAs file memory table work old new)
   pub call : Moves file old new memory table work (movesAs file memory table work old new) memory′ table′ work′

@@ -1,4 +1,5 @@
--- The answers of audit, find and read as C meets them. Each struct holds the numbers of the answer, by the call's own `numbersOf`.
+-- The answers of audit, find and read as C meets them. Each struct holds the numbers of the answer, by the call's own
+-- `numbersOf`.
 use Prim.Native.Nat.{ℕ}
 use mathlib.Core.Path.{_≡_}
 use mathlib.Core.List.{List}
@@ -17,12 +18,28 @@ use Rattle.jufferdeeg.specs.declared.volumes.ReadNumbers.{ReadNumbers}
 abbrev pub auditNumbers : Audited → AuditNumbers
 auditNumbers a =
     let n = audit.numbersOf a in
-    record { number = n .number; place = n .place; directories = n .values .directories; files = n .values .files; «list_blocks» = n .values .lists; «data_blocks» = n .values .blocks; used = n .values .used; free = n .values .free }
+    record {
+      number = n .number;
+      place = n .place;
+      directories = n .values .directories;
+      files = n .values .files;
+      «list_blocks» = n .values .lists;
+      «data_blocks» = n .values .blocks;
+      used = n .values .used;
+      free = n .values .free;
+    }
 
 abbrev pub findNumbers : Found → FindNumbers
 findNumbers a =
     let n = lookup.numbersOf a in
-    record { number = n .number; place = n .place; kind = n .values .kind; key = n .values .key; size = n .values .size; compared = n .values .compared }
+    record {
+      number = n .number;
+      place = n .place;
+      kind = n .values .kind;
+      key = n .values .key;
+      size = n .values .size;
+      compared = n .values .compared;
+    }
 
 abbrev pub readNumbers : Reading → ReadNumbers
 readNumbers a =

@@ -49,7 +49,8 @@ pub extern "C" fn jufferdeeg_load(
     table: &mut [Hunk],
     work: &mut [u8],
 ) -> ProgramNumbers
-    ensures { λ r. ⌜ LoadsNumbers (now (file .entry)) (now (bases .entry)) (now (memory .entry)) (now (table .entry)) (now (work .entry)) r (now (memory .exit)) (now (table .exit)) (now (work .exit)) ⌝ }
+    ensures { λ r. ⌜ LoadsNumbers (now (file .entry)) (now (bases .entry)) (now (memory .entry)) (now (table .entry))
+        (now (work .entry)) r (now (memory .exit)) (now (table .exit)) (now (work .exit)) ⌝ }
 {
     program_numbers(hunks::load(file, bases, memory, table, work))
 }
@@ -64,7 +65,8 @@ pub extern "C" fn jufferdeeg_move(
     table: &mut [Hunk],
     work: &mut [u8],
 ) -> ProgramNumbers
-    ensures { λ r. ⌜ MovesNumbers (now (file .entry)) (now (old .entry)) (now (new .entry)) (now (memory .entry)) (now (table .entry)) (now (work .entry)) r (now (memory .exit)) (now (table .exit)) (now (work .exit)) ⌝ }
+    ensures { λ r. ⌜ MovesNumbers (now (file .entry)) (now (old .entry)) (now (new .entry)) (now (memory .entry))
+        (now (table .entry)) (now (work .entry)) r (now (memory .exit)) (now (table .exit)) (now (work .exit)) ⌝ }
 {
     program_numbers(hunks::move_program(file, old, new, memory, table, work))
 }

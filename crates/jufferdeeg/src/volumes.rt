@@ -5,7 +5,8 @@ use reading::read::Reading;
 use volume::block::Block;
 ghost use mathlib.Core.Path.{_≡_};
 ghost use lib.ListN.{length};
-ghost use Rattle.jufferdeeg.specs.Volumes.{auditNumbers, findNumbers, readNumbers, findOnFloppy, AuditsFloppy, ReadsFloppy};
+ghost use Rattle.jufferdeeg.specs.Volumes.{auditNumbers, findNumbers, readNumbers, findOnFloppy, AuditsFloppy};
+ghost use Rattle.jufferdeeg.specs.Volumes.{ReadsFloppy};
 
 // An audit's answer: refused where the number is not 0.
 #[repr(C)]
@@ -138,7 +139,8 @@ pub extern "C" fn jufferdeeg_read(
     offset: usize,
     output: &mut [u8],
 ) -> ReadNumbers
-    ensures { λ r. ⌜ ReadsFloppy (now (image .entry)) (now (path .entry)) offset (now (output .entry)) r (now (output .exit)) ⌝ }
+    ensures { λ r. ⌜ ReadsFloppy (now (image .entry)) (now (path .entry)) offset (now (output .entry)) r
+        (now (output .exit)) ⌝ }
 {
     read_numbers(reading::read::read(image, path, offset, output))
 }

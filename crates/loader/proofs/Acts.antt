@@ -79,12 +79,14 @@ opened size i = refl
 
 module _ (file : List ℕ) (c : Cursor) (at w : ℕ) (d : Cursor) (s : CursorFits file c) where
   inside : c .hunk < totalOf file → c .place + 4 * sizeOf file (c .hunk) ≤ loadedOf file
-  inside h = omega (arith, s .place, place-up (sizeOf file) (suc (c .hunk)) (totalOf file) h, opened (sizeOf file) (c .hunk))
+  inside h =
+      omega (arith, s .place, place-up (sizeOf file) (suc (c .hunk)) (totalOf file) h, opened (sizeOf file) (c .hunk))
 
   low : c .place < 4294967296
   low = omega (arith, s .low, s .hunks, s .header .few)
 
-  fits-in : (m : Mode) → ModeFits (totalOf file) (c .hunk) (c .stored) m → turn (totalOf file) (sizeOf file) c w m ≡ On d → ActFits (loadedOf file) (totalOf file) (asks c at w m)
+  fits-in : (m : Mode) → ModeFits (totalOf file) (c .hunk) (c .stored) m
+      → turn (totalOf file) (sizeOf file) c w m ≡ On d → ActFits (loadedOf file) (totalOf file) (asks c at w m)
   unfolding pick
   fits-in mode.Begin h e = go (eqb w type.name)
     where
@@ -114,16 +116,24 @@ more-room m n t u (Body x p z) h k f = (omega (arith, f .0), f .1)
 more-room m n t u (Store p w) h k f = omega arith
 more-room m n t u (Add p z b) h k f = (omega (arith, f .0), omega (arith, f .1))
 
-fits : (file : List ℕ) (c : Cursor) (at w : ℕ) (r : Next) (d : Cursor) (a : Act) (n t : ℕ) → CursorFits file c → r ≡ stepOf (totalOf file) (sizeOf file) c w → r ≡ On d → a ≡ actOf c at w → loadedOf file ≤ n → totalOf file ≤ t → ActFits n t a
-fits file c at w r d a n t s q e x h k = more-room (loadedOf file) n (totalOf file) t a h k (rw x (act-fits file c at w d s (sym q ∙ e)))
+fits : (file : List ℕ) (c : Cursor) (at w : ℕ) (r : Next) (d : Cursor) (a : Act) (n t : ℕ) → CursorFits file c
+    → r ≡ stepOf (totalOf file) (sizeOf file) c w → r ≡ On d → a ≡ actOf c at w → loadedOf file ≤ n → totalOf file ≤ t
+    → ActFits n t a
+fits file c at w r d a n t s q e x h k =
+    more-room (loadedOf file) n (totalOf file) t a h k (rw x (act-fits file c at w d s (sym q ∙ e)))
 
 -- the same in the loop of a pass, as its code asks it
-module _ (file : List ℕ) (c : Cursor) (at w : ℕ) (r : Next) (d : Cursor) (a : Act) (i : Reads file c at) (q : r ≡ stepOf (totalOf file) (sizeOf file) c w) (e : r ≡ On d) (x : a ≡ actOf c at w) where
+module _ (file : List ℕ) (c : Cursor) (at w : ℕ) (r : Next) (d : Cursor) (a : Act) (i : Reads file c at)
+    (q : r ≡ stepOf (totalOf file) (sizeOf file) c w) (e : r ≡ On d) (x : a ≡ actOf c at w) where
   pub reads-fits : (n t : ℕ) → loadedOf file ≤ n → totalOf file ≤ t → ActFits n t a
   reads-fits n t = fits file c at w r d a n t (i .fits) q e x
 
-pub act-room : (g : List ℕ → Act → List ℕ) (file m₀ m : List ℕ) (c : Cursor) (at w : ℕ) (r : Next) (d : Cursor) (a : Act) (t : ℕ) → Passing g file m₀ m c at → r ≡ stepOf (totalOf file) (sizeOf file) c w → r ≡ On d → a ≡ actOf c at w → loadedOf file ≤ length m₀ → totalOf file ≤ t → ActFits (length m) t a
-act-room g file m₀ m c at w r d a t i q e x h k = reads-fits file c at w r d a (i .reads) q e x (length m) t (omega (arith, i .long)) k
+pub act-room : (g : List ℕ → Act → List ℕ) (file m₀ m : List ℕ) (c : Cursor) (at w : ℕ) (r : Next) (d : Cursor)
+    (a : Act) (t : ℕ)
+    → Passing g file m₀ m c at → r ≡ stepOf (totalOf file) (sizeOf file) c w → r ≡ On d → a ≡ actOf c at w
+    → loadedOf file ≤ length m₀ → totalOf file ≤ t → ActFits (length m) t a
+act-room g file m₀ m c at w r d a t i q e x h k =
+    reads-fits file c at w r d a (i .reads) q e x (length m) t (omega (arith, i .long)) k
 
 place-low : (file : List ℕ) → HeaderFits file → (i : ℕ) → i ≤ totalOf file → placeOf (sizeOf file) i ≤ i * 262144
 unfolding placeOf
@@ -133,8 +143,11 @@ place-low file s (suc i) h = omega (arith, place-low file s i (omega arith), s .
 loaded-low : (file : List ℕ) → HeaderFits file → loadedOf file ≤ 4294967296
 loaded-low file s = omega (arith, place-low file s (totalOf file) (omega arith), s .few)
 
-pub record-fits : (file : List ℕ) (c : Cursor) (at w : ℕ) (r : Next) (d : Cursor) (a : Act) → Reads file c at → r ≡ stepOf (totalOf file) (sizeOf file) c w → r ≡ On d → a ≡ actOf c at w → HeaderFits file → ActFits 4294967296 (totalOf file) a
-record-fits file c at w r d a i q e x s = reads-fits file c at w r d a i q e x 4294967296 (totalOf file) (loaded-low file s) (omega arith)
+pub record-fits : (file : List ℕ) (c : Cursor) (at w : ℕ) (r : Next) (d : Cursor) (a : Act) → Reads file c at
+    → r ≡ stepOf (totalOf file) (sizeOf file) c w → r ≡ On d → a ≡ actOf c at w → HeaderFits file
+    → ActFits 4294967296 (totalOf file) a
+record-fits file c at w r d a i q e x s =
+    reads-fits file c at w r d a i q e x 4294967296 (totalOf file) (loaded-low file s) (omega arith)
 
 pub cursor-low : (file : List ℕ) (c : Cursor) → CursorFits file c → c .place ≤ 4294967296
 cursor-low file c s = omega (arith, s .low, s .hunks, s .header .few)
@@ -172,7 +185,8 @@ module _ (n t : ℕ) (a : Act) (p k b : ℕ) (f : ActFits n t a) (e : a ≡ Add 
   pub add-named : k < t
   add-named = add-fits .1
 
-pub add-done : (m r : List ℕ) (f : ℕ → ℕ) (a : Act) (p k b : ℕ) → a ≡ Add p k b → r ≡ addAt m p (f k) → r ≡ shiftOne m f a
+pub add-done : (m r : List ℕ) (f : ℕ → ℕ) (a : Act) (p k b : ℕ) → a ≡ Add p k b → r ≡ addAt m p (f k)
+    → r ≡ shiftOne m f a
 add-done m r f a p k b e h = h ∙ sym (ap (shiftOne m f) e)
 
 pub add-rest : (m : List ℕ) (f : ℕ → ℕ) (a : Act) → OneOf notAdd (tagOf the-type a) → m ≡ shiftOne m f a
@@ -189,7 +203,8 @@ length-shiftOne f m (Store p w) = refl
 length-shiftOne f m (Add p k b) = length-addAt m p (f k)
 
 -- a pass that adds is relocation over the targets
-shift-target : (m : List ℕ) (f : ℕ → ℕ) (a : Act) (ts : List Target) → shiftAll (shiftOne m f a) ts f ≡ shiftAll m (targetOne a ts) f
+shift-target : (m : List ℕ) (f : ℕ → ℕ) (a : Act) (ts : List Target)
+    → shiftAll (shiftOne m f a) ts f ≡ shiftAll m (targetOne a ts) f
 unfolding shiftAll
 shift-target m f Quiet ts = refl
 shift-target m f (Body x p k) ts = refl
@@ -201,7 +216,8 @@ unfolding pass targets shiftAll
 pass-shift f m [] = refl
 pass-shift f m (a ∷ us) = pass-shift f (shiftOne m f a) us ∙ shift-target m f a (targets us)
 
-pub shift-pass : (f : ℕ → ℕ) (m n : List ℕ) (us : List Act) → n ≡ pass (λ x a. shiftOne x f a) m us → n ≡ shiftAll m (targets us) f
+pub shift-pass : (f : ℕ → ℕ) (m n : List ℕ) (us : List Act) → n ≡ pass (λ x a. shiftOne x f a) m us
+    → n ≡ shiftAll m (targets us) f
 shift-pass f m n us e = e ∙ pass-shift f m us
 
 -- ---- recording
@@ -235,7 +251,9 @@ module _ (file : List ℕ) (n : ℕ) (a : Act) (h p k : ℕ) (f : ActFits n (tot
         pub address-there : (k x : ℕ) → 4 * h + 3 < length (set (set (set table i v) j w) k x)
         address-there k x = simp length-set (omega (arith, body-fits .0))
 
-pub record-done : (file bases t r : List ℕ) (a : Act) (h p k s : ℕ) → a ≡ Body h p k → s ≡ sizeOf file h → r ≡ set (set (set (set t (4 * h) k) (4 * h + 1) p) (4 * h + 2) s) (4 * h + 3) (amountOf bases h) → r ≡ recordOne file bases t a
+pub record-done : (file bases t r : List ℕ) (a : Act) (h p k s : ℕ) → a ≡ Body h p k → s ≡ sizeOf file h
+    → r ≡ set (set (set (set t (4 * h) k) (4 * h + 1) p) (4 * h + 2) s) (4 * h + 3) (amountOf bases h)
+    → r ≡ recordOne file bases t a
 record-done file bases t r a h p k s e q x = x ∙ rw (e, q)
 
 pub record-rest : (file bases t : List ℕ) (a : Act) → OneOf notBody (tagOf the-type a) → t ≡ recordOne file bases t a

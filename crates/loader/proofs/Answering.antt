@@ -47,7 +47,9 @@ record OfAllHunks (file : List ℕ) (t n : ℕ) : Type 0 where
   bytes : n ≡ loadedOf file
 
 module _ (file : List ℕ) (t n : ℕ) where
-  ended-all : (c : Cursor) (m : Mode) → c .place ≡ placeOf (sizeOf file) (c .hunk) → ModeFits (totalOf file) (c .hunk) (c .stored) m → endedOf (length file) c m ≡ Accepted t n → OfAllHunks file t n
+  ended-all : (c : Cursor) (m : Mode) → c .place ≡ placeOf (sizeOf file) (c .hunk)
+      → ModeFits (totalOf file) (c .hunk) (c .stored) m → endedOf (length file) c m ≡ Accepted t n
+      → OfAllHunks file t n
   ended-all c mode.End p h e =
       let q = same-numbers (c .hunk) (c .place) t n e in
       record { hunks = sym (q .0) ∙ h; bytes = sym (q .1) ∙ p ∙ ap (placeOf (sizeOf file)) h }
@@ -64,12 +66,19 @@ module _ (file : List ℕ) (t n : ℕ) where
   ended-all c mode.DebugLength p h e = not-accepted e
   ended-all c (mode.Skip x a) p h e = not-accepted e
 
-  walk-all : (at : ℕ) (c : Cursor) (ws : List ℕ) → CursorFits file c → walk (totalOf file) (sizeOf file) (length file) at c ws ≡ Accepted t n → OfAllHunks file t n
+  walk-all : (at : ℕ) (c : Cursor) (ws : List ℕ) → CursorFits file c
+      → walk (totalOf file) (sizeOf file) (length file) at c ws ≡ Accepted t n → OfAllHunks file t n
   unfolding walk
   walk-all at c [] s e = ended-all c (c .mode) (s .place) (s .mode) e
-  walk-all at c (w ∷ ws) s e = go (stepOf (totalOf file) (sizeOf file) c w) refl e (λ d x y. walk-all (at + 4) d ws (step-fits file c w d s x) y)
+  walk-all at c (w ∷ ws) s e =
+      go (stepOf (totalOf file) (sizeOf file) c w) refl e
+      (λ d x y. walk-all (at + 4) d ws (step-fits file c w d s x) y)
     where
-      go : (r : Next) → stepOf (totalOf file) (sizeOf file) c w ≡ r → next r at (λ d. walk (totalOf file) (sizeOf file) (length file) (at + 4) d ws) ≡ Accepted t n → ((d : Cursor) → stepOf (totalOf file) (sizeOf file) c w ≡ On d → walk (totalOf file) (sizeOf file) (length file) (at + 4) d ws ≡ Accepted t n → OfAllHunks file t n) → OfAllHunks file t n
+      go : (r : Next) → stepOf (totalOf file) (sizeOf file) c w ≡ r
+          → next r at (λ d. walk (totalOf file) (sizeOf file) (length file) (at + 4) d ws) ≡ Accepted t n
+          → ((d : Cursor) → stepOf (totalOf file) (sizeOf file) c w ≡ On d
+          → walk (totalOf file) (sizeOf file) (length file) (at + 4) d ws ≡ Accepted t n → OfAllHunks file t n)
+          → OfAllHunks file t n
       go (On d) x y f = f d x y
       go (Bad v) x y f = not-accepted y
 
@@ -78,7 +87,8 @@ module _ (file : List ℕ) (t n : ℕ) where
   pick-not true r a h = not-accepted h
   pick-not false r a h = h
 
-  pick-so : (b : Bool) (r : Refusal) (a : Answer) → pick b a (Refused r) ≡ Accepted t n → (b ≡ true) × (a ≡ Accepted t n)
+  pick-so : (b : Bool) (r : Refusal) (a : Answer) → pick b a (Refused r) ≡ Accepted t n
+      → (b ≡ true) × (a ≡ Accepted t n)
   unfolding pick
   pick-so true r a h = (refl, h)
   pick-so false r a h = not-accepted h
@@ -90,7 +100,9 @@ module _ (file : List ℕ) (t n : ℕ) where
   pub checked : checkOf file ≡ Accepted t n → AcceptedFile file t n
   unfolding checkOf
   checked h =
-      let a = pick-so (eqb (length file % 4) 0) (refusal fault.fileLength 0) _ (pick-not (eqb (length file) 0) (refusal fault.fileLength 0) _ h) in
+      let a =
+      pick-so (eqb (length file % 4) 0) (refusal fault.fileLength 0) _
+      (pick-not (eqb (length file) 0) (refusal fault.fileLength 0) _ h) in
       let b = and-so (heads file 0 5) _ (a .1) in
       let c = and-so (heads file 5 (totalOf file)) _ (b .1) in
       let s = header-fits file (b .0) (c .0) in
@@ -105,10 +117,12 @@ also-so (Accepted a b) (Failed r) t n e = not-accepted e
 also-so (Refused r) h t n e = not-accepted e
 
 -- what a check and further tests accept is a file as an accepted one is
-pub also-checked : (file : List ℕ) (v a : Answer) (h : Tested) → v ≡ checkOf file → a ≡ also v h → (t n : ℕ) → a ≡ Accepted t n → AcceptedFile file t n
+pub also-checked : (file : List ℕ) (v a : Answer) (h : Tested) → v ≡ checkOf file → a ≡ also v h → (t n : ℕ)
+    → a ≡ Accepted t n → AcceptedFile file t n
 also-checked file v a h ev ea t n e = checked file t n (sym ev ∙ also-so v h t n (sym ea ∙ e) .0)
 
-pub also-twice : (file : List ℕ) (v a b : Answer) (h k : Tested) → v ≡ checkOf file → a ≡ also v h → b ≡ also a k → (t n : ℕ) → b ≡ Accepted t n → AcceptedFile file t n
+pub also-twice : (file : List ℕ) (v a b : Answer) (h k : Tested) → v ≡ checkOf file → a ≡ also v h → b ≡ also a k
+    → (t n : ℕ) → b ≡ Accepted t n → AcceptedFile file t n
 also-twice file v a b h k ev ea eb t n e = also-checked file v a h ev ea t n (also-so a k t n (sym eb ∙ e) .0)
 
 pub checked-header : (file : List ℕ) (v : Answer) (t n : ℕ) → v ≡ checkOf file → v ≡ Accepted t n → HeaderFits file
@@ -117,13 +131,15 @@ checked-header file v t n ev e = checked file t n (sym ev ∙ e) .header
 pub checked-long : (file : List ℕ) (v : Answer) (t n : ℕ) → v ≡ checkOf file → v ≡ Accepted t n → 12 ≤ length file
 checked-long file v t n ev e = omega (arith, checked-header file v t n ev e .long)
 
-pub checked-few : (file : List ℕ) (v : Answer) (t n h : ℕ) → v ≡ checkOf file → v ≡ Accepted t n → h ≡ totalOf file → h ≤ 64
+pub checked-few : (file : List ℕ) (v : Answer) (t n h : ℕ) → v ≡ checkOf file → v ≡ Accepted t n → h ≡ totalOf file
+    → h ≤ 64
 checked-few file v t n h ev e eh = omega (arith, checked-header file v t n ev e .few)
 
 pub also-both : (a : Answer) (h : Tested) (t n : ℕ) → a ≡ Accepted t n → h ≡ Passed → also a h ≡ Accepted t n
 also-both a h t n e f = rw (e, f)
 
-pub also-failed : (a : Answer) (h : Tested) (t n : ℕ) (r : Refusal) → a ≡ Accepted t n → h ≡ Failed r → Refused r ≡ also a h
+pub also-failed : (a : Answer) (h : Tested) (t n : ℕ) (r : Refusal) → a ≡ Accepted t n → h ≡ Failed r
+    → Refused r ≡ also a h
 also-failed a h t n r x y = rw (x, y)
 
 pub room-passed : (t n m tb w : ℕ) → roomFault t n m tb w ≡ Passed → (n ≤ m) × (t ≤ tb) × (n ≤ w)
@@ -137,13 +153,16 @@ pub bases-passed : (file bases : List ℕ) (from : ℕ) → basesFault file base
 unfolding basesFault pick
 bases-passed file bases from h = go (eqb (length bases) (totalOf file)) refl h
   where
-    go : (b : Bool) → eqb (length bases) (totalOf file) ≡ b → pick b (basesFrom file bases from 0 (totalOf file)) (Failed (refusal fault.badBase from)) ≡ Passed → length bases ≡ totalOf file
+    go : (b : Bool) → eqb (length bases) (totalOf file) ≡ b
+        → pick b (basesFrom file bases from 0 (totalOf file)) (Failed (refusal fault.badBase from)) ≡ Passed
+        → length bases ≡ totalOf file
     go true e q = eqb-true _ _ e
     go false e q = impossible cc
 
 -- ---- room and near targets, in code
 
-module _ (file : List ℕ) (a : Answer) (t n : ℕ) (g : (i j : ℕ) → a ≡ Accepted i j → AcceptedFile file i j) (ea : a ≡ Accepted t n) where
+module _ (file : List ℕ) (a : Answer) (t n : ℕ) (g : (i j : ℕ) → a ≡ Accepted i j → AcceptedFile file i j)
+    (ea : a ≡ Accepted t n) where
   pub last-header : HeaderFits file
   last-header = g t n ea .header
 
@@ -152,10 +171,14 @@ module _ (file : List ℕ) (a : Answer) (t n : ℕ) (g : (i j : ℕ) → a ≡ A
 
   module _ (m tb w : ℕ) (h : Tested) (eh : h ≡ roomFault t n m tb w) where
     room-same : h ≡ roomFault (totalOf file) (loadedOf file) m tb w
-    room-same = eh ∙ ap (λ x. roomFault x n m tb w) (g t n ea .hunks) ∙ ap (λ x. roomFault (totalOf file) x m tb w) (g t n ea .bytes)
+    room-same =
+        eh ∙ ap (λ x. roomFault x n m tb w) (g t n ea .hunks) ∙ ap (λ x. roomFault (totalOf file) x m tb w)
+        (g t n ea .bytes)
 
     both : (k : Tested) → h ≡ k → lastTests file a m tb w ≡ also (also (Accepted t n) k) (clashOf file)
-    both k x = ap (λ z. also z (clashOf file)) (ap (λ u. also u (roomFault (totalOf file) (loadedOf file) m tb w)) ea ∙ ap (also (Accepted t n)) (sym room-same ∙ x))
+    both k x =
+        ap (λ z. also z (clashOf file)) (ap (λ u. also u (roomFault (totalOf file) (loadedOf file) m tb w)) ea
+        ∙ ap (also (Accepted t n)) (sym room-same ∙ x))
 
     pub last-room : (f : Refusal) (r : Answer) → h ≡ Failed f → r ≡ also (Accepted t n) h → r ≡ lastTests file a m tb w
     last-room f r x y = y ∙ ap (also (Accepted t n)) x ∙ sym (both (Failed f) x)
@@ -163,7 +186,8 @@ module _ (file : List ℕ) (a : Answer) (t n : ℕ) (g : (i j : ℕ) → a ≡ A
     pub last-fits : h ≡ Passed → loadedOf file ≤ w
     last-fits x = omega (arith, room-passed t n m tb w (sym eh ∙ x) .2, g t n ea .bytes)
 
-    pub last-clash : (k : Tested) (r : Answer) → h ≡ Passed → k ≡ clashOf file → r ≡ also (Accepted t n) k → r ≡ lastTests file a m tb w
+    pub last-clash : (k : Tested) (r : Answer) → h ≡ Passed → k ≡ clashOf file → r ≡ also (Accepted t n) k
+        → r ≡ lastTests file a m tb w
     last-clash k r x y z = z ∙ ap (also (Accepted t n)) y ∙ sym (both Passed x)
 
 -- ---- the answers, in code
@@ -173,7 +197,8 @@ module _ (file bases : List ℕ) (m tb w : ℕ) (v : Answer) (ev : v ≡ checkOf
   unfolding loadAnswer
   load-refused f h = rw (← ev, h)
 
-  pub load-last : (h : Tested) (a r : Answer) → h ≡ basesFault file bases 0 → a ≡ also v h → r ≡ lastTests file a m tb w → r ≡ loadAnswer file bases m tb w
+  pub load-last : (h : Tested) (a r : Answer) → h ≡ basesFault file bases 0 → a ≡ also v h
+      → r ≡ lastTests file a m tb w → r ≡ loadAnswer file bases m tb w
   unfolding loadAnswer
   load-last h a r eh ea er = er ∙ rw (← ev, ← eh, ← ea)
 
@@ -182,7 +207,9 @@ module _ (file old new : List ℕ) (m tb w : ℕ) (v : Answer) (ev : v ≡ check
   unfolding moveAnswer
   move-refused f h = rw (← ev, h)
 
-  pub move-last : (t : ℕ) (h k : Tested) (a b r : Answer) → t ≡ totalOf file → h ≡ basesFault file old 0 → a ≡ also v h → k ≡ basesFault file new t → b ≡ also a k → r ≡ lastTests file b m tb w → r ≡ moveAnswer file old new m tb w
+  pub move-last : (t : ℕ) (h k : Tested) (a b r : Answer) → t ≡ totalOf file → h ≡ basesFault file old 0
+      → a ≡ also v h → k ≡ basesFault file new t → b ≡ also a k → r ≡ lastTests file b m tb w
+      → r ≡ moveAnswer file old new m tb w
   unfolding moveAnswer
   move-last t h k a b r et eh ea ek eb er = er ∙ rw (← ev, ← eh, ← ea, ap (basesFault file new) (sym et) ∙ sym ek, ← eb)
 
@@ -197,24 +224,37 @@ pub record LoadFacts (file bases : List ℕ) (m tb w t n : ℕ) : Type 0 where
   pub works : loadedOf file ≤ w
   pub apart : clashOf file ≡ Passed
 
-load-with : (file bases : List ℕ) (m tb w t n : ℕ) (a : Answer) → (a ≡ Accepted t n → (checkOf file ≡ Accepted t n) × (basesFault file bases 0 ≡ Passed)) → lastTests file a m tb w ≡ Accepted t n → LoadFacts file bases m tb w t n
+load-with : (file bases : List ℕ) (m tb w t n : ℕ) (a : Answer)
+    → (a ≡ Accepted t n → (checkOf file ≡ Accepted t n) × (basesFault file bases 0 ≡ Passed))
+    → lastTests file a m tb w ≡ Accepted t n → LoadFacts file bases m tb w t n
 load-with file bases m tb w t n v f h =
     let a = also-so _ (clashOf file) t n h in
     let b = also-so _ (roomFault (totalOf file) (loadedOf file) m tb w) t n (a .0) in
     let c = f (b .0) in
     let r = room-passed _ _ m tb w (b .1) in
-    record { file-accepted = checked file t n (c .0); bases-good = c .1; count = bases-passed file bases 0 (c .1); fits = r .0; records = r .1; works = r .2; apart = a .1 }
+    record {
+      file-accepted = checked file t n (c .0);
+      bases-good = c .1;
+      count = bases-passed file bases 0 (c .1);
+      fits = r .0;
+      records = r .1;
+      works = r .2;
+      apart = a .1;
+    }
 
-pub load-facts : (file bases : List ℕ) (m tb w t n : ℕ) (r : Answer) → r ≡ loadAnswer file bases m tb w → r ≡ Accepted t n → LoadFacts file bases m tb w t n
+pub load-facts : (file bases : List ℕ) (m tb w t n : ℕ) (r : Answer) → r ≡ loadAnswer file bases m tb w
+    → r ≡ Accepted t n → LoadFacts file bases m tb w t n
 unfolding loadAnswer
 load-facts file bases m tb w t n r er h =
-    load-with file bases m tb w t n (also (checkOf file) (basesFault file bases 0)) (also-so (checkOf file) (basesFault file bases 0) t n) (sym er ∙ h)
+    load-with file bases m tb w t n (also (checkOf file) (basesFault file bases 0))
+    (also-so (checkOf file) (basesFault file bases 0) t n) (sym er ∙ h)
 
 pub record MoveFacts (file old new : List ℕ) (m tb w t n : ℕ) : Type 0 where
   pub load : LoadFacts file old m tb w t n
   pub count : length new ≡ totalOf file
 
-pub move-facts : (file old new : List ℕ) (m tb w t n : ℕ) (r : Answer) → r ≡ moveAnswer file old new m tb w → r ≡ Accepted t n → MoveFacts file old new m tb w t n
+pub move-facts : (file old new : List ℕ) (m tb w t n : ℕ) (r : Answer) → r ≡ moveAnswer file old new m tb w
+    → r ≡ Accepted t n → MoveFacts file old new m tb w t n
 unfolding moveAnswer
 move-facts file old new m tb w t n r er h =
     let x = also (also (checkOf file) (basesFault file old 0)) (basesFault file new (totalOf file)) in
@@ -222,7 +262,9 @@ move-facts file old new m tb w t n r er h =
     let b = also-so x (roomFault (totalOf file) (loadedOf file) m tb w) t n (a .0) in
     let c = also-so (also (checkOf file) (basesFault file old 0)) (basesFault file new (totalOf file)) t n (b .0) in
     record {
-      load = load-with file old m tb w t n x (λ _. also-so (checkOf file) (basesFault file old 0) t n (c .0)) (sym er ∙ h);
+      load =
+          load-with file old m tb w t n x (λ _. also-so (checkOf file) (basesFault file old 0) t n (c .0))
+          (sym er ∙ h);
       count = bases-passed file new (totalOf file) (c .1);
     }
 
@@ -248,5 +290,6 @@ module _ (o : Outcome) (room t n : ℕ) (p : Fills o room) (e : o .answer ≡ Ac
   pub fill-to : 4 * t ≤ room
   fill-to = fills .1
 
-pub fill-done : (o : Outcome) (table r : List ℕ) (t n : ℕ) → o .answer ≡ Accepted t n → r ≡ take (4 * t) (o .records) ++ drop (4 * t) table → r ≡ filled o table
+pub fill-done : (o : Outcome) (table r : List ℕ) (t n : ℕ) → o .answer ≡ Accepted t n
+    → r ≡ take (4 * t) (o .records) ++ drop (4 * t) table → r ≡ filled o table
 fill-done o table r t n e h = h ∙ sym (ap (λ a. filledBy a (o .records) table) e)

@@ -22,7 +22,8 @@ use Rattle.loader.proofs.Answering.{LoadFacts, MoveFacts, load-facts, m
 use Rattle.loader.proofs.Inside.{keyed-targets, length-withRecords}
 
 -- a work area wiped, used and wiped again
-module _ (w w1 w2 w3 : List ℕ) (e1 : w1 ≡ replicate (length w) 0) (e2 : length w2 ≡ length w1) (e3 : w3 ≡ replicate (length w2) 0) where
+module _ (w w1 w2 w3 : List ℕ) (e1 : w1 ≡ replicate (length w) 0) (e2 : length w2 ≡ length w1)
+    (e3 : w3 ≡ replicate (length w2) 0) where
   wiped-long : length w1 ≡ length w
   wiped-long = ap length e1 ∙ length-replicate (length w) 0
 
@@ -153,44 +154,69 @@ module _ (file m w w′ : List ℕ) (records : ℕ) (a : Answer) where
 -- ---- the fronts
 
 -- the records of an accepted outcome have room in the table
-fills-by : (a : Answer) (file bases : List ℕ) (o : Outcome) (room : ℕ) → o .answer ≡ a → o .records ≡ handed file bases a → ((t n : ℕ) → a ≡ Accepted t n → (t ≤ 64) × (4 * t ≤ room)) → Fills o room
+fills-by : (a : Answer) (file bases : List ℕ) (o : Outcome) (room : ℕ) → o .answer ≡ a
+    → o .records ≡ handed file bases a → ((t n : ℕ) → a ≡ Accepted t n → (t ≤ 64) × (4 * t ≤ room)) → Fills o room
 fills-by (Accepted t n) file bases o room e h f =
-    record { fills = rw e (f t n refl); whole = ap length h ∙ length-withRecords file bases (replicate tableRoom 0) (actsOf file) ∙ length-replicate {A = ℕ} tableRoom 0 }
-fills-by (Refused r) file bases o room e h f = record { fills = rw e tt; whole = ap length h ∙ length-replicate {A = ℕ} tableRoom 0 }
+    record {
+      fills = rw e (f t n refl);
+      whole = ap length h ∙ length-withRecords file bases (replicate tableRoom 0)
+          (actsOf file) ∙ length-replicate {A = ℕ} tableRoom 0;
+    }
+fills-by (Refused r) file bases o room e h f =
+    record { fills = rw e tt; whole = ap length h ∙ length-replicate {A = ℕ} tableRoom 0 }
 
-filled-by : (a : Answer) (file bases table : List ℕ) (o : Outcome) → o .answer ≡ a → o .records ≡ handed file bases a → ((t n : ℕ) → a ≡ Accepted t n → t ≡ totalOf file) → filled o table ≡ effect a (tableOf file bases table) table
+filled-by : (a : Answer) (file bases table : List ℕ) (o : Outcome) → o .answer ≡ a → o .records ≡ handed file bases a
+    → ((t n : ℕ) → a ≡ Accepted t n → t ≡ totalOf file) → filled o table ≡ effect a (tableOf file bases table) table
 unfolding recordsOf
 filled-by (Accepted t n) file bases table o e h f = rw (e, h, f t n refl)
 filled-by (Refused r) file bases table o e h f = rw e
 
-module _ (file bases m table w m1 w1 : List ℕ) (o : Outcome) (l : LoadsCore file bases m w (length table / 4) o m1 w1) where
-  pub load-fills : Fills o (length table)
-  load-fills =
-      fills-by (o .answer) file bases o (length table) refl (l .numbers)
-      (λ t n e. let f = load-facts file bases (length m) (length table / 4) (length w) t n (o .answer) (l .answer) e in (omega (arith, f .file-accepted .hunks, f .file-accepted .header .few), omega (arith, f .records, f .file-accepted .hunks)))
+module _ (file bases m table w m1 w1 : List ℕ) (o : Outcome) (l : LoadsCore file bases m w (length table / 4) o m1 w1)
+  where
+    pub load-fills : Fills o (length table)
+    load-fills =
+        fills-by (o .answer) file bases o (length table) refl (l .numbers)
+        (λ t n e. let f = load-facts file bases (length m) (length table / 4) (length w) t n (o .answer) (l .answer)
+        e in (
+          omega (arith, f .file-accepted .hunks, f .file-accepted .header .few),
+          omega (arith, f .records, f .file-accepted .hunks),
+        ))
 
-  pub load-returns : (r : Answer) (t1 : List ℕ) → r ≡ o .answer → t1 ≡ filled o table → Loads file bases m table w r m1 t1 w1
-  load-returns r t1 e h =
-      record {
-        answer = e ∙ l .answer;
-        numbers = ap numbersOf (e ∙ l .answer);
-        loaded = l .loaded ∙ ap (λ a. effect a (loadOf file bases m) m) (sym e);
-        recorded = h ∙ filled-by (o .answer) file bases table o refl (l .numbers) (λ t n x. load-facts file bases (length m) (length table / 4) (length w) t n (o .answer) (l .answer) x .file-accepted .hunks) ∙ ap (λ a. effect a (tableOf file bases table) table) (sym e);
-        clean = l .clean;
-      }
+    pub load-returns : (r : Answer) (t1 : List ℕ) → r ≡ o .answer → t1 ≡ filled o table
+        → Loads file bases m table w r m1 t1 w1
+    load-returns r t1 e h =
+        record {
+          answer = e ∙ l .answer;
+          numbers = ap numbersOf (e ∙ l .answer);
+          loaded = l .loaded ∙ ap (λ a. effect a (loadOf file bases m) m) (sym e);
+          recorded =
+              h ∙ filled-by (o .answer) file bases table o refl (l .numbers)
+              (λ t n x. load-facts file bases (length m) (length table / 4) (length w) t n (o .answer) (l .answer)
+              x .file-accepted .hunks) ∙ ap (λ a. effect a (tableOf file bases table) table) (sym e);
+          clean = l .clean;
+        }
 
-module _ (file old new m table w m1 w1 : List ℕ) (o : Outcome) (l : MovesCore file old new m w (length table / 4) o m1 w1) where
+module _ (file old new m table w m1 w1 : List ℕ) (o : Outcome)
+    (l : MovesCore file old new m w (length table / 4) o m1 w1) where
   pub move-fills : Fills o (length table)
   move-fills =
       fills-by (o .answer) file new o (length table) refl (l .numbers)
-      (λ t n e. let f = move-facts file old new (length m) (length table / 4) (length w) t n (o .answer) (l .answer) e .load in (omega (arith, f .file-accepted .hunks, f .file-accepted .header .few), omega (arith, f .records, f .file-accepted .hunks)))
+      (λ t n e. let f = move-facts file old new (length m) (length table / 4) (length w) t n (o .answer) (l .answer)
+      e .load in (
+        omega (arith, f .file-accepted .hunks, f .file-accepted .header .few),
+        omega (arith, f .records, f .file-accepted .hunks),
+      ))
 
-  pub move-returns : (r : Answer) (t1 : List ℕ) → r ≡ o .answer → t1 ≡ filled o table → Moves file old new m table w r m1 t1 w1
+  pub move-returns : (r : Answer) (t1 : List ℕ) → r ≡ o .answer → t1 ≡ filled o table
+      → Moves file old new m table w r m1 t1 w1
   move-returns r t1 e h =
       record {
         answer = e ∙ l .answer;
         numbers = ap numbersOf (e ∙ l .answer);
         shifted = l .shifted ∙ ap (λ a. effect a (moveOf file old new m) m) (sym e);
-        recorded = h ∙ filled-by (o .answer) file new table o refl (l .numbers) (λ t n x. move-facts file old new (length m) (length table / 4) (length w) t n (o .answer) (l .answer) x .load .file-accepted .hunks) ∙ ap (λ a. effect a (tableOf file new table) table) (sym e);
+        recorded =
+            h ∙ filled-by (o .answer) file new table o refl (l .numbers)
+            (λ t n x. move-facts file old new (length m) (length table / 4) (length w) t n (o .answer) (l .answer)
+            x .load .file-accepted .hunks) ∙ ap (λ a. effect a (tableOf file new table) table) (sym e);
         clean = l .clean;
       }

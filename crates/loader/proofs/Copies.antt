@@ -11,9 +11,16 @@ use lib.Seq.{length-take-le, take-suc, drop-cons, set-at, getD-set-same, getD-se
 use Rattle.loader.specs.Memory.{amountOf, moved}
 
 -- the first i numbers of s are copied over those of d; then one more
-pub copy-more : (s d : List ℕ) (i : ℕ) → i < length s → i < length d → set (take i s ++ drop i d) i (getD s i 0) ≡ take (i + 1) s ++ drop (i + 1) d
+pub copy-more : (s d : List ℕ) (i : ℕ) → i < length s → i < length d
+    → set (take i s ++ drop i d) i (getD s i 0) ≡ take (i + 1) s ++ drop (i + 1) d
 copy-more s d i h k =
-    rw (add-one, drop-cons d i 0 k, set-at (take i s) (getD d i 0) (drop (suc i) d) (getD s i 0) i (length-take-le i s (omega arith)), take-suc s i 0 h)
+    rw (
+      add-one,
+      drop-cons d i 0 k,
+      set-at (take i s) (getD d i 0) (drop (suc i) d) (getD s i 0) i
+          (length-take-le i s (omega arith)),
+      take-suc s i 0 h,
+    )
     (sym (append-assoc (take i s) (getD s i 0 ∷ []) (drop (suc i) d)))
 
 -- the differences below i are there; the length stays
@@ -36,7 +43,9 @@ module _ (old new m₀ m : List ℕ) (i : ℕ) (s : Differs old new m₀ m i) wh
     pub differ-room : length new ≤ length m₀ → i < length m
     differ-room h = omega (arith, s .long)
 
-    pub differ-turn : (d : ℕ) → length new ≤ length m₀ → d < 2 ^ 32 → amountOf old i < 2 ^ 32 → amountOf new i < 2 ^ 32 → (d + amountOf old i) % 2 ^ 32 ≡ amountOf new i → Differs old new m₀ (set m i d) (i + 1)
+    pub differ-turn : (d : ℕ) → length new ≤ length m₀ → d < 2 ^ 32 → amountOf old i < 2 ^ 32
+        → amountOf new i < 2 ^ 32 → (d + amountOf old i) % 2 ^ 32 ≡ amountOf new i
+        → Differs old new m₀ (set m i d) (i + 1)
     differ-turn d l h o n e =
         record { within = omega arith; long = length-set m i d ∙ s .long; done = λ k q. go k q (decLt k i) }
       where

@@ -28,12 +28,18 @@ Inside n t [] = Unit
 Inside n t (a ∷ us) = ActFits n t a × Inside n t us
 
 module _ (file : List ℕ) where
-  inside : (at : ℕ) (c : Cursor) (ws : List ℕ) → CursorFits file c → Inside (loadedOf file) (totalOf file) (acts (totalOf file) (sizeOf file) at c ws)
+  inside : (at : ℕ) (c : Cursor) (ws : List ℕ) → CursorFits file c
+      → Inside (loadedOf file) (totalOf file) (acts (totalOf file) (sizeOf file) at c ws)
   unfolding acts
   inside at c [] s = tt
-  inside at c (w ∷ ws) s = go (stepOf (totalOf file) (sizeOf file) c w) refl (λ d e. inside (at + 4) d ws (step-fits file c w d s e))
+  inside at c (w ∷ ws) s =
+      go (stepOf (totalOf file) (sizeOf file) c w) refl (λ d e. inside (at + 4) d ws (step-fits file c w d s e))
     where
-      go : (r : Next) → stepOf (totalOf file) (sizeOf file) c w ≡ r → ((d : Cursor) → stepOf (totalOf file) (sizeOf file) c w ≡ On d → Inside (loadedOf file) (totalOf file) (acts (totalOf file) (sizeOf file) (at + 4) d ws)) → Inside (loadedOf file) (totalOf file) (then r (actOf c at w) (λ d. acts (totalOf file) (sizeOf file) (at + 4) d ws))
+      go : (r : Next) → stepOf (totalOf file) (sizeOf file) c w ≡ r
+          → ((d : Cursor) → stepOf (totalOf file) (sizeOf file) c w ≡ On d
+          → Inside (loadedOf file) (totalOf file) (acts (totalOf file) (sizeOf file) (at + 4) d ws))
+          → Inside (loadedOf file) (totalOf file)
+          (then r (actOf c at w) (λ d. acts (totalOf file) (sizeOf file) (at + 4) d ws))
       go (On d) e f = (act-fits file c at w d s e, f d e)
       go (Bad v) e f = tt
 
@@ -77,7 +83,8 @@ length-withStored m (a ∷ us) = length-withStored (storeOne m a) us ∙ length-
 pub length-withRecords : (file bases t : List ℕ) (us : List Act) → length (withRecords file bases t us) ≡ length t
 unfolding pass
 length-withRecords file bases t [] = refl
-length-withRecords file bases t (a ∷ us) = length-withRecords file bases (recordOne file bases t a) us ∙ length-recordOne file bases t a
+length-withRecords file bases t (a ∷ us) =
+    length-withRecords file bases (recordOne file bases t a) us ∙ length-recordOne file bases t a
 
 pub length-bodies : (file m : List ℕ) → loadedOf file ≤ length m → length (bodiesOf file m) ≡ length m
 length-bodies file m h =

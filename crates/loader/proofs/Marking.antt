@@ -14,7 +14,8 @@ use denote.Enum.Declared.{tagOf}
 use Rattle.program.specs.Types as type
 use Rattle.answers.specs.Numbers as fault
 use Rattle.words.specs.Word.{wordAt, setWord}
-use Rattle.words.proofs.Words.{length-setWord, split, setWord-0, setWord-1, setWord-2, setWord-3, setWord-below, setWord-above}
+use Rattle.words.proofs.Words.{length-setWord, split, setWord-0, setWord-1, setWord-2, setWord-3, setWord-below}
+use Rattle.words.proofs.Words.{setWord-above}
 use Rattle.answers.specs.Tests.{pick}
 use Rattle.answers.specs.Refusals.{refusal}
 use Rattle.answers.specs.declared.Tested.the-variants.{Passed, Failed}
@@ -50,9 +51,11 @@ mark-rest m (Store p w) h = record { marks = (refl, refl) }
 mark-rest m (Add p k b) h = absurd (none notAdd tagAdd tt h)
 
 pub mark-met : (m : List ℕ) (a : Act) (p k b w : ℕ) → a ≡ Add p k b → w ≡ wordAt m p → (w ≡ 0 → ⊥) → Marks m a true m
-mark-met m a p k b w e q h = record { marks = subst (λ (x : Act). marksOne m x true m) (sym e) ((λ z. h (q ∙ z)), refl) }
+mark-met m a p k b w e q h =
+    record { marks = subst (λ (x : Act). marksOne m x true m) (sym e) ((λ z. h (q ∙ z)), refl) }
 
-pub mark-new : (m n : List ℕ) (a : Act) (p k b w : ℕ) → a ≡ Add p k b → w ≡ wordAt m p → w ≡ 0 → n ≡ setWord m p 0x01010101 → Marks m a false n
+pub mark-new : (m n : List ℕ) (a : Act) (p k b w : ℕ) → a ≡ Add p k b → w ≡ wordAt m p → w ≡ 0
+    → n ≡ setWord m p 0x01010101 → Marks m a false n
 mark-new m n a p k b w e q h s = record { marks = subst (λ (x : Act). marksOne m x false n) (sym e) (sym q ∙ h, s) }
 
 length-mark : (m n : List ℕ) (a : Act) (r : Bool) → Marks m a r n → length n ≡ length m
@@ -109,7 +112,8 @@ unfolding nearAny pick
 near-some {Q} p [] h f = no-bool h
 near-some {Q} p (q ∷ qs) h f = go (near p q) (near-true p q) h (λ e. near-some p qs e (λ k x y. f k x (inr y)))
   where
-    go : (b : Bool) → (b ≡ true → (p < q + 4) × (q < p + 4)) → pick b true (nearAny p qs) ≡ true → (nearAny p qs ≡ true → Q) → Q
+    go : (b : Bool) → (b ≡ true → (p < q + 4) × (q < p + 4)) → pick b true (nearAny p qs) ≡ true
+        → (nearAny p qs ≡ true → Q) → Q
     go true g e r = shared p q (g refl .0) (g refl .1) (λ k x y. f k x (inl y))
     go false g e r = r e
 
@@ -118,15 +122,18 @@ unfolding nearAny pick
 near-none p [] h k i s = s
 near-none p (q ∷ qs) h k i s = go (near p q) (near-false p q) h s (λ e. near-none p qs e k i)
   where
-    go : (b : Bool) → (b ≡ false → (q + 4 ≤ p) ⊎ (p + 4 ≤ q)) → pick b true (nearAny p qs) ≡ false → Some k (q ∷ qs) → (nearAny p qs ≡ false → Some k qs → ⊥) → ⊥
+    go : (b : Bool) → (b ≡ false → (q + 4 ≤ p) ⊎ (p + 4 ≤ q)) → pick b true (nearAny p qs) ≡ false → Some k (q ∷ qs)
+        → (nearAny p qs ≡ false → Some k qs → ⊥) → ⊥
     go true g e s r = no-bool (sym e)
-    go false g e (inl x) r = ⊎-elim (λ y. omega (arith, x .0, x .1, i .0, i .1)) (λ y. omega (arith, x .0, x .1, i .0, i .1)) (g refl)
+    go false g e (inl x) r =
+        ⊎-elim (λ y. omega (arith, x .0, x .1, i .0, i .1)) (λ y. omega (arith, x .0, x .1, i .0, i .1)) (g refl)
     go false g e (inr x) r = r e x
 
 zero-byte : (work : List ℕ) (p k : ℕ) → wordAt work p ≡ 0 → In k p → getD work k 0 ≡ 0
 unfolding wordAt
 zero-byte work p k h i =
-    split (λ j. In j p → getD work j 0 ≡ 0) p (λ _. omega arith) (λ _. omega arith) (λ _. omega arith) (λ _. omega arith) (λ j l x. absurd (omega (arith, x .0))) (λ j l x. absurd (omega (arith, x .1))) k i
+    split (λ j. In j p → getD work j 0 ≡ 0) p (λ _. omega arith) (λ _. omega arith) (λ _. omega arith)
+    (λ _. omega arith) (λ j l x. absurd (omega (arith, x .0))) (λ j l x. absurd (omega (arith, x .1))) k i
 
 zero-word : (work : List ℕ) (p : ℕ) → ((k : ℕ) → In k p → getD work k 0 ≡ 0) → wordAt work p ≡ 0
 unfolding wordAt
@@ -144,7 +151,9 @@ module _ (work seen : List ℕ) (m : Marked work seen) (p : ℕ) (fits : p + 4 �
     where
       go : (b : Bool) → nearAny p seen ≡ b → b ≡ false
       go false e = refl
-      go true e = near-some p seen e (λ k i s. let x = m .set1 k (omega (arith, i .1)) s in let y = zero-byte work p k z i in absurd (omega arith))
+      go true e =
+          near-some p seen e (λ k i s. let x = m .set1 k (omega (arith, i .1)) s in let y = zero-byte work p k z
+          i in absurd (omega arith))
 
   near-word : (wordAt work p ≡ 0 → ⊥) → nearAny p seen ≡ true
   near-word z = go (nearAny p seen) refl
@@ -156,7 +165,8 @@ module _ (work seen : List ℕ) (m : Marked work seen) (p : ℕ) (fits : p + 4 �
   mark-in : (k : ℕ) → In k p → getD (setWord work p 0x01010101) k 0 ≡ 1
   mark-in k i =
       split (λ j. In j p → getD (setWord work p 0x01010101) j 0 ≡ 1) p
-      (λ _. setWord-0 work p 0x01010101 fits) (λ _. setWord-1 work p 0x01010101 fits) (λ _. setWord-2 work p 0x01010101 fits) (λ _. setWord-3 work p 0x01010101 fits)
+      (λ _. setWord-0 work p 0x01010101 fits) (λ _. setWord-1 work p 0x01010101 fits)
+      (λ _. setWord-2 work p 0x01010101 fits) (λ _. setWord-3 work p 0x01010101 fits)
       (λ j l x. absurd (omega (arith, x .0))) (λ j l x. absurd (omega (arith, x .1))) k i
 
   mark-out : (k : ℕ) → (In k p → ⊥) → getD (setWord work p 0x01010101) k 0 ≡ getD work k 0
@@ -174,7 +184,8 @@ module _ (work seen : List ℕ) (m : Marked work seen) (p : ℕ) (fits : p + 4 �
         set0 = λ k o. mark-out k (λ i. o (inl i)) ∙ m .set0 k (λ s. o (inr s));
       }
     where
-      go : (k : ℕ) → k < length work → Dec (k < p) → Dec (k < p + 4) → Some k (p ∷ seen) → getD (setWord work p 0x01010101) k 0 ≡ 1
+      go : (k : ℕ) → k < length work → Dec (k < p) → Dec (k < p + 4) → Some k (p ∷ seen)
+          → getD (setWord work p 0x01010101) k 0 ≡ 1
       go k l x y (inl i) = mark-in k i
       go k l (yes x) y (inr s) = mark-out k (λ i. omega (arith, i .0)) ∙ m .set1 k l s
       go k l (no x) (no y) (inr s) = mark-out k (λ i. omega (arith, i .1)) ∙ m .set1 k l s
@@ -190,7 +201,9 @@ pub record Clashes (file work₀ work : List ℕ) (c : Cursor) (at : ℕ) : Type
   pub long : length work ≡ length work₀
   pub room : loadedOf file ≤ length work₀
 
-pub clash-start : (file work : List ℕ) (c : Cursor) (at t : ℕ) → HeaderFits file → length file % 4 ≡ 0 → c ≡ start → t ≡ totalOf file → at ≡ 20 + 4 * t → loadedOf file ≤ length work → ((k : ℕ) → getD work k 0 ≡ 0) → Clashes file work work c at
+pub clash-start : (file work : List ℕ) (c : Cursor) (at t : ℕ) → HeaderFits file → length file % 4 ≡ 0 → c ≡ start
+    → t ≡ totalOf file → at ≡ 20 + 4 * t → loadedOf file ≤ length work → ((k : ℕ) → getD work k 0 ≡ 0)
+    → Clashes file work work c at
 clash-start file work c at t s v e k h m z =
     record {
       reads = reads-start file c at t s v e k h;
@@ -202,7 +215,8 @@ clash-start file work c at t s v e k h m z =
     }
 
 -- words that ask for no target leave the rest as it is
-clash-past : (file work₀ work : List ℕ) {c d : Cursor} {at to : ℕ} → Clashes file work₀ work c at → Leads file c at d to → Clashes file work₀ work d to
+clash-past : (file work₀ work : List ℕ) {c d : Cursor} {at to : ℕ} → Clashes file work₀ work c at
+    → Leads file c at d to → Clashes file work₀ work d to
 clash-past file work₀ work i k =
     record {
       reads = leads-reads file k (i .reads);
@@ -245,7 +259,8 @@ unfolding actOf
 act-byte c at w a e = ap (λ (x : Act). byteOf x at) e ∙ own-byte c at w (c .mode)
 
 module _ (file work₀ work : List ℕ) (c : Cursor) (at : ℕ) (i : Clashes file work₀ work c at) where
-  met : (us : List Act) (n : List ℕ) (a : Act) (b : Bool) → byteOf a at ≡ at → ActFits (length work) type.mostHunks a → marksOne work a b n → b ≡ true → clash (i .seen) (targets (a ∷ us)) ≡ Failed (refusal fault.nearTargets at)
+  met : (us : List Act) (n : List ℕ) (a : Act) (b : Bool) → byteOf a at ≡ at → ActFits (length work) type.mostHunks a
+      → marksOne work a b n → b ≡ true → clash (i .seen) (targets (a ∷ us)) ≡ Failed (refusal fault.nearTargets at)
   unfolding clash targets pick
   met us n Quiet b y f k e = no-bool (sym (k .0) ∙ e)
   met us n (Body x p z) b y f k e = no-bool (sym (k .0) ∙ e)
@@ -253,11 +268,16 @@ module _ (file work₀ work : List ℕ) (c : Cursor) (at : ℕ) (i : Clashes fil
   met us n (Add p x z) false y f k e = no-bool e
   met us n (Add p x z) true y f k e = rw (near-word work (i .seen) (i .marked) p (f .0) (k .0), y)
 
-  went : (d : Cursor) (n : List ℕ) (a : Act) (b : Bool) → Reads file d (at + 4) → length n ≡ length work₀ → ActFits (length work) type.mostHunks a → marksOne work a b n → b ≡ false → clashOf file ≡ clash (i .seen) (targets (a ∷ actsFrom file (at + 4) d)) → Clashes file work₀ n d (at + 4)
+  went : (d : Cursor) (n : List ℕ) (a : Act) (b : Bool) → Reads file d (at + 4) → length n ≡ length work₀
+      → ActFits (length work) type.mostHunks a → marksOne work a b n → b ≡ false
+      → clashOf file ≡ clash (i .seen) (targets (a ∷ actsFrom file (at + 4) d)) → Clashes file work₀ n d (at + 4)
   unfolding clash targets pick
-  went d n Quiet b r h f k y e = record { reads = r; seen = i .seen; marked = rw (k .1) (i .marked); left = e; long = h; room = i .room }
-  went d n (Body x p z) b r h f k y e = record { reads = r; seen = i .seen; marked = rw (k .1) (i .marked); left = e; long = h; room = i .room }
-  went d n (Store p z) b r h f k y e = record { reads = r; seen = i .seen; marked = rw (k .1) (i .marked); left = e; long = h; room = i .room }
+  went d n Quiet b r h f k y e =
+      record { reads = r; seen = i .seen; marked = rw (k .1) (i .marked); left = e; long = h; room = i .room }
+  went d n (Body x p z) b r h f k y e =
+      record { reads = r; seen = i .seen; marked = rw (k .1) (i .marked); left = e; long = h; room = i .room }
+  went d n (Store p z) b r h f k y e =
+      record { reads = r; seen = i .seen; marked = rw (k .1) (i .marked); left = e; long = h; room = i .room }
   went d n (Add p x z) true r h f k y e = no-bool (sym y)
   went d n (Add p x z) false r h f k y e =
       record {
@@ -272,24 +292,30 @@ module _ (file work₀ work : List ℕ) (c : Cursor) (at : ℕ) (i : Clashes fil
   pub mark-long : (a : Act) (b : Bool) (n : List ℕ) → Marks work a b n → length n ≡ length work₀
   mark-long a b n k = length-mark work n a b k ∙ i .long
 
-  module _ (w : ℕ) (r : Next) (l : at < length file) (p : w ≡ wordAt file at) (q : r ≡ stepOf (totalOf file) (sizeOf file) c w) where
+  module _ (w : ℕ) (r : Next) (l : at < length file) (p : w ≡ wordAt file at)
+      (q : r ≡ stepOf (totalOf file) (sizeOf file) c w) where
     pub clash-bad : (v : ℕ) → r ≡ Bad v → Passed ≡ clashOf file
     unfolding clash targets
-    clash-bad v e = sym (i .left ∙ ap (λ us. clash (i .seen) (targets us)) (acts-bad file at c w r (i .reads) l p q v e))
+    clash-bad v e =
+        sym (i .left ∙ ap (λ us. clash (i .seen) (targets us)) (acts-bad file at c w r (i .reads) l p q v e))
 
     module _ (d : Cursor) (a : Act) (e : r ≡ On d) (x : a ≡ actOf c at w) where
       pub mark-fits : ActFits (length work) type.mostHunks a
-      mark-fits = reads-fits file c at w r d a (i .reads) q e x (length work) type.mostHunks (omega (arith, i .long, i .room)) (i .reads .fits .header .few)
+      mark-fits =
+          reads-fits file c at w r d a (i .reads) q e x (length work) type.mostHunks (omega (arith, i .long, i .room))
+          (i .reads .fits .header .few)
 
       module _ (n : List ℕ) (b : Bool) (k : Marks work a b n) where
         pub clash-met : b ≡ true → Failed (refusal fault.nearTargets at) ≡ clashOf file
         clash-met y =
-            sym (i .left ∙ ap (λ us. clash (i .seen) (targets us)) (acts-on file at c w r (i .reads) l p q d a e x) ∙ met _ n a b (act-byte c at w a x) mark-fits (k .marks) y)
+            sym (i .left ∙ ap (λ us. clash (i .seen) (targets us)) (acts-on file at c w r (i .reads) l p q d a e x)
+            ∙ met _ n a b (act-byte c at w a x) mark-fits (k .marks) y)
 
         pub clash-turn : b ≡ false → (c′ : Cursor) (to : ℕ) → Leads file d (at + 4) c′ to → Clashes file work₀ n c′ to
         clash-turn y c′ to =
             clash-past file work₀ n
-            (went d n a b (reads-on file c at w r d (i .reads) l p q e) (mark-long a b n k) mark-fits (k .marks) y (i .left ∙ ap (λ us. clash (i .seen) (targets us)) (acts-on file at c w r (i .reads) l p q d a e x)))
+            (went d n a b (reads-on file c at w r d (i .reads) l p q e) (mark-long a b n k) mark-fits (k .marks) y
+            (i .left ∙ ap (λ us. clash (i .seen) (targets us)) (acts-on file at c w r (i .reads) l p q d a e x)))
 
   pub clash-end : length file ≤ at → Passed ≡ clashOf file
   unfolding clash targets

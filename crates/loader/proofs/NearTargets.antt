@@ -41,14 +41,18 @@ unfolding nearAny
 near-there p [] h = no-bool h
 near-there p (x ∷ xs) h = go (pick-or (near p x) (nearAny p xs) h) (near-there p xs)
   where
-    go : (near p x ≡ true) ⊎ (nearAny p xs ≡ true) → (nearAny p xs ≡ true → (q : ℕ) × Among q xs × (p < q + 4) × (q < p + 4)) → (q : ℕ) × Among q (x ∷ xs) × (p < q + 4) × (q < p + 4)
-    go (inl y) g = let r = pick-and (ltb p (x + 4)) (ltb x (p + 4)) y in (x, inl refl, ltb-true _ _ (r .0), ltb-true _ _ (r .1))
+    go : (near p x ≡ true) ⊎ (nearAny p xs ≡ true)
+        → (nearAny p xs ≡ true → (q : ℕ) × Among q xs × (p < q + 4) × (q < p + 4))
+        → (q : ℕ) × Among q (x ∷ xs) × (p < q + 4) × (q < p + 4)
+    go (inl y) g =
+        let r = pick-and (ltb p (x + 4)) (ltb x (p + 4)) y in (x, inl refl, ltb-true _ _ (r .0), ltb-true _ _ (r .1))
     go (inr y) g = let r = g y in (r .0, inr (r .1), r .2, r .3)
 
 near-back : (p q : ℕ) (seen : List ℕ) → Among q seen → p < q + 4 → q < p + 4 → nearAny p seen ≡ true
 unfolding nearAny pick
 near-back p q [] a h k = absurd a
-near-back p q (x ∷ xs) (inl e) h k = or-left (near p x) _ (subst (λ (z : ℕ). near p z ≡ true) e (rw (lt-ltb p (q + 4) h) (lt-ltb q (p + 4) k)))
+near-back p q (x ∷ xs) (inl e) h k =
+    or-left (near p x) _ (subst (λ (z : ℕ). near p z ≡ true) e (rw (lt-ltb p (q + 4) h) (lt-ltb q (p + 4) k)))
 near-back p q (x ∷ xs) (inr a) h k = or-right (near p x) _ (near-back p q xs a h k)
 
 -- seen before, or the byte of a target in us
@@ -71,20 +75,37 @@ Clashes seen ts f =
 clash-from : (seen : List ℕ) (ts : List Target) (f : Refusal) → clash seen ts ≡ Failed f → Clashes seen ts f
 unfolding clash
 clash-from seen [] f h = not-failed h
-clash-from seen (s ∷ ts) f h = go (pick-failed (nearAny (s .loadedAt) seen) (refusal fault.nearTargets (s .byte)) (clash (s .loadedAt ∷ seen) ts) f h) (clash-from (s .loadedAt ∷ seen) ts f)
+clash-from seen (s ∷ ts) f h =
+    go (pick-failed (nearAny (s .loadedAt) seen) (refusal fault.nearTargets (s .byte)) (clash (s .loadedAt ∷ seen) ts)
+    f h) (clash-from (s .loadedAt ∷ seen) ts f)
   where
     earlier : (us : List Target) (q : ℕ) → Before (s .loadedAt ∷ seen) us q → Before seen (s ∷ us) q
     earlier us q (inl (inl e)) = inr (s, inl refl, e)
     earlier us q (inl (inr a)) = inl a
     earlier us q (inr x) = inr (x .0, inr (x .1), x .2)
 
-    go : ((nearAny (s .loadedAt) seen ≡ true) × (f ≡ refusal fault.nearTargets (s .byte))) ⊎ ((nearAny (s .loadedAt) seen ≡ false) × (clash (s .loadedAt ∷ seen) ts ≡ Failed f)) → (clash (s .loadedAt ∷ seen) ts ≡ Failed f → Clashes (s .loadedAt ∷ seen) ts f) → Clashes seen (s ∷ ts) f
-    go (inl x) g = let r = near-there (s .loadedAt) seen (x .0) in ([], s, ts, refl, x .1, refl, r .0, inl (r .1), r .2, r .3)
+    go : ((nearAny (s .loadedAt) seen ≡ true) × (f ≡ refusal fault.nearTargets (s .byte)))
+        ⊎ ((nearAny (s .loadedAt) seen ≡ false) × (clash (s .loadedAt ∷ seen) ts ≡ Failed f))
+        → (clash (s .loadedAt ∷ seen) ts ≡ Failed f → Clashes (s .loadedAt ∷ seen) ts f) → Clashes seen (s ∷ ts) f
+    go (inl x) g =
+        let r = near-there (s .loadedAt) seen (x .0) in ([], s, ts, refl, x .1, refl, r .0, inl (r .1), r .2, r .3)
     go (inr x) g =
-        let r = g (x .1) in
-        (s ∷ r .0, r .1, r .2, ap (λ (l : List Target). s ∷ l) (r .3), r .4, pick-goes _ _ _ _ (x .0) (r .5), r .6, earlier (r .0) (r .6) (r .7), r .8, r .9)
+        let r = g (x .1) in (
+          s ∷ r .0,
+          r .1,
+          r .2,
+          ap (λ (l : List Target). s ∷ l) (r .3),
+          r .4,
+          pick-goes _ _ _ _ (x .0) (r .5),
+          r .6,
+          earlier (r .0) (r .6) (r .7),
+          r .8,
+          r .9,
+        )
 
-clash-then : (seen : List ℕ) (us : List Target) (t : Target) (vs : List Target) (q : ℕ) → clash seen us ≡ Passed → Before seen us q → t .loadedAt < q + 4 → q < t .loadedAt + 4 → clash seen (us ++ (t ∷ vs)) ≡ Failed (refusal fault.nearTargets (t .byte))
+clash-then : (seen : List ℕ) (us : List Target) (t : Target) (vs : List Target) (q : ℕ) → clash seen us ≡ Passed
+    → Before seen us q → t .loadedAt < q + 4 → q < t .loadedAt + 4
+    → clash seen (us ++ (t ∷ vs)) ≡ Failed (refusal fault.nearTargets (t .byte))
 unfolding clash
 clash-then seen [] t vs q c b h k = pick-fails _ _ _ (near-back (t .loadedAt) q seen (old b) h k)
   where
@@ -92,7 +113,9 @@ clash-then seen [] t vs q c b h k = pick-fails _ _ _ (near-back (t .loadedAt) q 
     old (inl a) = a
     old (inr x) = absurd (x .1)
 clash-then seen (s ∷ us) t vs q c b h k =
-    let p = pick-passed (nearAny (s .loadedAt) seen) (refusal fault.nearTargets (s .byte)) (clash (s .loadedAt ∷ seen) us) c in
+    let p =
+    pick-passed (nearAny (s .loadedAt) seen) (refusal fault.nearTargets (s .byte)) (clash (s .loadedAt ∷ seen) us)
+    c in
     pick-goes _ _ _ _ (p .0) (clash-then (s .loadedAt ∷ seen) us t vs q (p .1) (later b) h k)
   where
     later : Before seen (s ∷ us) q → Before (s .loadedAt ∷ seen) us q
@@ -108,12 +131,24 @@ module _ (ts : List Target) (f : Refusal) where
       go r (inl a) = absurd a
       go r (inr x) =
           let e = x .2 in
-          record { before = r .0; target = r .1; after = r .2; split = r .3; said = r .4; first = r .5; other = x .0; among = x .1; below = omega (arith, r .8, e); above = omega (arith, r .9, e) }
+          record {
+            before = r .0;
+            target = r .1;
+            after = r .2;
+            split = r .3;
+            said = r .4;
+            first = r .5;
+            other = x .0;
+            among = x .1;
+            below = omega (arith, r .8, e);
+            above = omega (arith, r .9, e);
+          }
 
   clash-back : ClashWhy ts f → clash [] ts ≡ Failed f
   clash-back r =
       ap (clash []) (r .split)
-      ∙ clash-then [] (r .before) (r .target) (r .after) (r .other .loadedAt) (r .first) (inr (r .other, r .among, refl)) (r .below) (r .above)
+      ∙ clash-then [] (r .before) (r .target) (r .after) (r .other .loadedAt) (r .first)
+      (inr (r .other, r .among, refl)) (r .below) (r .above)
       ∙ ap Failed (sym (r .said))
 
   pub clash-why : (clash [] ts ≡ Failed f) ↔ ClashWhy ts f
@@ -124,13 +159,19 @@ none-near : (p : ℕ) (seen : List ℕ) → ((q : ℕ) → Among q seen → Far 
 none-near p seen g = go (nearAny p seen) refl
   where
     go : (b : Bool) → nearAny p seen ≡ b → b ≡ false
-    go true e = let r = near-there p seen e in ⊎-elim (λ l. absurd (omega (arith, l, r .2, r .3))) (λ l. absurd (omega (arith, l, r .2, r .3))) (g (r .0) (r .1))
+    go true e =
+        let r = near-there p seen e in
+        ⊎-elim (λ l. absurd (omega (arith, l, r .2, r .3))) (λ l. absurd (omega (arith, l, r .2, r .3)))
+        (g (r .0) (r .1))
     go false e = refl
 
-clash-passes : (seen : List ℕ) (ts : List Target) → Apart ts → ((q : ℕ) → Among q seen → FarAll q ts) → clash seen ts ≡ Passed
+clash-passes : (seen : List ℕ) (ts : List Target) → Apart ts → ((q : ℕ) → Among q seen → FarAll q ts)
+    → clash seen ts ≡ Passed
 unfolding clash
 clash-passes seen [] a g = refl
-clash-passes seen (t ∷ ts) a g = pick-goes _ _ _ _ (none-near (t .loadedAt) seen (λ q x. g q x .0)) (clash-passes (t .loadedAt ∷ seen) ts (a .1) far)
+clash-passes seen (t ∷ ts) a g =
+    pick-goes _ _ _ _ (none-near (t .loadedAt) seen (λ q x. g q x .0))
+    (clash-passes (t .loadedAt ∷ seen) ts (a .1) far)
   where
     far : (q : ℕ) → Among q (t .loadedAt ∷ seen) → FarAll q ts
     far q (inl e) = subst (λ (z : ℕ). FarAll z ts) (sym e) (a .0)

@@ -1,4 +1,5 @@
--- The answer of a load and of a move as numbers: which numbers a refusal has, and that 0 is no refusal. Assumes nothing.
+-- The answer of a load and of a move as numbers: which numbers a refusal has, and that 0 is no refusal. Assumes
+-- nothing.
 use Prim.Native.Nat.{ℕ, _/_}
 use mathlib.Core.Path.{_≡_, sym, _∙_}
 use mathlib.Core.List.{List, [], _∷_}
@@ -18,7 +19,8 @@ use Rattle.loader.specs.Verdicts.{Accepts, CallWhy}
 use Rattle.loader.proofs.PageVerdicts.{load-refused, move-refused}
 
 -- the number of a refused call is one of these
-call-number : (file : List ℕ) (lists : List (List ℕ)) (m r w : ℕ) (f : Refusal) → CallWhy file lists m r w f → f .number ∈ callRefusals
+call-number : (file : List ℕ) (lists : List (List ℕ)) (m r w : ℕ) (f : Refusal) → CallWhy file lists m r w f
+    → f .number ∈ callRefusals
 call-number file lists m r w f (inl x) = in-part checkRefusals callRefusals (f .number) tt (check-number file f x)
 call-number file lists m r w f (inr (hs, h, p, inl (e, y))) = rw e (listed callRefusals fault.badBase tt)
 call-number file lists m r w f (inr (hs, h, p, inr (inl (e, y)))) = rw e (listed callRefusals fault.shortRoom tt)
@@ -38,23 +40,31 @@ refuses a (Refused f) e h = h f (sym e)
 
 module _ (file m : List ℕ) (k : ℕ) (w : List ℕ) (r : Answer) where
   -- of tables of k records
-  pub load-zero : (bases : List ℕ) → r ≡ loadAnswer file bases (length m) k (length w) → (numbersOf r .number ≡ 0) ↔ Accepts r
-  load-zero bases e = zero-accepts callRefusals tt r (refuses _ r e (λ f. load-number file (length m) k (length w) f bases))
+  pub load-zero : (bases : List ℕ) → r ≡ loadAnswer file bases (length m) k (length w)
+      → (numbersOf r .number ≡ 0) ↔ Accepts r
+  load-zero bases e =
+      zero-accepts callRefusals tt r (refuses _ r e (λ f. load-number file (length m) k (length w) f bases))
 
-  pub move-zero : (old new : List ℕ) → r ≡ moveAnswer file old new (length m) k (length w) → (numbersOf r .number ≡ 0) ↔ Accepts r
-  move-zero old new e = zero-accepts callRefusals tt r (refuses _ r e (λ f. move-number file (length m) k (length w) f old new))
+  pub move-zero : (old new : List ℕ) → r ≡ moveAnswer file old new (length m) k (length w)
+      → (numbersOf r .number ≡ 0) ↔ Accepts r
+  move-zero old new e =
+      zero-accepts callRefusals tt r (refuses _ r e (λ f. move-number file (length m) k (length w) f old new))
 
 module _ (file m t w : List ℕ) (r : Answer) (m1 t1 w1 : List ℕ) where
-  pub load-listed : (bases : List ℕ) → Loads file bases m t w r m1 t1 w1 → (f : Refusal) → r ≡ Refused f → numbersOf r .number ∈ callRefusals
+  pub load-listed : (bases : List ℕ) → Loads file bases m t w r m1 t1 w1 → (f : Refusal) → r ≡ Refused f
+      → numbersOf r .number ∈ callRefusals
   load-listed bases l f e = rw e (load-number file (length m) (length t / 4) (length w) f bases (sym (l .answer) ∙ e))
 
   -- the number is 0 if and only if the load is accepted
   pub load-zero-exactly : (bases : List ℕ) → Loads file bases m t w r m1 t1 w1 → (numbersOf r .number ≡ 0) ↔ Accepts r
   load-zero-exactly bases l = load-zero file m (length t / 4) w r bases (l .answer)
 
-  pub move-listed : (old new : List ℕ) → Moves file old new m t w r m1 t1 w1 → (f : Refusal) → r ≡ Refused f → numbersOf r .number ∈ callRefusals
-  move-listed old new l f e = rw e (move-number file (length m) (length t / 4) (length w) f old new (sym (l .answer) ∙ e))
+  pub move-listed : (old new : List ℕ) → Moves file old new m t w r m1 t1 w1 → (f : Refusal) → r ≡ Refused f
+      → numbersOf r .number ∈ callRefusals
+  move-listed old new l f e =
+      rw e (move-number file (length m) (length t / 4) (length w) f old new (sym (l .answer) ∙ e))
 
   -- and so of a move
-  pub move-zero-exactly : (old new : List ℕ) → Moves file old new m t w r m1 t1 w1 → (numbersOf r .number ≡ 0) ↔ Accepts r
+  pub move-zero-exactly : (old new : List ℕ) → Moves file old new m t w r m1 t1 w1
+      → (numbersOf r .number ≡ 0) ↔ Accepts r
   move-zero-exactly old new l = move-zero file m (length t / 4) w r old new (l .answer)

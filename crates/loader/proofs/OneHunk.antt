@@ -1,5 +1,5 @@
--- Each target of a page stands in its hunk, at the offset that the file's word at its byte says; so targets that are near are of one hunk.
--- Assumes nothing.
+-- Each target of a page stands in its hunk, at the offset that the file's word at its byte says; so targets that are
+-- near are of one hunk. Assumes nothing.
 use Prim.Native.Nat.{ℕ, zero, suc, _+_, _*_, _-_, _/_, _<_, _≤_}
 use mathlib.Core.Path.{_≡_, refl, sym, ap, subst, _∙_}
 use mathlib.Core.Logic.{_⊎_, inl, inr, ⊎-elim}
@@ -10,11 +10,14 @@ use lib.ListN.{length}
 use Rattle.program.specs.Types as type
 use Rattle.words.specs.Word.{wordAt, wordsAt}
 use Rattle.answers.proofs.Clashes.{impossible}
-use Rattle.program.specs.Page.{Group, Part, Hunk, relocation, symbols, debug, joined, nameWords, bodyWords, groupWords, partWords, hunkWords, Each, storedWords, OffsetFits, GroupFits, PartFits, HunkFits, Holds, total}
+use Rattle.program.specs.Page.{Group, Part, Hunk, relocation, symbols, debug, joined, nameWords, bodyWords}
+use Rattle.program.specs.Page.{groupWords, partWords, hunkWords, Each, storedWords, OffsetFits, GroupFits, PartFits}
+use Rattle.program.specs.Page.{HunkFits, Holds, total}
 use Rattle.program.specs.Header.{startAt}
 use Rattle.program.proofs.Heading.{split}
 use Rattle.program.proofs.Pages.{is-total, rest-words}
-use Rattle.loader.specs.Pages.{PageTarget, Named, offsetsAt, groupsAt, partsAt, hunkAt, hunksAt, fileTargets, sizeAt, hunkPlace}
+use Rattle.loader.specs.Pages.{PageTarget, Named, offsetsAt, groupsAt, partsAt, hunkAt, hunksAt, fileTargets}
+use Rattle.loader.specs.Pages.{sizeAt, hunkPlace}
 use Rattle.answers.specs.Members.{_∈_}
 use Rattle.loader.proofs.PageLoads.{stored-fit}
 
@@ -73,10 +76,12 @@ place-most (h ∷ hs) (suc i) = omega (arith, place-most hs i)
 
 module _ (file : List ℕ) (places sizes : ℕ → ℕ) where
   abbrev Stands : PageTarget → Type 0
-  Stands x = (x .loadedAt ≡ places (x .hunk) + wordAt file (x .byte)) × (wordAt file (x .byte) + 4 ≤ 4 * sizes (x .hunk))
+  Stands x =
+      (x .loadedAt ≡ places (x .hunk) + wordAt file (x .byte)) × (wordAt file (x .byte) + 4 ≤ 4 * sizes (x .hunk))
 
   module _ (t n i p : ℕ) (ep : places i ≡ p) (en : n ≤ sizes i) where
-    offsets-stand : (k : ℕ) (os rest : List ℕ) (at m : ℕ) → Each (OffsetFits n) os → wordsAt file at m ≡ os ++ rest → Each Stands (offsetsAt i p k at os)
+    offsets-stand : (k : ℕ) (os rest : List ℕ) (at m : ℕ) → Each (OffsetFits n) os → wordsAt file at m ≡ os ++ rest
+        → Each Stands (offsetsAt i p k at os)
     unfolding wordsAt
     offsets-stand k [] rest at m f e = tt
     offsets-stand k (o ∷ os) rest at zero f e = impossible cc
@@ -85,31 +90,43 @@ module _ (file : List ℕ) (places sizes : ℕ → ℕ) where
         let b : wordsAt file (at + 4) m ≡ os ++ rest = cc in
         ((omega (arith, a, ep), omega (arith, a, f .0 .1, en)), offsets-stand k os rest (at + 4) m (f .1) b)
 
-    groups-stand : (gs : List Group) (rest : List ℕ) (at m : ℕ) → Each (GroupFits t n) gs → wordsAt file at m ≡ joined groupWords gs ++ rest → Each Stands (groupsAt i p at gs)
+    groups-stand : (gs : List Group) (rest : List ℕ) (at m : ℕ) → Each (GroupFits t n) gs
+        → wordsAt file at m ≡ joined groupWords gs ++ rest → Each Stands (groupsAt i p at gs)
     groups-stand [] rest at m f e = tt
     groups-stand (g ∷ gs) rest at m f e =
         let q = e ∙ append-assoc (groupWords g) (joined groupWords gs) rest in
         let s = split file (groupWords g) (joined groupWords gs ++ rest) at m q in
         let u = split file (length (g .offsets) ∷ g .hunk ∷ []) (g .offsets ++ (joined groupWords gs ++ rest)) at m q in
-        each-append Stands (offsetsAt i p (g .hunk) (at + 8) (g .offsets)) (groupsAt i p (at + 4 * length (groupWords g)) gs)
+        each-append Stands (offsetsAt i p (g .hunk) (at + 8) (g .offsets))
+        (groupsAt i p (at + 4 * length (groupWords g)) gs)
         (offsets-stand (g .hunk) (g .offsets) _ (at + 8) (m - 2) (f .0 .offsets) (u .others))
         (groups-stand gs rest _ _ (f .1) (s .others))
 
-    parts-stand : (ps : List Part) (rest : List ℕ) (at m : ℕ) → Each (PartFits t n) ps → wordsAt file at m ≡ joined partWords ps ++ rest → Each Stands (partsAt i p at ps)
+    parts-stand : (ps : List Part) (rest : List ℕ) (at m : ℕ) → Each (PartFits t n) ps
+        → wordsAt file at m ≡ joined partWords ps ++ rest → Each Stands (partsAt i p at ps)
     parts-stand [] rest at m f e = tt
     parts-stand (relocation gs ∷ ps) rest at m f e =
         let q = e ∙ append-assoc (partWords (relocation gs)) (joined partWords ps) rest in
         let s = split file (partWords (relocation gs)) (joined partWords ps ++ rest) at m q in
-        let u = split file (type.relocation ∷ []) (joined groupWords gs ++ (0 ∷ (joined partWords ps ++ rest))) at m (q ∙ ap (λ (l : List ℕ). type.relocation ∷ l) (append-assoc (joined groupWords gs) (0 ∷ []) (joined partWords ps ++ rest))) in
+        let u =
+        split file (type.relocation ∷ []) (joined groupWords gs ++ (0 ∷ (joined partWords ps ++ rest))) at m
+        (q ∙ ap (λ (l : List ℕ). type.relocation ∷ l)
+        (append-assoc (joined groupWords gs) (0 ∷ []) (joined partWords ps ++ rest))) in
         each-append Stands (groupsAt i p (at + 4) gs) (partsAt i p (at + 4 * length (partWords (relocation gs))) ps)
         (groups-stand gs _ (at + 4) (m - 1) (f .0) (u .others))
         (parts-stand ps rest _ _ (f .1) (s .others))
     parts-stand (symbols us ∷ ps) rest at m f e =
-        parts-stand ps rest _ _ (f .1) (split file (partWords (symbols us)) (joined partWords ps ++ rest) at m (e ∙ append-assoc (partWords (symbols us)) (joined partWords ps) rest) .others)
+        parts-stand ps rest _ _ (f .1)
+        (split file (partWords (symbols us)) (joined partWords ps ++ rest) at m
+        (e ∙ append-assoc (partWords (symbols us)) (joined partWords ps) rest) .others)
     parts-stand (debug ws ∷ ps) rest at m f e =
-        parts-stand ps rest _ _ (f .1) (split file (partWords (debug ws)) (joined partWords ps ++ rest) at m (e ∙ append-assoc (partWords (debug ws)) (joined partWords ps) rest) .others)
+        parts-stand ps rest _ _ (f .1)
+        (split file (partWords (debug ws)) (joined partWords ps ++ rest) at m
+        (e ∙ append-assoc (partWords (debug ws)) (joined partWords ps) rest) .others)
 
-  hunks-stand : (t : ℕ) (hs : List Hunk) (i p at m : ℕ) → Each (HunkFits t) hs → ((k : ℕ) → places (i + k) ≡ p + hunkPlace hs k) → ((k : ℕ) → sizes (i + k) ≡ sizeAt hs k) → wordsAt file at m ≡ joined hunkWords hs → Each Stands (hunksAt i p at hs)
+  hunks-stand : (t : ℕ) (hs : List Hunk) (i p at m : ℕ) → Each (HunkFits t) hs
+      → ((k : ℕ) → places (i + k) ≡ p + hunkPlace hs k) → ((k : ℕ) → sizes (i + k) ≡ sizeAt hs k)
+      → wordsAt file at m ≡ joined hunkWords hs → Each Stands (hunksAt i p at hs)
   hunks-stand t [] i p at m f g z e = tt
   hunks-stand t (h ∷ hs) i p at m f g z e =
       let n : ℕ = length (storedWords (h .body)) in
@@ -136,18 +153,32 @@ module _ (file : List ℕ) (hs : List Hunk) (held : Holds file hs) where
   -- The file's word at a target's byte is its offset in its hunk.
   pub targets-named : Each (Named file hs) (fileTargets hs)
   targets-named =
-      let q : startAt file ≡ 20 + 4 * length hs = omega (arith, is-total file hs (held .fits) (held .whole) (held .words)) in
+      let q : startAt file ≡ 20 + 4 * length hs =
+      omega (arith, is-total file hs (held .fits) (held .whole) (held .words)) in
       let e = rest-words file hs (held .fits) (held .whole) (held .words) in
-      each-more (Stands file (hunkPlace hs) (sizeAt hs)) (Named file hs) (fileTargets hs) (λ x a. record { loadedAt = a .0; within = a .1 })
-      (hunks-stand file (hunkPlace hs) (sizeAt hs) (length hs) hs 0 0 (20 + 4 * length hs) ((length file - startAt file) / 4) (held .fits .hunks) (λ k. let y : 0 + k ≡ k = omega arith in rw y (omega arith)) (λ k. let y : 0 + k ≡ k = omega arith in rw y) (rw (← q) e))
+      each-more (Stands file (hunkPlace hs) (sizeAt hs)) (Named file hs) (fileTargets hs)
+      (λ x a. record { loadedAt = a .0; within = a .1 })
+      (hunks-stand file (hunkPlace hs) (sizeAt hs) (length hs) hs 0 0 (20 + 4 * length hs)
+      ((length file - startAt file) / 4) (held .fits .hunks)
+      (λ k. let y : 0 + k ≡ k = omega arith in rw y (omega arith)) (λ k. let y : 0 + k ≡ k = omega arith in rw y)
+      (rw (← q) e))
 
   module _ (x y : PageTarget) (a : Named file hs x) (b : Named file hs y) where
     -- a target of an earlier hunk stands before one of a later hunk
     in-order : x .hunk < y .hunk → x .loadedAt + 4 ≤ y .loadedAt
-    in-order l = omega (arith, a .loadedAt, a .within, b .loadedAt, place-next hs (x .hunk), place-up hs (suc (x .hunk)) (y .hunk) (omega arith))
+    in-order l =
+        omega (
+          arith,
+          a .loadedAt,
+          a .within,
+          b .loadedAt,
+          place-next hs (x .hunk),
+          place-up hs (suc (x .hunk)) (y .hunk) (omega arith),
+        )
 
   -- Targets that are near are of one hunk.
-  pub near-one-hunk : (x y : PageTarget) → Named file hs x → Named file hs y → x .loadedAt < y .loadedAt + 4 → y .loadedAt < x .loadedAt + 4 → x .hunk ≡ y .hunk
+  pub near-one-hunk : (x y : PageTarget) → Named file hs x → Named file hs y → x .loadedAt < y .loadedAt + 4
+      → y .loadedAt < x .loadedAt + 4 → x .hunk ≡ y .hunk
   near-one-hunk x y a b u v = go (decLt (x .hunk) (y .hunk)) (decLt (y .hunk) (x .hunk))
     where
       go : Dec (x .hunk < y .hunk) → Dec (y .hunk < x .hunk) → x .hunk ≡ y .hunk
@@ -159,4 +190,5 @@ module _ (file : List ℕ) (hs : List Hunk) (held : Holds file hs) where
   pub page-within : Each (λ x. x .loadedAt + 4 ≤ 4 * total hs) (fileTargets hs)
   page-within =
       each-more (Named file hs) (λ x. x .loadedAt + 4 ≤ 4 * total hs) (fileTargets hs)
-      (λ x a. omega (arith, a .loadedAt, a .within, place-next hs (x .hunk), place-most hs (suc (x .hunk)))) targets-named
+      (λ x a. omega (arith, a .loadedAt, a .within, place-next hs (x .hunk), place-most hs (suc (x .hunk))))
+      targets-named

@@ -30,15 +30,19 @@ module _ (size other : ℕ → ℕ) (bases : List ℕ) (i : ℕ) (same : (k : �
       record {
         multiple = g .multiple;
         below = omega (arith, g .below, same i (omega arith));
-        alone = λ j l s. g .alone j l (same-shared other size bases i j (sym (same i (omega arith))) (sym (same j (omega arith))) s);
+        alone =
+            λ j l s. g .alone j l (same-shared other size bases i j (sym (same i (omega arith)))
+            (sym (same j (omega arith))) s);
       }
 
   same-bad : BadEntry size bases i → BadEntry other bases i
   same-bad (inl x) = inl x
   same-bad (inr (inl x)) = inr (inl (omega (arith, x, same i (omega arith))))
-  same-bad (inr (inr (j, l, s))) = inr (inr (j, l, same-shared size other bases i j (same i (omega arith)) (same j (omega arith)) s))
+  same-bad (inr (inr (j, l, s))) =
+      inr (inr (j, l, same-shared size other bases i j (same i (omega arith)) (same j (omega arith)) s))
 
-sized-at : (t : ℕ) (size : ℕ → ℕ) (hs : List Hunk) (h i : ℕ) → Sized t size h hs → i < length hs → size (h + i) ≡ sizeAt hs i
+sized-at : (t : ℕ) (size : ℕ → ℕ) (hs : List Hunk) (h i : ℕ) → Sized t size h hs → i < length hs
+    → size (h + i) ≡ sizeAt hs i
 sized-at t size [] h i f l = absurd (omega arith)
 sized-at t size (x ∷ xs) h zero f l = let z : h + 0 ≡ h = omega arith in ap size z ∙ sym (f .0)
 sized-at t size (x ∷ xs) h (suc i) f l =
@@ -55,7 +59,8 @@ module _ (file : List ℕ) (hs : List Hunk) (held : Holds file hs) where
   pub held-size : (i : ℕ) → i < length hs → sizeOf file i ≡ sizeAt hs i
   held-size i l =
       let z : 0 + i ≡ i = omega arith in
-      ap (sizeOf file) (sym z) ∙ sized-at (totalOf file) (sizeOf file) hs 0 i (all-sized file hs (held .fits) (held .whole) (held .words)) l
+      ap (sizeOf file) (sym z) ∙ sized-at (totalOf file) (sizeOf file) hs 0 i
+      (all-sized file hs (held .fits) (held .whole) (held .words)) l
 
   module _ (bases : List ℕ) where
     page-good : (i : ℕ) → i < length hs → GoodEntry (sizeOf file) bases i ↔ GoodEntry (sizeAt hs) bases i
@@ -77,24 +82,53 @@ module _ (file : List ℕ) (hs : List Hunk) (held : Holds file hs) where
         there : basesFault file bases from ≡ Passed → GoodBases hs bases
         there h =
             let r = bases-exactly file bases from .0 h in
-            record { count = r .0 ∙ held-total; entries = λ i l. page-good i l .0 (entry-good file bases i .0 (r .1 i (omega (arith, l, held-total)))) }
+            record {
+              count = r .0 ∙ held-total;
+              entries = λ i l. page-good i l .0
+                  (entry-good file bases i .0 (r .1 i (omega (arith, l, held-total))));
+            }
 
         back : GoodBases hs bases → basesFault file bases from ≡ Passed
         back g =
-            bases-exactly file bases from .1
-            (g .count ∙ sym held-total, λ i l. let k : i < length hs = omega (arith, l, held-total) in entry-good file bases i .1 (page-good i k .1 (g .entries i k)))
+            bases-exactly file bases from .1 (
+              g .count ∙ sym held-total,
+              λ i l. let k : i < length hs = omega (arith, l, held-total) in entry-good file
+                  bases i .1 (page-good i k .1 (g .entries i k)),
+            )
 
     -- 40 is given exactly for a wrong count, or at the first bad entry.
-    pub bad-exactly : (from p : ℕ) → (basesFault file bases from ≡ Failed (refusal fault.badBase p)) ↔ BadBases hs bases from p
-    bad-exactly from p = (λ h. there (bases-why file bases from (refusal fault.badBase p) .0 h), λ h. bases-why file bases from (refusal fault.badBase p) .1 (back h))
+    pub bad-exactly : (from p : ℕ)
+        → (basesFault file bases from ≡ Failed (refusal fault.badBase p)) ↔ BadBases hs bases from p
+    bad-exactly from p = (
+      λ h. there (bases-why file bases from (refusal fault.badBase p) .0 h),
+      λ h. bases-why file bases from (refusal fault.badBase p) .1 (back h),
+    )
       where
         there : BasesWhy file bases from (refusal fault.badBase p) → BadBases hs bases from p
         there (inl x) = inl (λ e. x .1 (e ∙ sym held-total), ap (λ (f : Refusal). f .place) (x .0))
         there (inr (c, (i, l, e, b, g))) =
             let k : i < length hs = omega (arith, l, held-total) in
-            inr (c ∙ held-total, (i, k, page-bad i k .0 (entry-why file bases i .0 b), λ j u. page-good j (omega arith) .0 (entry-good file bases j .0 (g j u)), ap (λ (f : Refusal). f .place) e))
+            inr (
+              c ∙ held-total,
+              (
+                i,
+                k,
+                page-bad i k .0 (entry-why file bases i .0 b),
+                λ j u. page-good j (omega arith) .0 (entry-good file bases j .0 (g j u)),
+                ap (λ (f : Refusal). f .place) e,
+              ),
+            )
 
         back : BadBases hs bases from p → BasesWhy file bases from (refusal fault.badBase p)
         back (inl x) = inl (ap (refusal fault.badBase) (x .1), λ e. x .0 (e ∙ held-total))
         back (inr (c, (i, k, b, g, e))) =
-            inr (c ∙ sym held-total, (i, omega (arith, k, held-total), ap (refusal fault.badBase) e, entry-why file bases i .1 (page-bad i k .1 b), λ j u. entry-good file bases j .1 (page-good j (omega arith) .1 (g j u))))
+            inr (
+              c ∙ sym held-total,
+              (
+                i,
+                omega (arith, k, held-total),
+                ap (refusal fault.badBase) e,
+                entry-why file bases i .1 (page-bad i k .1 b),
+                λ j u. entry-good file bases j .1 (page-good j (omega arith) .1 (g j u)),
+              ),
+            )

@@ -1,4 +1,5 @@
--- A load of a file that is hunks, written out, in the terms of the page: its records, its memory, its targets with their bytes in the file. Assumes nothing.
+-- A load of a file that is hunks, written out, in the terms of the page: its records, its memory, its targets with
+-- their bytes in the file. Assumes nothing.
 use Prim.Native.Nat.{ℕ, suc, _+_, _*_, _-_, _/_, _%_, _≤_}
 use mathlib.Core.Path.{_≡_, refl, sym, ap, _∙_}
 use mathlib.Core.List.{List, [], _∷_, _++_, map, append-assoc, map-append}
@@ -9,16 +10,19 @@ use Rattle.words.specs.Word.{wordsAt, setWord, addAt}
 use Rattle.words.specs.Shift.{Target, shiftAll}
 use Rattle.program.specs.declared.act.Act.{Act}
 use Rattle.program.specs.declared.act.Act.the-variants.{Quiet, Body, Store, Add}
-use Rattle.program.specs.Page.{Hunk, code, stores, bss, joined, hunkWords, written, Each, bodyCount, storedWords, HunkFits, Program, total}
+use Rattle.program.specs.Page.{Hunk, code, stores, bss, joined, hunkWords, written, Each, bodyCount, storedWords}
+use Rattle.program.specs.Page.{HunkFits, Program, total}
 use Rattle.program.specs.Page as page
 use Rattle.program.specs.Header.{totalOf, sizeOf}
 use Rattle.program.specs.Acts.{actsOf, pass}
 use Rattle.program.specs.Cursors.{placeOf}
 use Rattle.program.proofs.Taken.{Sized}
 use Rattle.program.proofs.Pages.{is-total, all-sized}
-use Rattle.loader.specs.Memory.{loadedOf, storeOne, withStored, targets, targetsOf, amountOf, bodiesOf, loadOf, moved, moveOf}
+use Rattle.loader.specs.Memory.{loadedOf, storeOne, withStored, targets, targetsOf, amountOf, bodiesOf, loadOf}
+use Rattle.loader.specs.Memory.{moved, moveOf}
 use Rattle.loader.specs.Table.{recordOne, withRecords, recordsOf}
-use Rattle.loader.specs.Pages.{PageTarget, kindOf, recordNumbers, wordBytes, hunkBytes, imageOf, hunkAt, hunksAt, fileTargets, bare, relocated}
+use Rattle.loader.specs.Pages.{PageTarget, kindOf, recordNumbers, wordBytes, hunkBytes, imageOf, hunkAt}
+use Rattle.loader.specs.Pages.{hunksAt, fileTargets, bare, relocated}
 use Rattle.loader.proofs.PageActs.{plain, storing, adding, pageActs, page-acts}
 
 -- ---- passes
@@ -33,23 +37,31 @@ module _ {X : Type 0} (g : X → Act → X) where
   pass-plain quiet x (Store p w ∷ us) = pass-plain quiet (g x (Store p w)) us
   pass-plain quiet x (Add p k b ∷ us) = pass-plain quiet (g x (Add p k b)) us
 
-  pass-storing : ((x : X) (p w : ℕ) → g x (Store p w) ≡ x) → (x : X) (p i : ℕ) (ws : List ℕ) (l : List Act) → pass g x (storing p i ws l) ≡ pass g x l
+  pass-storing : ((x : X) (p w : ℕ) → g x (Store p w) ≡ x) → (x : X) (p i : ℕ) (ws : List ℕ) (l : List Act)
+      → pass g x (storing p i ws l) ≡ pass g x l
   unfolding pass
   pass-storing still x p i [] l = refl
-  pass-storing still x p i (w ∷ ws) l = ap (λ (y : X). pass g y (storing p (i + 1) ws l)) (still x (p + 4 * i) w) ∙ pass-storing still x p (i + 1) ws l
+  pass-storing still x p i (w ∷ ws) l =
+      ap (λ (y : X). pass g y (storing p (i + 1) ws l)) (still x (p + 4 * i) w) ∙ pass-storing still x p (i + 1) ws l
 
-  pass-adding : ((x : X) (p k b : ℕ) → g x (Add p k b) ≡ x) → (x : X) (xs : List PageTarget) (l : List Act) → pass g x (adding xs l) ≡ pass g x l
+  pass-adding : ((x : X) (p k b : ℕ) → g x (Add p k b) ≡ x) → (x : X) (xs : List PageTarget) (l : List Act)
+      → pass g x (adding xs l) ≡ pass g x l
   unfolding pass
   pass-adding still x [] l = refl
-  pass-adding still x (y ∷ xs) l = ap (λ (z : X). pass g z (adding xs l)) (still x (y .loadedAt) (y .named) (y .byte)) ∙ pass-adding still x xs l
+  pass-adding still x (y ∷ xs) l =
+      ap (λ (z : X). pass g z (adding xs l)) (still x (y .loadedAt) (y .named) (y .byte)) ∙ pass-adding still x xs l
 
 -- ---- four numbers in a row
 
-set-four : (done more : List ℕ) (a b c d k p s y : ℕ) → set (set (set (set (done ++ (a ∷ b ∷ c ∷ d ∷ more)) (length done) k) (suc (length done)) p) (suc (suc (length done))) s) (suc (suc (suc (length done)))) y ≡ done ++ (k ∷ p ∷ s ∷ y ∷ more)
+set-four : (done more : List ℕ) (a b c d k p s y : ℕ)
+    → set (set (set (set (done ++ (a ∷ b ∷ c ∷ d ∷ more)) (length done) k) (suc (length done)) p)
+    (suc (suc (length done))) s) (suc (suc (suc (length done)))) y ≡ done ++ (k ∷ p ∷ s ∷ y ∷ more)
 set-four [] more a b c d k p s y = refl
 set-four (x ∷ done) more a b c d k p s y = ap (λ (l : List ℕ). x ∷ l) (set-four done more a b c d k p s y)
 
-four-at : (done more : List ℕ) (a b c d k p s y n : ℕ) → length done ≡ n → set (set (set (set (done ++ (a ∷ b ∷ c ∷ d ∷ more)) n k) (n + 1) p) (n + 2) s) (n + 3) y ≡ done ++ (k ∷ p ∷ s ∷ y ∷ more)
+four-at : (done more : List ℕ) (a b c d k p s y n : ℕ) → length done ≡ n
+    → set (set (set (set (done ++ (a ∷ b ∷ c ∷ d ∷ more)) n k) (n + 1) p) (n + 2) s) (n + 3) y ≡ done
+    ++ (k ∷ p ∷ s ∷ y ∷ more)
 four-at done more a b c d k p s y n e =
     let e1 : n + 1 ≡ suc (length done) = omega arith in
     let e2 : n + 2 ≡ suc (suc (length done)) = omega arith in
@@ -57,15 +69,21 @@ four-at done more a b c d k p s y n e =
     rw (e1, e2, e3, ← e) (set-four done more a b c d k p s y)
 
 four-more : (n : ℕ) (more : List ℕ) → replicate (4 * suc n) 0 ++ more ≡ 0 ∷ 0 ∷ 0 ∷ 0 ∷ (replicate (4 * n) 0 ++ more)
-four-more n more = let z : 4 * suc n ≡ suc (suc (suc (suc (4 * n)))) = omega arith in ap (λ (k : ℕ). replicate k 0 ++ more) z
+four-more n more =
+    let z : 4 * suc n ≡ suc (suc (suc (suc (4 * n)))) = omega arith in ap (λ (k : ℕ). replicate k 0 ++ more) z
 
-zeros-three : (a b c n : ℕ) (more : List ℕ) → n ≡ a + (b + c) → replicate n 0 ++ more ≡ replicate a 0 ++ (replicate b 0 ++ (replicate c 0 ++ more))
-zeros-three a b c n more e = rw (e, ← replicate-append-replicate {A = ℕ} a (b + c) 0, ← replicate-append-replicate {A = ℕ} b c 0) (simp append-assoc)
+zeros-three : (a b c n : ℕ) (more : List ℕ) → n ≡ a + (b + c)
+    → replicate n 0 ++ more ≡ replicate a 0 ++ (replicate b 0 ++ (replicate c 0 ++ more))
+zeros-three a b c n more e =
+    rw (e, ← replicate-append-replicate {A = ℕ} a (b + c) 0, ← replicate-append-replicate {A = ℕ} b c 0)
+    (simp append-assoc)
 
 -- ---- records
 
 module _ (file bases : List ℕ) (t : ℕ) where
-  records-on : (hs : List Hunk) (h p at : ℕ) (done more : List ℕ) → Sized t (sizeOf file) h hs → length done ≡ 4 * h → withRecords file bases (done ++ (replicate (4 * length hs) 0 ++ more)) (pageActs h p at hs) ≡ done ++ (recordNumbers p h hs bases ++ more)
+  records-on : (hs : List Hunk) (h p at : ℕ) (done more : List ℕ) → Sized t (sizeOf file) h hs → length done ≡ 4 * h
+      → withRecords file bases (done ++ (replicate (4 * length hs) 0 ++ more)) (pageActs h p at hs) ≡ done
+      ++ (recordNumbers p h hs bases ++ more)
   unfolding pass
   records-on [] h p at done more f e = refl
   records-on (x ∷ xs) h p at done more f e =
@@ -77,7 +95,8 @@ module _ (file bases : List ℕ) (t : ℕ) where
       ap (λ (u : List ℕ). withRecords file bases (done ++ u) (pageActs h p at (x ∷ xs))) (four-more (length xs) more)
       ∙ pass-storing (recordOne file bases) (λ u a b. refl) _ p 0 (storedWords (x .body)) (adding (hunkAt h p at x) q)
       ∙ pass-adding (recordOne file bases) (λ u a b c. refl) _ (hunkAt h p at x) q
-      ∙ ap (λ (u : List ℕ). withRecords file bases u q) (four-at done more′ 0 0 0 0 (kindOf (x .body)) p (sizeOf file h) (amountOf bases h) (4 * h) e)
+      ∙ ap (λ (u : List ℕ). withRecords file bases u q)
+      (four-at done more′ 0 0 0 0 (kindOf (x .body)) p (sizeOf file h) (amountOf bases h) (4 * h) e)
       ∙ rw (← f .0) (rw (append-assoc done four more′, append-assoc done four) at r)
 
 pub length-numbers : (p i : ℕ) (hs : List Hunk) (bases : List ℕ) → length (recordNumbers p i hs bases) ≡ 4 * length hs
@@ -90,7 +109,9 @@ length-words : (ws : List ℕ) → length (joined wordBytes ws) ≡ 4 * length w
 length-words [] = refl
 length-words (w ∷ ws) = omega (arith, length-words ws)
 
-stores-on : (p i : ℕ) (ws done more : List ℕ) (l : List Act) → length done ≡ p + 4 * i → withStored (done ++ (replicate (4 * length ws) 0 ++ more)) (storing p i ws l) ≡ withStored (done ++ (joined wordBytes ws ++ more)) l
+stores-on : (p i : ℕ) (ws done more : List ℕ) (l : List Act) → length done ≡ p + 4 * i
+    → withStored (done ++ (replicate (4 * length ws) 0 ++ more)) (storing p i ws l) ≡ withStored
+    (done ++ (joined wordBytes ws ++ more)) l
 unfolding pass setWord
 stores-on p i [] done more l e = refl
 stores-on p i (w ∷ ws) done more l e =
@@ -110,13 +131,23 @@ length-hunk : (t : ℕ) (x : Hunk) → HunkFits t x → length (hunkBytes x) ≡
 length-hunk t x f =
     let ws : List ℕ = storedWords (x .body) in
     let n : ℕ = 4 * (x .size - length ws) in
-    omega (arith, stored-fit (x .body), f .body, length-append (joined wordBytes ws) (replicate n 0), length-words ws, length-replicate {A = ℕ} n 0)
+    omega (
+      arith,
+      stored-fit (x .body),
+      f .body,
+      length-append (joined wordBytes ws) (replicate n 0),
+      length-words ws,
+      length-replicate {A = ℕ} n 0,
+    )
 
 pub length-image : (t : ℕ) (hs : List Hunk) → Each (HunkFits t) hs → length (imageOf hs) ≡ 4 * total hs
 length-image t [] f = refl
-length-image t (x ∷ xs) f = omega (arith, length-append (hunkBytes x) (imageOf xs), length-hunk t x (f .0), length-image t xs (f .1))
+length-image t (x ∷ xs) f =
+    omega (arith, length-append (hunkBytes x) (imageOf xs), length-hunk t x (f .0), length-image t xs (f .1))
 
-bodies-on : (t : ℕ) (size : ℕ → ℕ) (hs : List Hunk) (h p at : ℕ) (done more : List ℕ) → Sized t size h hs → length done ≡ p → withStored (done ++ (replicate (4 * total hs) 0 ++ more)) (pageActs h p at hs) ≡ done ++ (imageOf hs ++ more)
+bodies-on : (t : ℕ) (size : ℕ → ℕ) (hs : List Hunk) (h p at : ℕ) (done more : List ℕ) → Sized t size h hs
+    → length done ≡ p
+    → withStored (done ++ (replicate (4 * total hs) 0 ++ more)) (pageActs h p at hs) ≡ done ++ (imageOf hs ++ more)
 unfolding pass
 bodies-on t size [] h p at done more f e = refl
 bodies-on t size (x ∷ xs) h p at done more f e =
@@ -128,14 +159,19 @@ bodies-on t size (x ∷ xs) h p at done more f e =
     let room = f .1 .body in
     let z : 4 * (x .size + total xs) ≡ 4 * length ws + (4 * b + 4 * total xs) = omega arith in
     let a : length done ≡ p + 4 * 0 = omega arith in
-    let k : length (done ++ hunkBytes x) ≡ p + 4 * x .size = omega (arith, length-append done (hunkBytes x), length-hunk t x (f .1)) in
-    let r = bodies-on t size xs (h + 1) (p + 4 * x .size) (at + 4 * length (hunkWords x)) (done ++ hunkBytes x) more (f .2) k in
-    ap (λ (u : List ℕ). withStored (done ++ u) (pageActs h p at (x ∷ xs))) (zeros-three (4 * length ws) (4 * b) (4 * total xs) _ more z)
+    let k : length (done ++ hunkBytes x) ≡ p + 4 * x .size =
+    omega (arith, length-append done (hunkBytes x), length-hunk t x (f .1)) in
+    let r =
+    bodies-on t size xs (h + 1) (p + 4 * x .size) (at + 4 * length (hunkWords x)) (done ++ hunkBytes x) more
+    (f .2) k in
+    ap (λ (u : List ℕ). withStored (done ++ u) (pageActs h p at (x ∷ xs)))
+    (zeros-three (4 * length ws) (4 * b) (4 * total xs) _ more z)
     ∙ stores-on p 0 ws done (replicate (4 * b) 0 ++ more′) (adding (hunkAt h p at x) q) a
     ∙ pass-adding storeOne (λ u c d b. refl) _ (hunkAt h p at x) q
     ∙ simp append-assoc (simp append-assoc at r)
 
-place-total : (t : ℕ) (size : ℕ → ℕ) (hs : List Hunk) (h : ℕ) → Sized t size h hs → placeOf size t ≡ placeOf size h + 4 * total hs
+place-total : (t : ℕ) (size : ℕ → ℕ) (hs : List Hunk) (h : ℕ) → Sized t size h hs
+    → placeOf size t ≡ placeOf size h + 4 * total hs
 unfolding placeOf
 place-total t size [] h f = let e : h ≡ t = f in ap (placeOf size) (sym e) ∙ omega arith
 place-total t size (x ∷ xs) h f =
@@ -151,7 +187,8 @@ targets-plain [] = refl
 targets-plain (Quiet ∷ us) = targets-plain us
 targets-plain (Body h p k ∷ us) = targets-plain us
 targets-plain (Store p w ∷ us) = targets-plain us
-targets-plain (Add p k b ∷ us) = ap (λ (l : List Target). record { loadedAt = p; key = k; byte = b } ∷ l) (targets-plain us)
+targets-plain (Add p k b ∷ us) =
+    ap (λ (l : List Target). record { loadedAt = p; key = k; byte = b } ∷ l) (targets-plain us)
 
 targets-storing : (p i : ℕ) (ws : List ℕ) (l : List Act) → targets (storing p i ws l) ≡ targets l
 unfolding targets
@@ -176,18 +213,22 @@ targets-page h p at (x ∷ xs) =
 
 -- ---- of a file
 
-module _ (file : List ℕ) (hs : List Hunk) (pr : Program hs) (whole : length file % 4 ≡ 0) (e : wordsAt file 0 (length file / 4) ≡ written hs) where
+module _ (file : List ℕ) (hs : List Hunk) (pr : Program hs) (whole : length file % 4 ≡ 0)
+    (e : wordsAt file 0 (length file / 4) ≡ written hs) where
   -- the bytes that the hunks take
   pub page-loaded : loadedOf file ≡ 4 * total hs
   unfolding placeOf
   page-loaded = omega (arith, place-total (totalOf file) (sizeOf file) hs 0 (all-sized file hs pr whole e))
 
-  records-room : (bases : List ℕ) (n : ℕ) → 4 * length hs ≤ n → take (4 * totalOf file) (withRecords file bases (replicate n 0) (actsOf file)) ≡ recordNumbers 0 0 hs bases
+  records-room : (bases : List ℕ) (n : ℕ) → 4 * length hs ≤ n
+      → take (4 * totalOf file) (withRecords file bases (replicate n 0) (actsOf file)) ≡ recordNumbers 0 0 hs bases
   records-room bases n l =
       let k : ℕ = 4 * length hs in
       let z : n ≡ k + (n - k) = omega arith in
-      let u : replicate {A = ℕ} n 0 ≡ replicate k 0 ++ replicate (n - k) 0 = ap (λ (j : ℕ). replicate {A = ℕ} j 0) z ∙ sym (replicate-append-replicate {A = ℕ} k (n - k) 0) in
-      let q : length (recordNumbers 0 0 hs bases) ≡ 4 * totalOf file = omega (arith, length-numbers 0 0 hs bases, is-total file hs pr whole e) in
+      let u : replicate {A = ℕ} n 0 ≡ replicate k 0 ++ replicate (n - k) 0 =
+      ap (λ (j : ℕ). replicate {A = ℕ} j 0) z ∙ sym (replicate-append-replicate {A = ℕ} k (n - k) 0) in
+      let q : length (recordNumbers 0 0 hs bases) ≡ 4 * totalOf file =
+      omega (arith, length-numbers 0 0 hs bases, is-total file hs pr whole e) in
       ap (take (4 * totalOf file))
       (pass-plain (recordOne file bases) (λ t. refl) (replicate n 0) (actsOf file)
       ∙ ap (withRecords file bases (replicate n 0)) (page-acts file hs pr whole e)
@@ -209,18 +250,22 @@ module _ (file : List ℕ) (hs : List Hunk) (pr : Program hs) (whole : length fi
       ∙ bodies-on (totalOf file) (sizeOf file) hs 0 0 _ [] (drop (4 * total hs) m) (all-sized file hs pr whole e) refl)
 
   -- loaded memory
-  pub page-load : (bases m : List ℕ) → loadOf file bases m ≡ shiftAll (imageOf hs ++ drop (4 * total hs) m) (targetsOf file) (amountOf bases)
+  pub page-load : (bases m : List ℕ)
+      → loadOf file bases m ≡ shiftAll (imageOf hs ++ drop (4 * total hs) m) (targetsOf file) (amountOf bases)
   page-load bases m = ap (λ (u : List ℕ). shiftAll u (targetsOf file) (amountOf bases)) (page-bodies m)
 
   -- the targets: byte in memory, hunk, and byte in the file
   pub page-targets : targetsOf file ≡ map bare (fileTargets hs)
-  page-targets = targets-plain (actsOf file) ∙ ap targets (page-acts file hs pr whole e) ∙ targets-page 0 0 (20 + 4 * length hs) hs
+  page-targets =
+      targets-plain (actsOf file) ∙ ap targets (page-acts file hs pr whole e)
+      ∙ targets-page 0 0 (20 + 4 * length hs) hs
 
   -- a load and a move, by the page alone
   page-relocated : (m : List ℕ) (f : ℕ → ℕ) → shiftAll m (targetsOf file) f ≡ relocated m (fileTargets hs) f
   page-relocated m f = ap (λ (ts : List Target). shiftAll m ts f) page-targets
 
-  pub page-loads : (bases m : List ℕ) → loadOf file bases m ≡ relocated (imageOf hs ++ drop (4 * total hs) m) (fileTargets hs) (amountOf bases)
+  pub page-loads : (bases m : List ℕ)
+      → loadOf file bases m ≡ relocated (imageOf hs ++ drop (4 * total hs) m) (fileTargets hs) (amountOf bases)
   page-loads bases m = page-load bases m ∙ page-relocated (imageOf hs ++ drop (4 * total hs) m) (amountOf bases)
 
   pub page-moves : (old new m : List ℕ) → moveOf file old new m ≡ relocated m (fileTargets hs) (moved old new)

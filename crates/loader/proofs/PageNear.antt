@@ -1,4 +1,5 @@
--- 42 in the terms of the page: it is given at the first target that is near an earlier one of its hunk, at its byte in the file. Assumes nothing.
+-- 42 in the terms of the page: it is given at the first target that is near an earlier one of its hunk, at its byte
+-- in the file. Assumes nothing.
 use Prim.Native.Nat.{ℕ, _+_, _<_}
 use mathlib.Core.Path.{_≡_, refl, sym, ap, ap₂, subst, _∙_}
 use mathlib.Core.Logic.{_↔_, inl, inr}
@@ -34,7 +35,8 @@ record Cut (ts : List PageTarget) (us : List Target) (t : Target) (vs : List Tar
   firsts : map bare before ≡ us
   this : bare target ≡ t
 
-cut-more : (x : PageTarget) (ts : List PageTarget) (u : Target) (us : List Target) (t : Target) (vs : List Target) → bare x ≡ u → Cut ts us t vs → Cut (x ∷ ts) (u ∷ us) t vs
+cut-more : (x : PageTarget) (ts : List PageTarget) (u : Target) (us : List Target) (t : Target) (vs : List Target)
+    → bare x ≡ u → Cut ts us t vs → Cut (x ∷ ts) (u ∷ us) t vs
 cut-more x ts u us t vs q c =
     record {
       before = x ∷ c .before;
@@ -45,7 +47,8 @@ cut-more x ts u us t vs q c =
       this = c .this;
     }
 
-cut-at : (ts : List PageTarget) (us : List Target) (t : Target) (vs : List Target) → map bare ts ≡ us ++ (t ∷ vs) → Cut ts us t vs
+cut-at : (ts : List PageTarget) (us : List Target) (t : Target) (vs : List Target) → map bare ts ≡ us ++ (t ∷ vs)
+    → Cut ts us t vs
 cut-at [] [] t vs e = impossible cc
 cut-at [] (u ∷ us) t vs e = impossible cc
 cut-at (x ∷ ts) [] t vs e =
@@ -101,7 +104,8 @@ module _ (file : List ℕ) (hs : List Hunk) (held : Holds file hs) where
   spaced-apart [] a s = tt
   spaced-apart (x ∷ ts) a s = (all ts (a .1) (s .0), spaced-apart ts (a .1) (s .1))
     where
-      all : (us : List PageTarget) → Each (Named file hs) us → Each (λ y. Near x y → ⊥) us → FarAll (x .loadedAt) (map bare us)
+      all : (us : List PageTarget) → Each (Named file hs) us → Each (λ y. Near x y → ⊥) us
+          → FarAll (x .loadedAt) (map bare us)
       all [] b f = tt
       all (y ∷ us) b f = (far x y (a .0) (b .0) (f .0), all us (b .1) (f .1))
 
@@ -118,13 +122,16 @@ module _ (file : List ℕ) (hs : List Hunk) (held : Holds file hs) where
     λ s. apart-exactly (targetsOf file) .1 (subst Apart (sym triples) (spaced-apart (fileTargets hs) named s)),
   )
 
-  near-there : (f : Refusal) → ClashWhy (targetsOf file) f → (p : ℕ) × (f ≡ refusal fault.nearTargets p) × FirstNear hs p
+  near-there : (f : Refusal) → ClashWhy (targetsOf file) f
+      → (p : ℕ) × (f ≡ refusal fault.nearTargets p) × FirstNear hs p
   near-there f r =
       let c = cut-at (fileTargets hs) (r .before) (r .target) (r .after) (sym triples ∙ r .split) in
       let o = bare-member (r .other) (c .before) (subst (λ l. r .other ∈ l) (sym (c .firsts)) (r .among)) in
       let all = subst (Each (Named file hs)) (c .split) named in
       let a = each-right (Named file hs) (c .before) (c .target ∷ c .after) all .0 in
-      let b = each-member (Named file hs) (o .0) (c .before) (each-left (Named file hs) (c .before) (c .target ∷ c .after) all) (o .1) in
+      let b =
+      each-member (Named file hs) (o .0) (c .before)
+      (each-left (Named file hs) (c .before) (c .target ∷ c .after) all) (o .1) in
       let pt = ap (λ (t : Target). t .loadedAt) (c .this) in
       let po = ap (λ (t : Target). t .loadedAt) (o .2) in
       let u : c .target .loadedAt < o .0 .loadedAt + 4 = omega (arith, pt, po, r .below) in
@@ -162,5 +169,9 @@ module _ (file : List ℕ) (hs : List Hunk) (held : Holds file hs) where
       }
 
   -- 42 is given exactly at the first target that is near an earlier one of its hunk, at its byte in the file.
-  pub near-exactly : (f : Refusal) → (clashOf file ≡ Failed f) ↔ ((p : ℕ) × (f ≡ refusal fault.nearTargets p) × FirstNear hs p)
-  near-exactly f = (λ h. near-there f (clash-why (targetsOf file) f .0 h), λ h. clash-why (targetsOf file) f .1 (near-back f (h .0) (h .1) (h .2)))
+  pub near-exactly : (f : Refusal)
+      → (clashOf file ≡ Failed f) ↔ ((p : ℕ) × (f ≡ refusal fault.nearTargets p) × FirstNear hs p)
+  near-exactly f = (
+    λ h. near-there f (clash-why (targetsOf file) f .0 h),
+    λ h. clash-why (targetsOf file) f .1 (near-back f (h .0) (h .1) (h .2)),
+  )

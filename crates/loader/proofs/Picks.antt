@@ -8,7 +8,8 @@ use Rattle.answers.specs.declared.Tested.{Tested}
 use Rattle.answers.specs.declared.Tested.the-variants.{Failed}
 use Rattle.loader.proofs.Marking.{no-bool}
 
-pub pick-failed : (b : Bool) (g : Refusal) (h : Tested) (f : Refusal) → pick b (Failed g) h ≡ Failed f → ((b ≡ true) × (f ≡ g)) ⊎ ((b ≡ false) × (h ≡ Failed f))
+pub pick-failed : (b : Bool) (g : Refusal) (h : Tested) (f : Refusal) → pick b (Failed g) h ≡ Failed f
+    → ((b ≡ true) × (f ≡ g)) ⊎ ((b ≡ false) × (h ≡ Failed f))
 unfolding pick
 pick-failed true g h f e = let q : f ≡ g = cc in inl (refl, q)
 pick-failed false g h f e = inr (refl, e)
@@ -45,7 +46,8 @@ unfolding pick
 pick-any true f h e = refl
 pick-any false f h e = e
 
-pub pick-else : (b : Bool) (h : Tested) (g f : Refusal) → pick b h (Failed g) ≡ Failed f → ((b ≡ true) × (h ≡ Failed f)) ⊎ ((b ≡ false) × (f ≡ g))
+pub pick-else : (b : Bool) (h : Tested) (g f : Refusal) → pick b h (Failed g) ≡ Failed f
+    → ((b ≡ true) × (h ≡ Failed f)) ⊎ ((b ≡ false) × (f ≡ g))
 unfolding pick
 pick-else true h g f e = inl (refl, e)
 pick-else false h g f e = let q : f ≡ g = cc in inr (refl, q)

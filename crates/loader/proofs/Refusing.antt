@@ -16,7 +16,8 @@ use Rattle.loader.specs.Calls.{roomFault, also, lastTests}
 use Rattle.loader.specs.Verdicts.{Accepts}
 use Rattle.loader.proofs.Answering.{also-so, also-both}
 
-pub also-refused : (a : Answer) (h : Tested) (f : Refusal) → also a h ≡ Refused f → (a ≡ Refused f) ⊎ (((t : ℕ) × (n : ℕ) × (a ≡ Accepted t n)) × (h ≡ Failed f))
+pub also-refused : (a : Answer) (h : Tested) (f : Refusal) → also a h ≡ Refused f
+    → (a ≡ Refused f) ⊎ (((t : ℕ) × (n : ℕ) × (a ≡ Accepted t n)) × (h ≡ Failed f))
 also-refused (Accepted t n) Passed f e = not-refused e
 also-refused (Accepted t n) (Failed r) f e = let q : r ≡ f = cc in inr ((t, n, refl), ap Failed q)
 also-refused (Refused r) h f e = inl e
@@ -24,7 +25,8 @@ also-refused (Refused r) h f e = inl e
 pub also-stays : (a : Answer) (h : Tested) (f : Refusal) → a ≡ Refused f → also a h ≡ Refused f
 also-stays a h f e = rw e
 
-pub also-fails : (a : Answer) (h : Tested) (t n : ℕ) (f : Refusal) → a ≡ Accepted t n → h ≡ Failed f → also a h ≡ Refused f
+pub also-fails : (a : Answer) (h : Tested) (t n : ℕ) (f : Refusal) → a ≡ Accepted t n → h ≡ Failed f
+    → also a h ≡ Refused f
 also-fails a h t n f x y = rw (x, y)
 
 pub accepts-both : (a : Answer) (h : Tested) → Accepts a → h ≡ Passed → Accepts (also a h)
@@ -41,11 +43,14 @@ module _ (file : List ℕ) (m r w : ℕ) (f : Refusal) where
   pub last-why : (a : Answer) → lastTests file a m r w ≡ Refused f → LastWhy file a m r w f
   last-why a h = go (also-refused (also a (roomFault (totalOf file) (loadedOf file) m r w)) (clashOf file) f h)
     where
-      two : (a ≡ Refused f) ⊎ (Accepts a × (roomFault (totalOf file) (loadedOf file) m r w ≡ Failed f)) → LastWhy file a m r w f
+      two : (a ≡ Refused f) ⊎ (Accepts a × (roomFault (totalOf file) (loadedOf file) m r w ≡ Failed f))
+          → LastWhy file a m r w f
       two (inl x) = inl x
       two (inr y) = inr (inl y)
 
-      go : (also a (roomFault (totalOf file) (loadedOf file) m r w) ≡ Refused f) ⊎ (Accepts (also a (roomFault (totalOf file) (loadedOf file) m r w)) × (clashOf file ≡ Failed f)) → LastWhy file a m r w f
+      go : (also a (roomFault (totalOf file) (loadedOf file) m r w) ≡ Refused f)
+          ⊎ (Accepts (also a (roomFault (totalOf file) (loadedOf file) m r w)) × (clashOf file ≡ Failed f))
+          → LastWhy file a m r w f
       go (inl x) = two (also-refused a (roomFault (totalOf file) (loadedOf file) m r w) f x)
       go (inr y) =
           let s = also-so a (roomFault (totalOf file) (loadedOf file) m r w) (y .0 .0) (y .0 .1) (y .0 .2) in

@@ -18,15 +18,21 @@ module _ (t n m r w : ℕ) (f : Refusal) where
   room-there : roomFault t n m r w ≡ Failed f → (f ≡ refusal fault.shortRoom 0) × ((m < n) ⊎ (r < t) ⊎ (w < n))
   room-there h = one (pick-failed (ltb m n) (refusal fault.shortRoom 0) _ f h)
     where
-      three : ((ltb w n ≡ true) × (f ≡ refusal fault.shortRoom 0)) ⊎ ((ltb w n ≡ false) × (Passed ≡ Failed f)) → (f ≡ refusal fault.shortRoom 0) × ((m < n) ⊎ (r < t) ⊎ (w < n))
+      three : ((ltb w n ≡ true) × (f ≡ refusal fault.shortRoom 0)) ⊎ ((ltb w n ≡ false) × (Passed ≡ Failed f))
+          → (f ≡ refusal fault.shortRoom 0) × ((m < n) ⊎ (r < t) ⊎ (w < n))
       three (inl x) = (x .1, inr (inr (ltb-true w n (x .0))))
       three (inr x) = not-failed (x .1)
 
-      two : ((ltb r t ≡ true) × (f ≡ refusal fault.shortRoom 0)) ⊎ ((ltb r t ≡ false) × (pick (ltb w n) (Failed (refusal fault.shortRoom 0)) Passed ≡ Failed f)) → (f ≡ refusal fault.shortRoom 0) × ((m < n) ⊎ (r < t) ⊎ (w < n))
+      two : ((ltb r t ≡ true) × (f ≡ refusal fault.shortRoom 0))
+          ⊎ ((ltb r t ≡ false) × (pick (ltb w n) (Failed (refusal fault.shortRoom 0)) Passed ≡ Failed f))
+          → (f ≡ refusal fault.shortRoom 0) × ((m < n) ⊎ (r < t) ⊎ (w < n))
       two (inl x) = (x .1, inr (inl (ltb-true r t (x .0))))
       two (inr x) = three (pick-failed (ltb w n) (refusal fault.shortRoom 0) Passed f (x .1))
 
-      one : ((ltb m n ≡ true) × (f ≡ refusal fault.shortRoom 0)) ⊎ ((ltb m n ≡ false) × (pick (ltb r t) (Failed (refusal fault.shortRoom 0)) (pick (ltb w n) (Failed (refusal fault.shortRoom 0)) Passed) ≡ Failed f)) → (f ≡ refusal fault.shortRoom 0) × ((m < n) ⊎ (r < t) ⊎ (w < n))
+      one : ((ltb m n ≡ true) × (f ≡ refusal fault.shortRoom 0))
+          ⊎ ((ltb m n ≡ false) × (pick (ltb r t) (Failed (refusal fault.shortRoom 0))
+          (pick (ltb w n) (Failed (refusal fault.shortRoom 0)) Passed) ≡ Failed f))
+          → (f ≡ refusal fault.shortRoom 0) × ((m < n) ⊎ (r < t) ⊎ (w < n))
       one (inl x) = (x .1, inl (ltb-true m n (x .0)))
       one (inr x) = two (pick-failed (ltb r t) (refusal fault.shortRoom 0) _ f (x .1))
 

@@ -68,7 +68,8 @@ fn also_test(a: Answer, h: Tested) -> Answer
 
 // Room and near targets, after the other tests.
 fn last_tests(file: &[u8], a: Answer, memory: usize, records: usize, work: &mut [u8]) -> Answer
-    requires { ⌜ ((t : ℕ) → (n : ℕ) → a ≡ Answer.Accepted t n → AcceptedFile (now file) t n) × ((k : ℕ) → getD (now work) k 0 ≡ 0) ⌝ }
+    requires { ⌜ ((t : ℕ) → (n : ℕ) → a ≡ Answer.Accepted t n → AcceptedFile (now file) t n)
+        × ((k : ℕ) → getD (now work) k 0 ≡ 0) ⌝ }
     ensures { λ r. ⌜ r ≡ lastTests (now (file .entry)) a memory records (length (now (work .entry))) ⌝ }
 {
     let Answer::Accepted(t, n) = a else {
@@ -83,7 +84,8 @@ fn last_tests(file: &[u8], a: Answer, memory: usize, records: usize, work: &mut 
 
 fn load_answer(file: &[u8], bases: &[u32], memory: usize, records: usize, work: &mut [u8]) -> Answer
     requires { ⌜ ((k : ℕ) → getD (now work) k 0 ≡ 0) ⌝ }
-    ensures { λ r. ⌜ r ≡ loadAnswer (now (file .entry)) (now (bases .entry)) memory records (length (now (work .entry))) ⌝ }
+    ensures { λ r. ⌜ r ≡ loadAnswer (now (file .entry)) (now (bases .entry)) memory records
+        (length (now (work .entry))) ⌝ }
 {
     let v = check(file);
     let Answer::Accepted(_, _) = v else {
@@ -102,7 +104,8 @@ fn move_answer(
     work: &mut [u8],
 ) -> Answer
     requires { ⌜ ((k : ℕ) → getD (now work) k 0 ≡ 0) ⌝ }
-    ensures { λ r. ⌜ r ≡ moveAnswer (now (file .entry)) (now (old .entry)) (now (new .entry)) memory records (length (now (work .entry))) ⌝ }
+    ensures { λ r. ⌜ r ≡ moveAnswer (now (file .entry)) (now (old .entry)) (now (new .entry)) memory records
+        (length (now (work .entry))) ⌝ }
 {
     let v = check(file);
     let Answer::Accepted(_, _) = v else {
@@ -116,7 +119,8 @@ fn move_answer(
 // New minus old of each entry, modulo 2^32.
 fn differences(old: &[u32], new: &[u32], amounts: &mut [u32])
     requires { ⌜ (length (now new) ≤ length (now old)) × (length (now new) ≤ length (now amounts)) ⌝ }
-    ensures { λ _. ⌜ ((k : ℕ) → k < length (now (new .entry)) → amountOf (now (amounts .exit)) k ≡ moved (now (old .entry)) (now (new .entry)) k) ⌝ }
+    ensures { λ _. ⌜ ((k : ℕ) → k < length (now (new .entry))
+        → amountOf (now (amounts .exit)) k ≡ moved (now (old .entry)) (now (new .entry)) k) ⌝ }
 {
     let mut i: usize = 0;
     while i < new.len() {
@@ -145,7 +149,8 @@ fn load_verdict(
     records: usize,
     work: &mut [u8],
 ) -> Answer
-    ensures { λ r. ⌜ Cleanly (loadAnswer (now (file .entry)) (now (bases .entry)) memory records (length (now (work .entry)))) (length (now (work .entry))) r (now (work .exit)) ⌝ }
+    ensures { λ r. ⌜ Cleanly (loadAnswer (now (file .entry)) (now (bases .entry)) memory records
+        (length (now (work .entry)))) (length (now (work .entry))) r (now (work .exit)) ⌝ }
 {
     wipe(work);
     let a = load_answer(file, bases, memory, records, work);
@@ -162,7 +167,8 @@ fn move_verdict(
     records: usize,
     work: &mut [u8],
 ) -> Answer
-    ensures { λ r. ⌜ Cleanly (moveAnswer (now (file .entry)) (now (old .entry)) (now (new .entry)) memory records (length (now (work .entry)))) (length (now (work .entry))) r (now (work .exit)) ⌝ }
+    ensures { λ r. ⌜ Cleanly (moveAnswer (now (file .entry)) (now (old .entry)) (now (new .entry)) memory records
+        (length (now (work .entry)))) (length (now (work .entry))) r (now (work .exit)) ⌝ }
 {
     wipe(work);
     let a = move_answer(file, old, new, memory, records, work);
@@ -174,7 +180,9 @@ fn move_verdict(
 fn load_accepted(file: &[u8], bases: &[u32], n: usize, memory: &mut [u8], numbers: &mut [u32])
     requires { ⌜ (n ≡ loadedOf (now file)) × (Roomy (now file) (length (now bases)) (length (now memory)))
         × (length (now numbers) ≡ tableRoom) ⌝ }
-    ensures { λ _. ⌜ Writes (loadOf (now (file .entry)) (now (bases .entry)) (now (memory .entry))) (withRecords (now (file .entry)) (now (bases .entry)) (now (numbers .entry)) (actsOf (now (file .entry)))) (now (memory .exit)) (now (numbers .exit)) ⌝ }
+    ensures { λ _. ⌜ Writes (loadOf (now (file .entry)) (now (bases .entry)) (now (memory .entry)))
+        (withRecords (now (file .entry)) (now (bases .entry)) (now (numbers .entry)) (actsOf (now (file .entry))))
+        (now (memory .exit)) (now (numbers .exit)) ⌝ }
 {
     clear(memory, n);
     store_all(file, memory);
@@ -186,7 +194,9 @@ fn load_accepted(file: &[u8], bases: &[u32], n: usize, memory: &mut [u8], number
 fn move_accepted(file: &[u8], old: &[u32], new: &[u32], memory: &mut [u8], numbers: &mut [u32])
     requires { ⌜ (length (now old) ≡ length (now new)) × (Roomy (now file) (length (now new)) (length (now memory)))
         × (length (now numbers) ≡ tableRoom) ⌝ }
-    ensures { λ _. ⌜ Writes (moveOf (now (file .entry)) (now (old .entry)) (now (new .entry)) (now (memory .entry))) (withRecords (now (file .entry)) (now (new .entry)) (now (numbers .entry)) (actsOf (now (file .entry)))) (now (memory .exit)) (now (numbers .exit)) ⌝ }
+    ensures { λ _. ⌜ Writes (moveOf (now (file .entry)) (now (old .entry)) (now (new .entry)) (now (memory .entry)))
+        (withRecords (now (file .entry)) (now (new .entry)) (now (numbers .entry)) (actsOf (now (file .entry))))
+        (now (memory .exit)) (now (numbers .exit)) ⌝ }
 {
     let mut amounts = [0u32; 64];
     differences(old, new, &mut amounts);
@@ -202,7 +212,8 @@ pub fn load_core(
     records: usize,
     work: &mut [u8],
 ) -> Outcome
-    ensures { λ r. ⌜ LoadsCore (now (file .entry)) (now (bases .entry)) (now (memory .entry)) (now (work .entry)) records r (now (memory .exit)) (now (work .exit)) ⌝ }
+    ensures { λ r. ⌜ LoadsCore (now (file .entry)) (now (bases .entry)) (now (memory .entry)) (now (work .entry))
+        records r (now (memory .exit)) (now (work .exit)) ⌝ }
 {
     let mut numbers = [0u32; 256];
     let a = load_verdict(file, bases, memory.len(), records, work);
@@ -224,7 +235,8 @@ pub fn move_core(
     records: usize,
     work: &mut [u8],
 ) -> Outcome
-    ensures { λ r. ⌜ MovesCore (now (file .entry)) (now (old .entry)) (now (new .entry)) (now (memory .entry)) (now (work .entry)) records r (now (memory .exit)) (now (work .exit)) ⌝ }
+    ensures { λ r. ⌜ MovesCore (now (file .entry)) (now (old .entry)) (now (new .entry)) (now (memory .entry))
+        (now (work .entry)) records r (now (memory .exit)) (now (work .exit)) ⌝ }
 {
     let mut numbers = [0u32; 256];
     let a = move_verdict(file, old, new, memory.len(), records, work);
@@ -257,7 +269,8 @@ pub fn load(
     table: &mut [u32],
     work: &mut [u8],
 ) -> Answer
-    ensures { λ r. ⌜ Loads (now (file .entry)) (now (bases .entry)) (now (memory .entry)) (now (table .entry)) (now (work .entry)) r (now (memory .exit)) (now (table .exit)) (now (work .exit)) ⌝ }
+    ensures { λ r. ⌜ Loads (now (file .entry)) (now (bases .entry)) (now (memory .entry)) (now (table .entry))
+        (now (work .entry)) r (now (memory .exit)) (now (table .exit)) (now (work .exit)) ⌝ }
 {
     let o = load_core(file, bases, memory, table.len() / 4, work);
     fill(o, table);
@@ -273,7 +286,8 @@ pub fn move_program(
     table: &mut [u32],
     work: &mut [u8],
 ) -> Answer
-    ensures { λ r. ⌜ Moves (now (file .entry)) (now (old .entry)) (now (new .entry)) (now (memory .entry)) (now (table .entry)) (now (work .entry)) r (now (memory .exit)) (now (table .exit)) (now (work .exit)) ⌝ }
+    ensures { λ r. ⌜ Moves (now (file .entry)) (now (old .entry)) (now (new .entry)) (now (memory .entry))
+        (now (table .entry)) (now (work .entry)) r (now (memory .exit)) (now (table .exit)) (now (work .exit)) ⌝ }
 {
     let o = move_core(file, old, new, memory, table.len() / 4, work);
     fill(o, table);

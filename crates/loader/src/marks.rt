@@ -47,7 +47,8 @@ fn mark_act(work: &mut [u8], a: Act) -> bool
 
 // The first target too near an earlier one; the work area is all 0 at first.
 pub(crate) fn mark_all(file: &[u8], work: &mut [u8]) -> Tested
-    requires { ⌜ (HeaderFits (now file)) × (length (now file) % 4 ≡ 0) × (loadedOf (now file) ≤ length (now work)) × ((k : ℕ) → getD (now work) k 0 ≡ 0) ⌝ }
+    requires { ⌜ (HeaderFits (now file)) × (length (now file) % 4 ≡ 0) × (loadedOf (now file) ≤ length (now work))
+        × ((k : ℕ) → getD (now work) k 0 ≡ 0) ⌝ }
     ensures { λ r. ⌜ r ≡ clashOf (now (file .entry)) ⌝ }
 {
     let mut c = begin();

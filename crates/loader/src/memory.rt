@@ -66,8 +66,10 @@ fn add_act(memory: &mut [u8], amounts: &[u32], a: Act)
 
 // Adds to each target the amount of its hunk.
 pub(crate) fn add_all(file: &[u8], memory: &mut [u8], amounts: &[u32])
-    requires { ⌜ (HeaderFits (now file)) × (length (now file) % 4 ≡ 0) × (loadedOf (now file) ≤ length (now memory)) × (totalOf (now file) ≤ length (now amounts)) ⌝ }
-    ensures { λ _. ⌜ now (memory .exit) ≡ shiftAll (now (memory .entry)) (targetsOf (now (file .entry))) (amountOf (now (amounts .entry))) ⌝ }
+    requires { ⌜ (HeaderFits (now file)) × (length (now file) % 4 ≡ 0) × (loadedOf (now file) ≤ length (now memory))
+        × (totalOf (now file) ≤ length (now amounts)) ⌝ }
+    ensures { λ _. ⌜ now (memory .exit) ≡ shiftAll (now (memory .entry)) (targetsOf (now (file .entry)))
+        (amountOf (now (amounts .entry))) ⌝ }
 {
     let mut c = begin();
     let mut at = 4 * WORDS + 4 * total(file) as usize;

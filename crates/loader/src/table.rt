@@ -18,7 +18,8 @@ ghost use Rattle.loader.specs.Parts.{ActFits};
 ghost use Rattle.loader.specs.Table.{recordOne, withRecords};
 
 fn write_act(file: &[u8], bases: &[u32], table: &mut [u32], a: Act)
-    requires { ⌜ (HeaderFits (now file)) × (ActFits 4294967296 (totalOf (now file)) a) × (totalOf (now file) ≤ length (now bases)) × (4 * totalOf (now file) ≤ length (now table)) ⌝ }
+    requires { ⌜ (HeaderFits (now file)) × (ActFits 4294967296 (totalOf (now file)) a)
+        × (totalOf (now file) ≤ length (now bases)) × (4 * totalOf (now file) ≤ length (now table)) ⌝ }
     ensures { λ _. ⌜ now (table .exit) ≡ recordOne (now (file .entry)) (now (bases .entry)) (now (table .entry)) a ⌝ }
 {
     if let Act::Body(h, p, k) = a {
@@ -32,8 +33,10 @@ fn write_act(file: &[u8], bases: &[u32], table: &mut [u32], a: Act)
 
 // Writes the record of each hunk.
 pub(crate) fn write_all(file: &[u8], bases: &[u32], table: &mut [u32])
-    requires { ⌜ (HeaderFits (now file)) × (length (now file) % 4 ≡ 0) × (totalOf (now file) ≤ length (now bases)) × (4 * totalOf (now file) ≤ length (now table)) ⌝ }
-    ensures { λ _. ⌜ now (table .exit) ≡ withRecords (now (file .entry)) (now (bases .entry)) (now (table .entry)) (actsOf (now (file .entry))) ⌝ }
+    requires { ⌜ (HeaderFits (now file)) × (length (now file) % 4 ≡ 0) × (totalOf (now file) ≤ length (now bases))
+        × (4 * totalOf (now file) ≤ length (now table)) ⌝ }
+    ensures { λ _. ⌜ now (table .exit) ≡ withRecords (now (file .entry)) (now (bases .entry)) (now (table .entry))
+        (actsOf (now (file .entry))) ⌝ }
 {
     let mut c = begin();
     let mut at = 4 * WORDS + 4 * total(file) as usize;

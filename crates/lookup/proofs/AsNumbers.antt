@@ -12,7 +12,8 @@ use Rattle.volume.proofs.Given.{rootRefusals, entryRefusals, root-number, entry
 use Rattle.lookup.specs.declared.find.Found.{Found}
 use Rattle.lookup.specs.declared.find.Found.the-variants.{Directory, File, Refused}
 use Rattle.lookup.specs.Lookup.{numbersOf, findRefusals, refuse, findOf, Finds}
-use Rattle.lookup.specs.Verdicts.{Refuses, number-1, number-18, number-3, of-root, number-5, number-6, of-entry, number-19, number-20}
+use Rattle.lookup.specs.Verdicts.{Refuses, number-1, number-18, number-3, of-root, number-5, number-6, of-entry}
+use Rattle.lookup.specs.Verdicts.{number-19, number-20}
 use Rattle.lookup.proofs.Refusing.{refused-exactly}
 
 module _ (d : Disk) (s path : List ℕ) (v k : ℕ) where
@@ -37,14 +38,19 @@ module _ (d : Disk) (s path : List ℕ) (r : Found) (a : Finds d s path r) where
   number-listed x e = rw e (refused-number d s path (x .number) (x .place) (sym (a .answer) ∙ e))
 
   -- the number is 0 if and only if a directory or a file is found
-  pub zero-exactly : (numbersOf r .number ≡ 0) ↔ (((k : ℕ) × (n : ℕ) × (r ≡ Directory k n)) ⊎ ((k : ℕ) × (z : ℕ) × (n : ℕ) × (r ≡ File k z n)))
+  pub zero-exactly : (numbersOf r .number ≡ 0)
+      ↔ (((k : ℕ) × (n : ℕ) × (r ≡ Directory k n)) ⊎ ((k : ℕ) × (z : ℕ) × (n : ℕ) × (r ≡ File k z n)))
   zero-exactly = go r number-listed
     where
-      go : (r : Found) → ((x : Refusal) → r ≡ Refused x → numbersOf r .number ∈ findRefusals) → (numbersOf r .number ≡ 0) ↔ (((k : ℕ) × (n : ℕ) × (r ≡ Directory k n)) ⊎ ((k : ℕ) × (z : ℕ) × (n : ℕ) × (r ≡ File k z n)))
+      go : (r : Found) → ((x : Refusal) → r ≡ Refused x → numbersOf r .number ∈ findRefusals)
+          → (numbersOf r .number ≡ 0)
+          ↔ (((k : ℕ) × (n : ℕ) × (r ≡ Directory k n)) ⊎ ((k : ℕ) × (z : ℕ) × (n : ℕ) × (r ≡ File k z n)))
       go (Directory k n) h = (λ _. inl (k, n, refl), λ _. refl)
       go (File k z n) h = (λ _. inr (k, z, n, refl), λ _. refl)
       go (Refused x) h = (λ z. unlisted findRefusals (x .number) 0 tt (h x refl) z, none)
         where
-          none : ((k : ℕ) × (n : ℕ) × (Refused x ≡ Directory k n)) ⊎ ((k : ℕ) × (z : ℕ) × (n : ℕ) × (Refused x ≡ File k z n)) → x .number ≡ 0
+          none : ((k : ℕ) × (n : ℕ) × (Refused x ≡ Directory k n))
+              ⊎ ((k : ℕ) × (z : ℕ) × (n : ℕ) × (Refused x ≡ File k z n))
+              → x .number ≡ 0
           none (inl (k, n, e)) = impossible cc
           none (inr (k, z, n, e)) = impossible cc

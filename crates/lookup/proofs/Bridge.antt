@@ -1,5 +1,5 @@
--- Every reached entry of a tree has a path, and is found by it with its own key and kind (`reached-lies`, `reached-found`). Assumes
--- nothing.
+-- Every reached entry of a tree has a path, and is found by it with its own key and kind (`reached-lies`,
+-- `reached-found`). Assumes nothing.
 use Prim.Native.Nat.{ℕ, suc, _+_, _-_, _≤_, _<_}
 use mathlib.Core.Path.{_≡_, refl, sym, ap, _∙_, subst}
 use mathlib.Core.Logic.{_≢_, _⊎_, inl, inr}
@@ -20,7 +20,8 @@ use Rattle.volume.specs.References.{Kind, Ref, to, references}
 use Rattle.volume.specs.Law.{chainKey, Hangs, Tree}
 use Rattle.volume.proofs.Passes.{root-passes}
 use Rattle.volume.proofs.Breaks.{root-sound}
-use Rattle.walk.specs.Nodes.{Node, root, bitmap, entry, list, datum, bare, chained, slotNodes, before, keyNodes, listLink, keyBlockNodes, contents, leadsTo, graph}
+use Rattle.walk.specs.Nodes.{Node, root, bitmap, entry, list, datum, bare, chained, slotNodes, before, keyNodes}
+use Rattle.walk.specs.Nodes.{listLink, keyBlockNodes, contents, leadsTo, graph}
 use Rattle.walk.proofs.Nodes.{in-linked, in-slots, in-keys}
 use Rattle.walk.proofs.Accepts.{block-reached, node-reached}
 use Rattle.walk.proofs.Chains.{chain-some}
@@ -39,7 +40,8 @@ use Rattle.lookup.proofs.Joins.{Components, name-component, components-
 
 -- ---- the path of an entry
 
-names-end : (s : List ℕ) {t b : ℕ} {cs : List (List ℕ)} → Names s t cs b → (i k : ℕ) → Hangs s b i k → directory s k ≡ true → Names s t (cs ++ (nameOf s k ∷ [])) k
+names-end : (s : List ℕ) {t b : ℕ} {cs : List (List ℕ)} → Names s t cs b → (i k : ℕ) → Hangs s b i k
+    → directory s k ≡ true → Names s t (cs ++ (nameOf s k ∷ [])) k
 names-end s none i k h e = into i h e none
 names-end s (into j g f r) i k h e = into j g f (names-end s r i k h e)
 
@@ -58,7 +60,8 @@ module _ (d : Disk) (s : List ℕ) (v : Tree d s) where
   slots-led t cs n x a = let r = in-slots s t 0 slots x a in subst Led (sym (r .2 .1)) (cs, n)
 
   nodes-led : (h b m c : ℕ) (x : Node) → x ∈ keyBlockNodes d s h b m c → Led x
-  nodes-led h b m c x a = go (in-either x (keyNodes s h b m c 0 n) (listLink (wordOf s b 126) h (m + n) (before s b c n)) a)
+  nodes-led h b m c x a =
+      go (in-either x (keyNodes s h b m c 0 n) (listLink (wordOf s b 126) h (m + n) (before s b c n)) a)
     where
       n : ℕ
       n = keysHere (blocksOf d s h - m)
@@ -67,9 +70,11 @@ module _ (d : Disk) (s : List ℕ) (v : Tree d s) where
       go (inl a) = subst Led (sym (in-keys s h b m c 0 n x a .3)) tt
       go (inr a) = subst Led (sym (in-linked (wordOf s b 126) (λ k. list k h (m + n) (before s b c n)) x a .1)) tt
 
-  contents-led : (k t i p : ℕ) (b : Bool) → directory s k ≡ b → Coherent d s (entry k t i p) → Led (entry k t i p) → (x : Node) → x ∈ contents d s k b → Led x
+  contents-led : (k t i p : ℕ) (b : Bool) → directory s k ≡ b → Coherent d s (entry k t i p) → Led (entry k t i p)
+      → (x : Node) → x ∈ contents d s k b → Led x
   contents-led k t i p true e c h x a =
-      slots-led k (h .0 ++ (nameOf s k ∷ [])) (names-end s (h .1) i k (record { slot = c .1; position = p; there = c .2; some = c .3 }) e) x a
+      slots-led k (h .0 ++ (nameOf s k ∷ []))
+      (names-end s (h .1) i k (record { slot = c .1; position = p; there = c .2; some = c .3 }) e) x a
   contents-led k t i p false e c h x a = nodes-led k k 0 k x a
 
   leads-led : (m : Node) → Coherent d s m → Led m → (x : Node) → x ∈ leadsTo d s m → Led x
@@ -77,7 +82,8 @@ module _ (d : Disk) (s : List ℕ) (v : Tree d s) where
   leads-led root c h x (inl e) = subst Led (sym e) tt
   leads-led root c h x (inr a) = slots-led (rootOf d) [] none x a
   leads-led (bitmap k) c h x a = absurd a
-  leads-led (entry k t i p) c h x a = go (in-either x (contents d s k (directory s k)) (chained (wordOf s k 124) t i (suc p)) a)
+  leads-led (entry k t i p) c h x a =
+      go (in-either x (contents d s k (directory s k)) (chained (wordOf s k 124) t i (suc p)) a)
     where
       go : (x ∈ contents d s k (directory s k)) ⊎ (x ∈ chained (wordOf s k 124) t i (suc p)) → Led x
       go (inl a) = contents-led k t i p (directory s k) refl c h x a
@@ -91,8 +97,10 @@ module _ (d : Disk) (s : List ℕ) (v : Tree d s) where
     where
       go : Coherent d s m × Led m → Coherent d s n × Led n
       go w =
-          let a = at-in n i (leadsTo d s m) h in
-          (leads-coherent d s m (block-reached d s (tree-passes d s v) r) (v .files) (w .0) n a, leads-led m (w .0) (w .1) n a)
+          let a = at-in n i (leadsTo d s m) h in (
+            leads-coherent d s m (block-reached d s (tree-passes d s v) r) (v .files) (w .0) n a,
+            leads-led m (w .0) (w .1) n a,
+          )
 
   -- Every reached entry hangs below the root by the names of directories.
   pub reached-lies : (k : ℕ) → Reached (references d s) (to Kind.entry k) → Lies s (rootOf d) k
@@ -103,7 +111,13 @@ module _ (d : Disk) (s : List ℕ) (v : Tree d s) where
       go (bitmap b) w e = let f : Kind.entry ≡ Kind.bitmap = ap (λ (r : Ref). r .kind) e in impossible cc
       go (entry b t i p) w e =
           let x : k ≡ b = ap (λ (r : Ref). r .key) e in
-          rw x (record { front = w .1 .0; parent = t; above = w .1 .1; slot = i; hangs = record { slot = w .0 .1; position = p; there = w .0 .2; some = w .0 .3 } })
+          rw x (record {
+            front = w .1 .0;
+            parent = t;
+            above = w .1 .1;
+            slot = i;
+            hangs = record { slot = w .0 .1; position = p; there = w .0 .2; some = w .0 .3 };
+          })
       go (list b h m c) w e = let f : Kind.entry ≡ Kind.list = ap (λ (r : Ref). r .kind) e in impossible cc
       go (datum b h n c) w e = let f : Kind.entry ≡ Kind.datum = ap (λ (r : Ref). r .kind) e in impossible cc
 
@@ -133,12 +147,19 @@ module _ (d : Disk) (s : List ℕ) (v : Tree d s) where
     hang-differs : (q : ℕ) → q < h .position → Equal d s t name q → ⊥
     hang-differs q l e =
         let b = chainKey s (slotWord s t i) q in
-        let g : Hangs s t i b = record { slot = h .slot; position = q; there = refl; some = hang-some q (omega arith) } in
+        let g : Hangs s t i b =
+        record { slot = h .slot; position = q; there = refl; some = hang-some q (omega arith) } in
         let f = held-by d s v t holder .names i i b k g h (ap (λ x. folded d (nameOf s x)) (sym (position-is q)) ∙ e) in
-        chain-apart d s t i holder (h .slot) (v .owned) q (h .position) l (hang-some (h .position) (omega arith)) (f ∙ sym (h .there))
+        chain-apart d s t i holder (h .slot) (v .owned) q (h .position) l (hang-some (h .position) (omega arith))
+        (f ∙ sym (h .there))
 
     hang-first : First d s t (nameOf s k) (h .position)
-    hang-first = record { tests = hang-tests (h .position) (omega arith); named = ap (λ x. folded d (nameOf s x)) hang-key; others = λ q a l. (hang-tests q (omega arith), hang-differs q l) }
+    hang-first =
+        record {
+          tests = hang-tests (h .position) (omega arith);
+          named = ap (λ x. folded d (nameOf s x)) hang-key;
+          others = λ q a l. (hang-tests q (omega arith), hang-differs q l);
+        }
 
     hang-reached : Reached (references d s) (to Kind.entry k)
     hang-reached = rw hang-key at (first-reached d s v t (nameOf s k) holder (h .position) hang-first)
@@ -153,8 +174,11 @@ module _ (d : Disk) (s : List ℕ) (v : Tree d s) where
   names-trail o none = (0, stay)
   names-trail {t} {k} o (into {b = b} {cs = cs} i h e r) =
       let w = names-trail (inr (hang-reached t i b o h, e)) r in
-      let q = hang-key t i b o h in
-      (h .position + 1 + w .0, down {k = k} {n = w .0} {cs = cs} (h .position) (hang-first t i b o h) (rw q e) (rw q (w .1)))
+      let q = hang-key t i b o h in (
+        h .position + 1 + w .0,
+        down {k = k} {n = w .0} {cs = cs} (h .position) (hang-first t i b o h) (rw q e)
+            (rw q (w .1)),
+      )
 
   names-good : {t k : ℕ} {cs : List (List ℕ)} → Holder d s t → Names s t cs k → Components cs
   names-good o none c m = absurd m
@@ -181,12 +205,19 @@ module _ (d : Disk) (s : List ℕ) (v : Tree d s) where
         go (inr (inr a)) = absurd a
 
     opens : length (pathOf s (rootOf d) k h) ≤ longestPath → Opened d s (pathOf s (rootOf d) k h)
-    opens l = record { long = v .long; form = joined-form names good l; tag = v .tag; root = root-sound d s .0 (root-passes d s (v .sums (to Kind.root (rootOf d)) (top refl)) (v .top)) }
+    opens l =
+        record {
+          long = v .long;
+          form = joined-form names good l;
+          tag = v .tag;
+          root = root-sound d s .0 (root-passes d s (v .sums (to Kind.root (rootOf d)) (top refl)) (v .top));
+        }
 
     parts : components (pathOf s (rootOf d) k h) ≡ names
     parts = components-joined names good
 
-    found : (b : Bool) → directory s k ≡ b → length (pathOf s (rootOf d) k h) ≤ longestPath → (n : ℕ) × (findOf d s (pathOf s (rootOf d) k h) ≡ pick b (Directory k n) (File k (sizeOf s k) n))
+    found : (b : Bool) → directory s k ≡ b → length (pathOf s (rootOf d) k h) ≤ longestPath
+        → (n : ℕ) × (findOf d s (pathOf s (rootOf d) k h) ≡ pick b (Directory k n) (File k (sizeOf s k) n))
     unfolding pick
     found true e l =
         let w = names-trail (inl refl) (names-end s (h .above) (h .slot) k (h .hangs) e) in
@@ -194,13 +225,37 @@ module _ (d : Disk) (s : List ℕ) (v : Tree d s) where
     found false e l =
         let w = names-trail (inl refl) (h .above) in
         let q = hang-key (h .parent) (h .slot) k holder (h .hangs) in
-        let n = w .0 + (h .hangs .position + 1) in
-        (n, file-exactly d s (pathOf s (rootOf d) k h) k (sizeOf s k) n .1 (record { opened = opens l; comes = record { front = h .front; name = nameOf s k; back = []; parts = parts; parent = h .parent; compared = w .0; trail = w .1 }; position = h .hangs .position; found = hang-first (h .parent) (h .slot) k holder (h .hangs); kind = rw q e; last = refl; key = q; size = rw q; count = refl }))
+        let n = w .0 + (h .hangs .position + 1) in (
+          n,
+          file-exactly d s (pathOf s (rootOf d) k h) k (sizeOf s k) n .1
+              (record {
+                opened = opens l;
+                comes = record {
+                  front = h .front;
+                  name = nameOf s k;
+                  back = [];
+                  parts = parts;
+                  parent = h .parent;
+                  compared = w .0;
+                  trail = w .1;
+                };
+                position = h .hangs .position;
+                found = hang-first (h .parent) (h .slot) k holder (h .hangs);
+                kind = rw q e;
+                last = refl;
+                key = q;
+                size = rw q;
+                count = refl;
+              }),
+        )
 
     -- It is found by its path, if that is not too long, with its own key and kind.
-    pub reached-found : length (pathOf s (rootOf d) k h) ≤ longestPath → (n : ℕ) × (findOf d s (pathOf s (rootOf d) k h) ≡ pick (directory s k) (Directory k n) (File k (sizeOf s k) n))
+    pub reached-found : length (pathOf s (rootOf d) k h) ≤ longestPath
+        → (n : ℕ) × (findOf d s (pathOf s (rootOf d) k h) ≡ pick (directory s k) (Directory k n)
+        (File k (sizeOf s k) n))
     reached-found l = found (directory s k) refl l
 
     -- A path that is too long is 18 at 0.
-    pub reached-far : longestPath < length (pathOf s (rootOf d) k h) → findOf d s (pathOf s (rootOf d) k h) ≡ refuse 18 0
+    pub reached-far : longestPath < length (pathOf s (rootOf d) k h)
+        → findOf d s (pathOf s (rootOf d) k h) ≡ refuse 18 0
     reached-far l = refused-exactly d s (pathOf s (rootOf d) k h) 18 0 .1 (number-18 (v .long) (long l refl) refl)

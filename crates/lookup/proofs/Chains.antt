@@ -32,7 +32,8 @@ use Rattle.lookup.proofs.Splits.{whole}
 -- ---- the tests of a key: t is whether it is in range, l the chain limit
 
 -- a key in range lies in an image that is long enough
-pub range-holds : (d : Disk) (s : List ℕ) (k : ℕ) (t : Bool) → length s ≡ imageBytes d → t ≡ inRange d k → t ≡ true → Holds s k
+pub range-holds : (d : Disk) (s : List ℕ) (k : ℕ) (t : Bool) → length s ≡ imageBytes d → t ≡ inRange d k → t ≡ true
+    → Holds s k
 range-holds d s k t w e q = let h : k < d .blocks = range-is d k (sym e ∙ q) .1 in omega arith
 
 module _ (d : Disk) (s : List ℕ) (dir i p k : ℕ) (t : Bool) (e : t ≡ inRange d k) where
@@ -43,11 +44,17 @@ module _ (d : Disk) (s : List ℕ) (dir i p k : ℕ) (t : Bool) (e : t ≡ inRan
   module _ (q : t ≡ true) (l : ℕ) (f : l ≡ chainLimit d) where
     pub key-far : l ≤ p → 6 ≡ positionFault d s dir i p k
     unfolding positionFault
-    key-far h = go 6 _ _ (must-true 5 t (inRange d k) e q) (stop 6 _ _ tt (must-false 6 false (ltb p (chainLimit d)) (sym (le-ltb p (chainLimit d) (omega (arith, f)))) refl))
+    key-far h =
+        go 6 _ _ (must-true 5 t (inRange d k) e q)
+        (stop 6 _ _ tt (must-false 6 false (ltb p (chainLimit d))
+        (sym (le-ltb p (chainLimit d) (omega (arith, f)))) refl))
 
     pub key-own : p < l → (r : ℕ) → r ≡ entryFault d s k dir i → r ≡ positionFault d s dir i p k
     unfolding positionFault first
-    key-own h r g = go r _ _ (must-true 5 t (inRange d k) e q) (go r _ _ (must-true 6 true (ltb p (chainLimit d)) (sym (lt-ltb p (chainLimit d) (omega (arith, f)))) refl) (go′ r (entryFault d s k dir i) g))
+    key-own h r g =
+        go r _ _ (must-true 5 t (inRange d k) e q)
+        (go r _ _ (must-true 6 true (ltb p (chainLimit d)) (sym (lt-ltb p (chainLimit d) (omega (arith, f))))
+        refl) (go′ r (entryFault d s k dir i) g))
       where
         go′ : (r x : ℕ) → r ≡ x → r ≡ first x 0
         go′ r zero h = h
@@ -64,7 +71,11 @@ unfolding positionFault
 key-passed d s t i p k e =
     let a = first-zero _ _ e in
     let b = first-zero _ _ (a .1) in
-    record { ranged = must-passed _ 4 (a .0); near = ltb-true _ _ (must-passed _ 5 (b .0)); fine = first-zero _ _ (b .1) .0 }
+    record {
+      ranged = must-passed _ 4 (a .0);
+      near = ltb-true _ _ (must-passed _ 5 (b .0));
+      fine = first-zero _ _ (b .1) .0;
+    }
 
 -- ---- position by position
 
@@ -77,19 +88,26 @@ module _ (d : Disk) (s : List ℕ) (t : ℕ) (name : List ℕ) (p : ℕ) where
   pub tests-pass : Tests d s t name p → faultAt d s t name p ≡ 0
   tests-pass h =
       let k = positionKey d s t name p in
-      sym (key-own d s t (slotOf d name) p k true (sym (key-inside d k .1 (h .inside))) refl (chainLimit d) refl (h .near) 0 (sym (entry-sound d s k t (slotOf d name) .1 (h .sound))))
+      sym (key-own d s t (slotOf d name) p k true (sym (key-inside d k .1 (h .inside))) refl (chainLimit d) refl
+      (h .near) 0 (sym (entry-sound d s k t (slotOf d name) .1 (h .sound))))
 
   pub pass-tests : positionKey d s t name p ≢ 0 → faultAt d s t name p ≡ 0 → Tests d s t name p
   pass-tests z e =
       let k = positionKey d s t name p in
       let h = key-passed d s t (slotOf d name) p k e in
-      record { some = z; inside = key-inside d k .0 (h .ranged); near = h .near; sound = entry-sound d s k t (slotOf d name) .0 (h .fine) }
+      record {
+        some = z;
+        inside = key-inside d k .0 (h .ranged);
+        near = h .near;
+        sound = entry-sound d s k t (slotOf d name) .0 (h .fine);
+      }
 
 pub slot-below : (d : Disk) (xs : List ℕ) (i : ℕ) → i ≡ slotOf d xs → i < slots
 unfolding slotOf
 slot-below d xs i e = omega (arith, e)
 
-pub position-next : (d : Disk) (s : List ℕ) (t : ℕ) (name : List ℕ) (p : ℕ) → (positionKey d s t name p ≡ 0 → ⊥) → positionKey d s t name (p + 1) ≡ wordOf s (positionKey d s t name p) 124
+pub position-next : (d : Disk) (s : List ℕ) (t : ℕ) (name : List ℕ) (p : ℕ) → (positionKey d s t name p ≡ 0 → ⊥)
+    → positionKey d s t name (p + 1) ≡ wordOf s (positionKey d s t name p) 124
 unfolding chainKey after
 position-next d s t name p h = rw add-one (go (positionKey d s t name p) h)
   where
@@ -104,7 +122,8 @@ pub record Going (d : Disk) (s : List ℕ) (t : ℕ) (name : List ℕ) (p k : �
   pub rest : searchFrom d s t name (chainLimit d + 1 - p) p ≡ searchOf d s t name
 
 -- i is the slot of the name, and k the key in it
-pub starts : (d : Disk) (s : List ℕ) (t : ℕ) (name : List ℕ) (i k : ℕ) → i ≡ slotOf d (slice 0 (0 + length name) name) → k ≡ wordOf s t (6 + i) → Going d s t name 0 k
+pub starts : (d : Disk) (s : List ℕ) (t : ℕ) (name : List ℕ) (i k : ℕ) → i ≡ slotOf d (slice 0 (0 + length name) name)
+    → k ≡ wordOf s t (6 + i) → Going d s t name 0 k
 unfolding searchOf chainKey
 starts d s t name i k e f =
     let n : chainLimit d + 1 - 0 ≡ chainLimit d + 1 = omega arith in
@@ -126,7 +145,8 @@ module _ (d : Disk) (s : List ℕ) (t : ℕ) (name : List ℕ) (p k : ℕ) (g : 
   ends z = rw (eq-eqb k 0 z) at step
 
   -- v is what the tests of k say
-  module _ (z : k ≡ 0 → ⊥) (i v : ℕ) (e : i ≡ slotOf d (slice 0 (0 + length name) name)) (f : v ≡ positionFault d s t i p k) where
+  module _ (z : k ≡ 0 → ⊥) (i v : ℕ) (e : i ≡ slotOf d (slice 0 (0 + length name) name))
+      (f : v ≡ positionFault d s t i p k) where
     tested : visit d s name p k v on ≡ searchOf d s t name
     tested = rw (f, e, whole name) step
 
@@ -167,4 +187,9 @@ module _ (d : Disk) (s : List ℕ) (t : ℕ) (name : List ℕ) (p k : ℕ) (g : 
         unfolding pick
         goes k′ y w =
             let n : chainLimit d + 1 - (p + 1) ≡ chainLimit d - p = omega arith in
-            record { few = more; key = w ∙ ap (λ j. wordOf s j 124) (g .key) ∙ sym (position-next d s t name p (λ h. z (g .key ∙ h))); rest = rw n (rw y at compared) }
+            record {
+              few = more;
+              key = w ∙ ap (λ j. wordOf s j 124) (g .key)
+                  ∙ sym (position-next d s t name p (λ h. z (g .key ∙ h)));
+              rest = rw n (rw y at compared);
+            }

@@ -1,4 +1,5 @@
--- How many entries a lookup compares: of each component at most as many as a chain may have (`found-few`). Assumes nothing.
+-- How many entries a lookup compares: of each component at most as many as a chain may have (`found-few`). Assumes
+-- nothing.
 use Prim.Native.Nat.{ℕ, suc, _+_, _*_, _≤_}
 use mathlib.Core.Path.{_≡_, ap, _∙_}
 use mathlib.Core.Logic.{_⊎_, inl, inr}
@@ -33,11 +34,14 @@ module _ (d : Disk) (s : List ℕ) where
     file-few k z n h =
         let a = first-few (h .comes .parent) (h .comes .name) (h .position) (h .found) in
         let b = trail-few (h .comes .trail) in
-        let e = ap length (h .comes .parts) ∙ length-append (h .comes .front) (h .comes .name ∷ h .comes .back) ∙ ap (λ l. length (h .comes .front) + suc (length l)) (h .last) in
+        let e =
+        ap length (h .comes .parts) ∙ length-append (h .comes .front) (h .comes .name ∷ h .comes .back)
+        ∙ ap (λ l. length (h .comes .front) + suc (length l)) (h .last) in
         let g : length (components path) ≡ suc (length (h .comes .front)) = omega (arith, e) in
         rw (g, suc-mul (length (h .comes .front)) (chainLimit d)) (omega (arith, a, b, h .count))
 
     -- All components together compare at most that many for each.
-    pub found-few : (k z n : ℕ) → (findOf d s path ≡ Directory k n) ⊎ (findOf d s path ≡ File k z n) → n ≤ length (components path) * chainLimit d
+    pub found-few : (k z n : ℕ) → (findOf d s path ≡ Directory k n) ⊎ (findOf d s path ≡ File k z n)
+        → n ≤ length (components path) * chainLimit d
     found-few k z n (inl e) = trail-few (directory-exactly d s path k n .0 e .1)
     found-few k z n (inr e) = file-few k z n (file-exactly d s path k z n .0 e)

@@ -33,7 +33,8 @@ joined-split (b ∷ bs) = go (eqb b slash) refl (split bs) (joined-split bs) (sp
         some false [] e = impossible cc
         some false (c ∷ cs) e = impossible cc
 
-    go : (t : Bool) → eqb b slash ≡ t → (cs : List (List ℕ)) → joined cs ≡ bs → cs ≢ [] → joined (pick t ([] ∷ cs) (onto b cs)) ≡ b ∷ bs
+    go : (t : Bool) → eqb b slash ≡ t → (cs : List (List ℕ)) → joined cs ≡ bs → cs ≢ []
+        → joined (pick t ([] ∷ cs) (onto b cs)) ≡ b ∷ bs
     go t q [] e h = absurd (h refl)
     go true q (c ∷ cs) e h = let x = eqb-true b slash q in rw (x, e)
     go false q (c ∷ []) e h = ap (λ l. b ∷ l) e
@@ -50,7 +51,8 @@ pub component-has : (c : List ℕ) → isComponent c ≡ true → Component c
 unfolding isComponent pick
 component-has c e = go (leb 1 (length c)) refl (leb (length c) longest) refl e
   where
-    go : (a : Bool) → leb 1 (length c) ≡ a → (b : Bool) → leb (length c) longest ≡ b → pick a (pick b (allowed c) false) false ≡ true → Component c
+    go : (a : Bool) → leb 1 (length c) ≡ a → (b : Bool) → leb (length c) longest ≡ b
+        → pick a (pick b (allowed c) false) false ≡ true → Component c
     go true p true q h = record { some = leb-true _ _ p; few = leb-true _ _ q; clean = h }
     go true p false q h = impossible cc
     go false p b q h = impossible cc
@@ -63,7 +65,10 @@ name-component s k h e = go (leb 1 n) refl (leb n longest) refl e
     n : ℕ
     n = nameLength s k
 
-    go : (a : Bool) → leb 1 n ≡ a → (b : Bool) → leb n longest ≡ b → pick a (pick b (allowed (nameOf s k)) false) false ≡ true → pick (leb 1 (length (nameOf s k))) (pick (leb (length (nameOf s k)) longest) (allowed (nameOf s k)) false) false ≡ true
+    go : (a : Bool) → leb 1 n ≡ a → (b : Bool) → leb n longest ≡ b
+        → pick a (pick b (allowed (nameOf s k)) false) false ≡ true
+        → pick (leb 1 (length (nameOf s k))) (pick (leb (length (nameOf s k)) longest) (allowed (nameOf s k)) false)
+        false ≡ true
     go true p true q y =
         let few = leb-true n longest q in
         let l : length (nameOf s k) ≡ n = length-slice (nameFrom k) (nameFrom k + n) s (omega arith) ∙ omega arith in
@@ -78,7 +83,8 @@ clean-first : (b : ℕ) (c : List ℕ) → allowed (b ∷ c) ≡ true → (eqb b
 unfolding allowed pick
 clean-first b c e = go (eqb b 47) refl (eqb b 58) e
   where
-    go : (t : Bool) → eqb b 47 ≡ t → (u : Bool) → pick t false (pick u false (allowed c)) ≡ true → (eqb b slash ≡ false) × (allowed c ≡ true)
+    go : (t : Bool) → eqb b 47 ≡ t → (u : Bool) → pick t false (pick u false (allowed c)) ≡ true
+        → (eqb b slash ≡ false) × (allowed c ≡ true)
     go true p u h = impossible cc
     go false p true h = impossible cc
     go false p false h = (p, h)
@@ -99,7 +105,9 @@ Components cs = (c : List ℕ) → c ∈ cs → isComponent c ≡ true
 split-joined : (c : List ℕ) (cs : List (List ℕ)) → Components (c ∷ cs) → split (joined (c ∷ cs)) ≡ c ∷ cs
 unfolding joined
 split-joined c [] h = split-last c (component-has c (h c (inl refl)) .clean)
-split-joined c (b ∷ cs) h = split-join c (joined (b ∷ cs)) (component-has c (h c (inl refl)) .clean) ∙ ap (λ l. c ∷ l) (split-joined b cs (λ x m. h x (inr m)))
+split-joined c (b ∷ cs) h =
+    split-join c (joined (b ∷ cs)) (component-has c (h c (inl refl)) .clean)
+    ∙ ap (λ l. c ∷ l) (split-joined b cs (λ x m. h x (inr m)))
 
 joined-some : (c : List ℕ) (cs : List (List ℕ)) → Components (c ∷ cs) → 1 ≤ length (joined (c ∷ cs))
 unfolding joined
@@ -109,7 +117,8 @@ joined-some c (b ∷ cs) h = let a = component-has c (h c (inl refl)) .some in s
 pub components-joined : (cs : List (List ℕ)) → Components cs → components (joined cs) ≡ cs
 unfolding joined
 components-joined [] h = refl
-components-joined (c ∷ cs) h = sym (path-components (joined (c ∷ cs)) (λ e. let a = joined-some c cs h in omega arith)) ∙ split-joined c cs h
+components-joined (c ∷ cs) h =
+    sym (path-components (joined (c ∷ cs)) (λ e. let a = joined-some c cs h in omega arith)) ∙ split-joined c cs h
 
 -- ---- the form of what was joined
 

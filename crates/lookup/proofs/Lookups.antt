@@ -38,10 +38,14 @@ pub record Came (d : Disk) (s : List ℕ) (k m : ℕ) : Type 0 where
   pub few : m ≤ chainLimit d
   pub holds : length s ≡ imageBytes d → Holds s k
 
-pub came : (d : Disk) (s : List ℕ) (t : ℕ) (name : List ℕ) (step : Step) (k m : ℕ) → step ≡ searchOf d s t name → step ≡ At k m → Came d s k m
+pub came : (d : Disk) (s : List ℕ) (t : ℕ) (name : List ℕ) (step : Step) (k m : ℕ) → step ≡ searchOf d s t name
+    → step ≡ At k m → Came d s k m
 came d s t name step k m e f =
     let h = first-equal-name d s t name k m .0 (sym e ∙ f) in
-    record { few = compared-most d s t name k m (sym e ∙ f); holds = λ w. rw (h .2) (range-holds d s _ true w (sym (key-inside d _ .1 (h .1 .tests .inside))) refl) }
+    record {
+      few = compared-most d s t name k m (sym e ∙ f);
+      holds = λ w. rw (h .2) (range-holds d s _ true w (sym (key-inside d _ .1 (h .1 .tests .inside))) refl);
+    }
 
 -- ---- the first component of xs ends at k, and `step` is what its search came to
 
@@ -56,7 +60,8 @@ split-some s i n (y ∷ ys) k = go (eqb y 47) (split ys)
     go false [] = refl
     go false (c ∷ cs) = refl
 
-module _ (d : Disk) (s xs : List ℕ) (t i n k : ℕ) (at : FirstSlash xs k) (step : Step) (e : step ≡ searchOf d s t (take k xs)) where
+module _ (d : Disk) (s xs : List ℕ) (t i n k : ℕ) (at : FirstSlash xs k) (step : Step)
+    (e : step ≡ searchOf d s t (take k xs)) where
   abbrev rest : List (List ℕ)
   rest = split (take (length xs - (k + 1)) (drop (k + 1) xs))
 
@@ -71,7 +76,8 @@ module _ (d : Disk) (s xs : List ℕ) (t i n k : ℕ) (at : FirstSlash xs k) (st
   unfolding lookupFrom
   on-end l = rw (split-end xs k at l, ← e)
 
-  either : (x r : Found) → x ≡ r → (k < length xs → r ≡ lookupFrom d s t i n (split xs)) → (length xs ≤ k → r ≡ lookupFrom d s t i n (split xs)) → x ≡ lookupFrom d s t i n (split xs)
+  either : (x r : Found) → x ≡ r → (k < length xs → r ≡ lookupFrom d s t i n (split xs))
+      → (length xs ≤ k → r ≡ lookupFrom d s t i n (split xs)) → x ≡ lookupFrom d s t i n (split xs)
   either x r q a b = go (ltb k (length xs)) refl
     where
       go : (c : Bool) → ltb k (length xs) ≡ c → x ≡ lookupFrom d s t i n (split xs)
@@ -87,13 +93,17 @@ module _ (d : Disk) (s xs : List ℕ) (t i n k : ℕ) (at : FirstSlash xs k) (st
   -- it came to the entry `key`; b is whether that is a directory
   module _ (key m : ℕ) (f : step ≡ At key m) (b : Bool) (g : b ≡ directory s key) where
     at-more : k < length xs → pick b (below rest key (n + m)) (refuse 20 i) ≡ lookupFrom d s t i n (split xs)
-    at-more l = rw (g, ← split-some s i (n + m) (take (length xs - (k + 1)) (drop (k + 1) xs)) key) (rw f at (on-more l))
+    at-more l =
+        rw (g, ← split-some s i (n + m) (take (length xs - (k + 1)) (drop (k + 1) xs)) key) (rw f at (on-more l))
 
-    at-end : length xs ≤ k → pick b (Directory key (n + m)) (File key (sizeOf s key) (n + m)) ≡ lookupFrom d s t i n (split xs)
+    at-end : length xs ≤ k
+        → pick b (Directory key (n + m)) (File key (sizeOf s key) (n + m)) ≡ lookupFrom d s t i n (split xs)
     unfolding lookupFrom
     at-end l = rw g (rw f at (on-end l))
 
-    pub to-more : (r : Found) → b ≡ true → k < length xs → r ≡ lookupFrom d s key (i + 1) (n + m) (split (take (length xs - (k + 1)) (drop (k + 1) xs))) → r ≡ lookupFrom d s t i n (split xs)
+    pub to-more : (r : Found) → b ≡ true → k < length xs
+        → r ≡ lookupFrom d s key (i + 1) (n + m) (split (take (length xs - (k + 1)) (drop (k + 1) xs)))
+        → r ≡ lookupFrom d s t i n (split xs)
     unfolding pick
     to-more r u l q = q ∙ (rw u at (at-more l))
 
@@ -105,7 +115,8 @@ module _ (d : Disk) (s xs : List ℕ) (t i n k : ℕ) (at : FirstSlash xs k) (st
     unfolding pick
     to-used r u l q = q ∙ (rw u at (at-more l))
 
-    pub to-file : (z : ℕ) → b ≡ false → length xs ≤ k → z ≡ sizeOf s key → File key z (n + m) ≡ lookupFrom d s t i n (split xs)
+    pub to-file : (z : ℕ) → b ≡ false → length xs ≤ k → z ≡ sizeOf s key
+        → File key z (n + m) ≡ lookupFrom d s t i n (split xs)
     unfolding pick
     to-file z u l q = rw q (rw u at (at-end l))
 
@@ -136,7 +147,13 @@ module _ (d : Disk) (s xs : List ℕ) (t i n k : ℕ) (l : Looks d s xs t i n) (
         let b = l .short in
         let c = came d s t (take k xs) step key m e f .few in
         let g = l .sized .most in
-        record { sized = l .sized; long = l .long; holds = lies; short = simp (length-take, length-drop) (omega arith); counted = omega arith }
+        record {
+          sized = l .sized;
+          long = l .long;
+          holds = lies;
+          short = simp (length-take, length-drop) (omega arith);
+          counted = omega arith;
+        }
 
 -- ---- the root: `fault` is what its tests say
 
@@ -153,7 +170,8 @@ module _ (d : Disk) (s path : List ℕ) (fault : ℕ) (e : fault ≡ rootFault d
       go [] z = refl
       go (x ∷ xs) z = absurd (omega arith)
 
-  pub root-looks : (r : Found) → fault ≡ 0 → (length path ≡ 0 → ⊥) → r ≡ lookupFrom d s root 0 0 (split path) → r ≡ fromRoot d s path
+  pub root-looks : (r : Found) → fault ≡ 0 → (length path ≡ 0 → ⊥) → r ≡ lookupFrom d s root 0 0 (split path)
+      → r ≡ fromRoot d s path
   unfolding fromRoot pick
   root-looks r q z p = rw (← e, eq-eqb fault 0 q, ← path-components path z, ← f) p
 

@@ -24,11 +24,14 @@ use Rattle.lookup.specs.Paths.{components}
 use Rattle.lookup.specs.Search.{positionFault}
 use Rattle.lookup.specs.Lookup.{refuse, findOf}
 use Rattle.lookup.specs.Trails.{Trail}
-use Rattle.lookup.specs.Verdicts.{Opened, keyIn, IsFile, Stands, Missing, AsDirectory, Refuses, number-1, number-18, number-3, of-root, number-5, number-6, of-entry, number-19, number-20}
+use Rattle.lookup.specs.Verdicts.{Opened, keyIn, IsFile, Stands, Missing, AsDirectory, Refuses, number-1}
+use Rattle.lookup.specs.Verdicts.{number-18, number-3, of-root, number-5, number-6, of-entry, number-19}
+use Rattle.lookup.specs.Verdicts.{number-20}
 use Rattle.lookup.proofs.Chains.{faultAt}
 use Rattle.lookup.proofs.Positions.{positions-few}
 use Rattle.lookup.proofs.Trails.{holds, file, used, missing, fault}
-use Rattle.lookup.proofs.Deciding.{form-exactly, form-good, number-is, place-is, Why, image, form, tag, root, leads-to, find-why, why-find}
+use Rattle.lookup.proofs.Deciding.{form-exactly, form-good, number-is, place-is, Why, image, form, tag, root}
+use Rattle.lookup.proofs.Deciding.{leads-to, find-why, why-find}
 
 -- ---- what a key's tests say: v is not 0
 
@@ -42,7 +45,9 @@ module _ (d : Disk) (s : List ℕ) (t i p k : ℕ) where
   unfolding positionFault first must
   key-says z = go (inRange d k) refl (ltb p (chainLimit d)) refl (entryFault d s k t i) refl z
     where
-      go : (a : Bool) → inRange d k ≡ a → (b : Bool) → ltb p (chainLimit d) ≡ b → (e : ℕ) → entryFault d s k t i ≡ e → first (must a 5) (first (must b 6) (first e 0)) ≢ 0 → Says d s t i p k (first (must a 5) (first (must b 6) (first e 0)))
+      go : (a : Bool) → inRange d k ≡ a → (b : Bool) → ltb p (chainLimit d) ≡ b → (e : ℕ) → entryFault d s k t i ≡ e
+          → first (must a 5) (first (must b 6) (first e 0)) ≢ 0
+          → Says d s t i p k (first (must a 5) (first (must b 6) (first e 0)))
       go false q b u e f h = outside q refl
       go true q false u e f h = beyond q (ltb-false _ _ u) refl
       go true q true u zero f h = absurd (h refl)
@@ -71,38 +76,70 @@ module _ (d : Disk) (s path : List ℕ) where
 
     refused-why : Why d s path (findOf d s path) → findOf d s path ≡ refuse v k → Refuses d s path v k
     refused-why (image h q) e = let x = same 1 0 q e in number-1 h (x .0) (x .1)
-    refused-why (form h f p q) e = let x : f ≡ refusal v k = cc in let y = form-exactly path v k .0 (p ∙ ap Failed x) in number-18 h (y .1) (y .0)
+    refused-why (form h f p q) e =
+        let x : f ≡ refusal v k = cc in
+        let y = form-exactly path v k .0 (p ∙ ap Failed x) in number-18 h (y .1) (y .0)
     refused-why (tag h p u q) e = let x = same 3 0 q e in number-3 h (form-good path .0 p) u (x .0) (x .1)
-    refused-why (root h p u z q) e = let x = same (rootFault d s) (rootOf d) q e in of-root h (form-good path .0 p) u (root-breaks d s v .0 (sym (x .0), λ y. z (sym (x .0) ∙ y))) (x .1)
+    refused-why (root h p u z q) e =
+        let x = same (rootFault d s) (rootOf d) q e in
+        of-root h (form-good path .0 p) u (root-breaks d s v .0 (sym (x .0), λ y. z (sym (x .0) ∙ y))) (x .1)
     refused-why (leads-to o (holds k′ m h q)) e = impossible cc
     refused-why (leads-to o (file w p f u b q)) e = impossible cc
     refused-why (leads-to o (used w p f u b q)) e =
         let x = same 20 (0 + length (w .front)) q e in
-        number-20 (record { opened = o; comes = w; position = p; found = f; kind = u; more = b; component = x .1 ∙ behind-none _ }) (x .0)
+        number-20 (record {
+          opened = o;
+          comes = w;
+          position = p;
+          found = f;
+          kind = u;
+          more = b;
+          component = x .1
+              ∙ behind-none _;
+        }) (x .0)
     refused-why (leads-to o (missing w p f q)) e =
         let x = same 19 (0 + length (w .front)) q e in
         number-19 (record { opened = o; comes = w; position = p; over = f; component = x .1 ∙ behind-none _ }) (x .0)
-    refused-why (leads-to o (fault w p f q)) e = go (key-says d s (w .parent) (slotOf d (w .name)) p (keyIn d s path w p) (f .fault))
+    refused-why (leads-to o (fault w p f q)) e =
+        go (key-says d s (w .parent) (slotOf d (w .name)) p (keyIn d s path w p) (f .fault))
       where
         x : (v ≡ faultAt d s (w .parent) (w .name) p) × (k ≡ keyIn d s path w p)
         x = same (faultAt d s (w .parent) (w .name) p) (keyIn d s path w p) q e
 
         stands : Stands d s path k
-        stands = record { opened = o; comes = w; position = p; others = f .others; key = sym (x .1); some = λ y. f .some (sym (x .1) ∙ y) }
+        stands =
+            record {
+              opened = o;
+              comes = w;
+              position = p;
+              others = f .others;
+              key = sym (x .1);
+              some = λ y. f .some (sym (x .1) ∙ y);
+            }
 
         ranged : (b : Bool) → inRange d (keyIn d s path w p) ≡ b → inRange d k ≡ b
         ranged b y = rw (x .1) y
 
-        go : Says d s (w .parent) (slotOf d (w .name)) p (keyIn d s path w p) (faultAt d s (w .parent) (w .name) p) → Refuses d s path v k
+        go : Says d s (w .parent) (slotOf d (w .name)) p (keyIn d s path w p) (faultAt d s (w .parent) (w .name) p)
+            → Refuses d s path v k
         go (outside y z) = number-5 stands (key-outside d k .0 (ranged false y)) (x .0 ∙ z)
-        go (beyond y l z) = let n = positions-few d s (w .parent) (w .name) p (f .others) in number-6 stands (key-inside d k .0 (ranged true y)) (omega arith) (x .0 ∙ z)
-        go (itself y l z) = of-entry stands (key-inside d k .0 (ranged true y)) l (entry-breaks d s k (w .parent) (slotOf d (w .name)) v .0 (rw (x .1) (z ∙ sym (x .0)), λ g. f .fault (sym (x .0) ∙ g)))
+        go (beyond y l z) =
+            let n = positions-few d s (w .parent) (w .name) p (f .others) in
+            number-6 stands (key-inside d k .0 (ranged true y)) (omega arith) (x .0 ∙ z)
+        go (itself y l z) =
+            of-entry stands (key-inside d k .0 (ranged true y)) l
+            (entry-breaks d s k (w .parent) (slotOf d (w .name)) v .0
+            (rw (x .1) (z ∙ sym (x .0)), λ g. f .fault (sym (x .0) ∙ g)))
 
     why-refused : Refuses d s path v k → findOf d s path ≡ refuse v k
     why-refused h = sym (why-find d s path (refuse v k) (why h))
       where
-        fails : (h : Stands d s path k) → v ≢ 0 → Says d s (h .comes .parent) (slotOf d (h .comes .name)) (h .position) k v → Why d s path (refuse v k)
-        fails h z y = leads-to (h .opened) (fault (h .comes) (h .position) (record { some = λ g. h .some (sym (h .key) ∙ g); fault = λ g. z (sym at ∙ g); others = h .others }) (rw (at, h .key)))
+        fails : (h : Stands d s path k) → v ≢ 0
+            → Says d s (h .comes .parent) (slotOf d (h .comes .name)) (h .position) k v → Why d s path (refuse v k)
+        fails h z y =
+            leads-to (h .opened) (fault (h .comes) (h .position)
+            (record { some = λ g. h .some (sym (h .key) ∙ g); fault = λ g. z (sym at ∙ g); others = h .others })
+            (rw (at, h .key)))
           where
             at : faultAt d s (h .comes .parent) (h .comes .name) (h .position) ≡ v
             at = says-key d s _ _ (h .position) _ v z (rw (h .key) y)
@@ -119,14 +156,19 @@ module _ (d : Disk) (s path : List ℕ) where
         why (of-entry h y l z) =
             let a = entry-breaks d s k (h .comes .parent) (slotOf d (h .comes .name)) v .1 z in
             fails h (a .1) (itself (key-inside d k .1 y) l (a .0))
-        why (number-19 h a) = leads-to (h .opened) (missing (h .comes) (h .position) (h .over) (rw (a, h .component, behind-none (length (h .comes .front)))))
-        why (number-20 h a) = leads-to (h .opened) (used (h .comes) (h .position) (h .found) (h .kind) (h .more) (rw (a, h .component, behind-none (length (h .comes .front)))))
+        why (number-19 h a) =
+            leads-to (h .opened) (missing (h .comes) (h .position) (h .over)
+            (rw (a, h .component, behind-none (length (h .comes .front)))))
+        why (number-20 h a) =
+            leads-to (h .opened) (used (h .comes) (h .position) (h .found) (h .kind) (h .more)
+            (rw (a, h .component, behind-none (length (h .comes .front)))))
 
     -- Every number is given exactly then, at that place.
     pub refused-exactly : (findOf d s path ≡ refuse v k) ↔ Refuses d s path v k
     refused-exactly = (refused-why (find-why d s path), why-refused)
 
-  -- 19 at component i if and only if its chain has ended, every entry on it passes its tests, and none has its folded name.
+  -- 19 at component i if and only if its chain has ended, every entry on it passes its tests, and none has its folded
+  -- name.
   pub missing-exactly : (i : ℕ) → (findOf d s path ≡ refuse 19 i) ↔ Missing d s path i
   missing-exactly i = ((λ e. go (refused-exactly 19 i .0 e)), (λ h. refused-exactly 19 i .1 (number-19 h refl)))
     where
@@ -159,10 +201,15 @@ module _ (d : Disk) (s path : List ℕ) where
   -- ---- what is found
 
   -- A directory is found if and only if every component leads to one.
-  pub directory-exactly : (k n : ℕ) → (findOf d s path ≡ Directory k n) ↔ (Opened d s path × Trail d s (rootOf d) (components path) k n)
-  directory-exactly k n = ((λ e. go (find-why d s path) e), (λ h. sym (why-find d s path (Directory k n) (leads-to (h .0) (holds k n (h .1) (rw (behind-none n)))))))
+  pub directory-exactly : (k n : ℕ)
+      → (findOf d s path ≡ Directory k n) ↔ (Opened d s path × Trail d s (rootOf d) (components path) k n)
+  directory-exactly k n = (
+    (λ e. go (find-why d s path) e),
+    (λ h. sym (why-find d s path (Directory k n) (leads-to (h .0) (holds k n (h .1) (rw (behind-none n)))))),
+  )
     where
-      go : Why d s path (findOf d s path) → findOf d s path ≡ Directory k n → Opened d s path × Trail d s (rootOf d) (components path) k n
+      go : Why d s path (findOf d s path) → findOf d s path ≡ Directory k n
+          → Opened d s path × Trail d s (rootOf d) (components path) k n
       go (image h q) e = impossible cc
       go (form h f p q) e = impossible cc
       go (tag h p u q) e = impossible cc
@@ -179,7 +226,12 @@ module _ (d : Disk) (s path : List ℕ) where
 
   -- A file is found if and only if it is what the last component leads to.
   pub file-exactly : (k z n : ℕ) → (findOf d s path ≡ File k z n) ↔ IsFile d s path k z n
-  file-exactly k z n = ((λ e. go (find-why d s path) e), (λ h. sym (why-find d s path (File k z n) (leads-to (h .opened) (file (h .comes) (h .position) (h .found) (h .kind) (h .last) (rw (h .count, h .size, h .key, behind-none n)))))))
+  file-exactly k z n = (
+    (λ e. go (find-why d s path) e),
+    (λ h. sym (why-find d s path (File k z n)
+        (leads-to (h .opened) (file (h .comes) (h .position) (h .found) (h .kind) (h .last)
+        (rw (h .count, h .size, h .key, behind-none n)))))),
+  )
     where
       go : Why d s path (findOf d s path) → findOf d s path ≡ File k z n → IsFile d s path k z n
       go (image h q) e = impossible cc
@@ -189,7 +241,17 @@ module _ (d : Disk) (s path : List ℕ) where
       go (leads-to o (holds k′ m h q)) e = impossible cc
       go (leads-to o (file w p f u b q)) e =
           let y : 0 + (w .compared + (p + 1)) ≡ n = cc in
-          record { opened = o; comes = w; position = p; found = f; kind = u; last = b; key = cc; size = cc; count = omega arith }
+          record {
+            opened = o;
+            comes = w;
+            position = p;
+            found = f;
+            kind = u;
+            last = b;
+            key = cc;
+            size = cc;
+            count = omega arith;
+          }
       go (leads-to o (used w p f u b q)) e = impossible cc
       go (leads-to o (missing w p f q)) e = impossible cc
       go (leads-to o (fault w p f q)) e = impossible cc

@@ -1,5 +1,5 @@
--- In a tree a chain never has more entries than the limit: its keys, the root's, the bitmap block's and the two boot blocks differ
--- (`chain-few`). Assumes nothing.
+-- In a tree a chain never has more entries than the limit: its keys, the root's, the bitmap block's and the two boot
+-- blocks differ (`chain-few`). Assumes nothing.
 use Prim.Native.Nat.{ℕ, zero, suc, _≤_, _<_}
 use mathlib.Core.Path.{_≡_, refl, sym, ap, _∙_}
 use mathlib.Core.Logic.{_≢_, _⊎_, inl, inr}
@@ -38,15 +38,21 @@ few-below n l u h =
 
 -- a file's lists refer to no entry
 keys-none : (s : List ℕ) (b k : ℕ) → to Kind.entry k ∈ keyRefs s b → ⊥
-keys-none s b k h = go (in-either (to Kind.entry k) (map (to Kind.datum) (keysDown s b 0 (wordOf s b 2))) (link Kind.list (wordOf s b 126)) h)
+keys-none s b k h =
+    go (in-either (to Kind.entry k) (map (to Kind.datum) (keysDown s b 0 (wordOf s b 2)))
+    (link Kind.list (wordOf s b 126)) h)
   where
     last : (w : ℕ) → to Kind.entry k ∈ link Kind.list w → ⊥
     last zero m = m
     last (suc w) (inl e) = let f : Kind.entry ≡ Kind.list = ap (λ (r : Ref). r .kind) e in impossible cc
     last (suc w) (inr m) = m
 
-    go : (to Kind.entry k ∈ map (to Kind.datum) (keysDown s b 0 (wordOf s b 2))) ⊎ (to Kind.entry k ∈ link Kind.list (wordOf s b 126)) → ⊥
-    go (inl m) = let a = map-in (to Kind.datum) (to Kind.entry k) (keysDown s b 0 (wordOf s b 2)) m in let f : Kind.entry ≡ Kind.datum = ap (λ (r : Ref). r .kind) (a .2) in impossible cc
+    go : (to Kind.entry k ∈ map (to Kind.datum) (keysDown s b 0 (wordOf s b 2)))
+        ⊎ (to Kind.entry k ∈ link Kind.list (wordOf s b 126))
+        → ⊥
+    go (inl m) =
+        let a = map-in (to Kind.datum) (to Kind.entry k) (keysDown s b 0 (wordOf s b 2)) m in
+        let f : Kind.entry ≡ Kind.datum = ap (λ (r : Ref). r .kind) (a .2) in impossible cc
     go (inr m) = last (wordOf s b 126) m
 
 module _ (d : Disk) (s : List ℕ) (v : Tree d s) where
@@ -73,10 +79,16 @@ module _ (d : Disk) (s : List ℕ) (v : Tree d s) where
   -- a key with a reference to it as an entry is not the bitmap block's
   not-page : (k : ℕ) → From d s k → k ≢ page
   unfolding refersTo
-  not-page k f e = let w = v .owned .once (f .from) (to Kind.root (rootOf d)) (to Kind.entry k) (to Kind.bitmap page) (f .nth) 0 (f .reached) (top refl) (f .stands) page-at e in go (f .from .kind) (f .from .key) (f .nth) (f .reached) (f .stands) (w .0) (w .1)
+  not-page k f e =
+      let w =
+      v .owned .once (f .from) (to Kind.root (rootOf d)) (to Kind.entry k) (to Kind.bitmap page) (f .nth) 0
+      (f .reached) (top refl) (f .stands) page-at e in
+      go (f .from .kind) (f .from .key) (f .nth) (f .reached) (f .stands) (w .0) (w .1)
     where
       go : (a : Kind) (t n : ℕ) → B (to a t) → At n (to Kind.entry k) (refersTo s a t) → t ≡ rootOf d → n ≡ 0 → ⊥
-      go Kind.root t n r h q z = let y : to Kind.entry k ≡ to Kind.bitmap (wordOf s t 79) = rw z at h in let f : Kind.entry ≡ Kind.bitmap = ap (λ (r : Ref). r .kind) y in impossible cc
+      go Kind.root t n r h q z =
+          let y : to Kind.entry k ≡ to Kind.bitmap (wordOf s t 79) = rw z at h in
+          let f : Kind.entry ≡ Kind.bitmap = ap (λ (r : Ref). r .kind) y in impossible cc
       go Kind.bitmap t n r h q z = h
       go Kind.entry t n r h q z = not-root t r q
       go Kind.list t n r h q z = keys-none s t k (at-in (to Kind.entry k) n (keyRefs s t) h)
@@ -111,7 +123,11 @@ module _ (d : Disk) (s : List ℕ) (v : Tree d s) where
       keys-uniq : (n : ℕ) → n ≤ suc p → Uniq (keys n)
       unfolding keys
       keys-uniq zero h = tt
-      keys-uniq (suc n) h = ((λ m. let w = in-keys n (K n) m in chain-apart d s t i holder l (v .owned) (w .0) n (w .1) (before n (omega arith)) (sym (w .2))), keys-uniq n (omega arith))
+      keys-uniq (suc n) h = (
+        (λ m. let w = in-keys n (K n) m in chain-apart d s t i holder l (v .owned) (w .0) n (w .1)
+            (before n (omega arith)) (sym (w .2))),
+        keys-uniq n (omega arith),
+      )
 
       key-from : (x : ℕ) → x ∈ keys (suc p) → From d s x
       key-from x m =
@@ -129,7 +145,13 @@ module _ (d : Disk) (s : List ℕ) (v : Tree d s) where
       ranged x (inr (inr m)) = v .keys (to Kind.entry x) (referred d s x (key-from x m))
 
       all-uniq : Uniq all
-      all-uniq = (low, ((λ m. let r = ranged 1 m .0 in omega arith), (first, ((λ m. not-page page (key-from page m) refl), keys-uniq (suc p) (omega arith)))))
+      all-uniq = (
+        low,
+        (
+          (λ m. let r = ranged 1 m .0 in omega arith),
+          (first, ((λ m. not-page page (key-from page m) refl), keys-uniq (suc p) (omega arith))),
+        ),
+      )
         where
           low : 0 ∈ (1 ∷ rootOf d ∷ page ∷ keys (suc p)) → ⊥
           low (inl e) = omega arith

@@ -34,7 +34,8 @@ module _ (xs : List ℕ) where
   unfolding isComponent pick
   component-long p q = rw (le-leb 1 (length xs) p, lt-leb (length xs) longest q)
 
-  pub component-is : (r : Bool) → 1 ≤ length xs → length xs ≤ longest → r ≡ allowed (slice 0 (0 + length xs) xs) → r ≡ isComponent xs
+  pub component-is : (r : Bool) → 1 ≤ length xs → length xs ≤ longest → r ≡ allowed (slice 0 (0 + length xs) xs)
+      → r ≡ isComponent xs
   unfolding isComponent pick
   component-is r p q e = rw (le-leb 1 (length xs) p, le-leb (length xs) longest q) (rw (whole xs) at e)
 
@@ -44,18 +45,28 @@ module _ (xs : List ℕ) where
 split-none : (xs : List ℕ) → ((j : ℕ) → j < length xs → getD xs j 0 ≡ slash → ⊥) → split xs ≡ xs ∷ []
 unfolding split pick
 split-none [] none = refl
-split-none (x ∷ xs) none = simp (ne-eqb x 47 (none 0 (suc-le-suc zero-le)), split-none xs (λ j h. none (suc j) (suc-le-suc h)))
+split-none (x ∷ xs) none =
+    simp (ne-eqb x 47 (none 0 (suc-le-suc zero-le)), split-none xs (λ j h. none (suc j) (suc-le-suc h)))
 
-split-first : (xs : List ℕ) (k : ℕ) → ((j : ℕ) → j < k → getD xs j 0 ≡ slash → ⊥) → k < length xs → getD xs k 0 ≡ slash → split xs ≡ take k xs ∷ split (drop (k + 1) xs)
+split-first : (xs : List ℕ) (k : ℕ) → ((j : ℕ) → j < k → getD xs j 0 ≡ slash → ⊥) → k < length xs
+    → getD xs k 0 ≡ slash → split xs ≡ take k xs ∷ split (drop (k + 1) xs)
 unfolding split pick
 split-first [] k none l e = absurd (not-suc-le-zero l)
 split-first (x ∷ xs) zero none l e = simp (eq-eqb x 47 e, add-one)
-split-first (x ∷ xs) (suc k) none l e = simp (ne-eqb x 47 (none 0 (suc-le-suc zero-le)), split-first xs k (λ j h. none (suc j) (suc-le-suc h)) (le-of-suc-le-suc l) e, add-one)
+split-first (x ∷ xs) (suc k) none l e =
+    simp (
+      ne-eqb x 47 (none 0 (suc-le-suc zero-le)),
+      split-first xs k (λ j h. none (suc j) (suc-le-suc h))
+          (le-of-suc-le-suc l) e,
+      add-one,
+    )
 
 module _ (xs : List ℕ) (k : ℕ) (at : FirstSlash xs k) where
   -- the rest as code takes it, `&path[k + 1..]`
   pub split-more : k < length xs → split xs ≡ take k xs ∷ split (take (length xs - (k + 1)) (drop (k + 1) xs))
-  split-more l = rw (take-all (length xs - (k + 1)) (drop (k + 1) xs) (simp length-drop (le-refl _))) (split-first xs k (at .before) l (at .there l))
+  split-more l =
+      rw (take-all (length xs - (k + 1)) (drop (k + 1) xs) (simp length-drop (le-refl _)))
+      (split-first xs k (at .before) l (at .there l))
 
   pub split-end : length xs ≤ k → split xs ≡ take k xs ∷ []
   split-end l = rw (take-all k xs l) (split-none xs (λ j h. at .before j (omega arith)))
@@ -63,7 +74,9 @@ module _ (xs : List ℕ) (k : ℕ) (at : FirstSlash xs k) where
   -- ---- the form of the components
 
   module _ (i : ℕ) (good : Bool) (g : good ≡ isComponent (take k xs)) where
-    pub form-more : good ≡ true → k < length xs → (r : Tested) → r ≡ componentsFault (i + 1) (split (take (length xs - (k + 1)) (drop (k + 1) xs))) → r ≡ componentsFault i (split xs)
+    pub form-more : good ≡ true → k < length xs → (r : Tested)
+        → r ≡ componentsFault (i + 1) (split (take (length xs - (k + 1)) (drop (k + 1) xs)))
+        → r ≡ componentsFault i (split xs)
     unfolding componentsFault pick
     form-more q l r e = rw (split-more l, ← g, q) e
 
@@ -101,10 +114,13 @@ module _ (path : List ℕ) where
       go [] q = absurd (q refl)
       go (x ∷ xs) q = refl
 
-  pub path-form : length path ≤ longestPath → (length path ≡ 0 → ⊥) → (r : Tested) → r ≡ componentsFault 0 (split path) → r ≡ pathFault path
+  pub path-form : length path ≤ longestPath → (length path ≡ 0 → ⊥) → (r : Tested)
+      → r ≡ componentsFault 0 (split path) → r ≡ pathFault path
   unfolding pathFault pick
   path-form p q r e = rw (le-ltb longestPath (length path) p, ← path-components q) e
 
   pub path-short : (r : Tested) → r ≡ pathFault path → r ≡ Passed → length path ≤ longestPath
   unfolding pathFault
-  path-short r e q = ltb-false _ _ (pick-passed (ltb longestPath (length path)) (refusal 18 0) (componentsFault 0 (components path)) (sym e ∙ q) .0)
+  path-short r e q =
+      ltb-false _ _ (pick-passed (ltb longestPath (length path)) (refusal 18 0) (componentsFault 0 (components path))
+      (sym e ∙ q) .0)

@@ -16,29 +16,43 @@ use Rattle.lookup.specs.Search.{positionKey, searchOf}
 use Rattle.lookup.specs.Lookup.{refuse, fileAt, lookupFrom}
 use Rattle.lookup.specs.Trails.{First, Over, Trail, stay, down, Comes}
 use Rattle.lookup.proofs.Chains.{faultAt}
-use Rattle.lookup.proofs.Positions.{Fails, Outcome, at, ended, faulty, outcome, search-first, search-over, search-fails}
+use Rattle.lookup.proofs.Positions.{Fails, Outcome, at, ended, faulty, outcome, search-first, search-over}
+use Rattle.lookup.proofs.Positions.{search-fails}
 
--- what decides a lookup of the components cs from directory t on, the first of which is number i, n entries compared before
+-- what decides a lookup of the components cs from directory t on, the first of which is number i, n entries compared
+-- before
 pub data Leads (d : Disk) (s : List ℕ) (t i n : ℕ) (cs : List (List ℕ)) (r : Found) : Type 0 where
   -- all lead to directories
   holds : (k m : ℕ) → Trail d s t cs k m → r ≡ Directory k (n + m) → Leads d s t i n cs r
   -- the last leads to a file
-  file : (w : Comes d s t cs) (p : ℕ) → First d s (w .parent) (w .name) p → directory s (positionKey d s (w .parent) (w .name) p) ≡ false → w .back ≡ [] → r ≡ File (positionKey d s (w .parent) (w .name) p) (sizeOf s (positionKey d s (w .parent) (w .name) p)) (n + (w .compared + (p + 1))) → Leads d s t i n cs r
+  file : (w : Comes d s t cs) (p : ℕ) → First d s (w .parent) (w .name) p
+      → directory s (positionKey d s (w .parent) (w .name) p) ≡ false → w .back ≡ []
+      → r ≡ File (positionKey d s (w .parent) (w .name) p) (sizeOf s (positionKey d s (w .parent) (w .name) p))
+      (n + (w .compared + (p + 1)))
+      → Leads d s t i n cs r
   -- one before the last does
-  used : (w : Comes d s t cs) (p : ℕ) → First d s (w .parent) (w .name) p → directory s (positionKey d s (w .parent) (w .name) p) ≡ false → (w .back ≡ [] → ⊥) → r ≡ refuse 20 (i + length (w .front)) → Leads d s t i n cs r
+  used : (w : Comes d s t cs) (p : ℕ) → First d s (w .parent) (w .name) p
+      → directory s (positionKey d s (w .parent) (w .name) p) ≡ false → (w .back ≡ [] → ⊥)
+      → r ≡ refuse 20 (i + length (w .front)) → Leads d s t i n cs r
   -- a chain has ended
-  missing : (w : Comes d s t cs) (p : ℕ) → Over d s (w .parent) (w .name) p → r ≡ refuse 19 (i + length (w .front)) → Leads d s t i n cs r
+  missing : (w : Comes d s t cs) (p : ℕ) → Over d s (w .parent) (w .name) p → r ≡ refuse 19 (i + length (w .front))
+      → Leads d s t i n cs r
   -- an entry fails its tests
-  fault : (w : Comes d s t cs) (p : ℕ) → Fails d s (w .parent) (w .name) p → r ≡ refuse (faultAt d s (w .parent) (w .name) p) (positionKey d s (w .parent) (w .name) p) → Leads d s t i n cs r
+  fault : (w : Comes d s t cs) (p : ℕ) → Fails d s (w .parent) (w .name) p
+      → r ≡ refuse (faultAt d s (w .parent) (w .name) p) (positionKey d s (w .parent) (w .name) p)
+      → Leads d s t i n cs r
 
 module _ (d : Disk) (s : List ℕ) where
   -- ---- a lookup goes along a trail
 
-  below : (t i n : ℕ) (c : List ℕ) (cs : List (List ℕ)) (p : ℕ) → First d s t c p → directory s (positionKey d s t c p) ≡ true → lookupFrom d s t i n (c ∷ cs) ≡ lookupFrom d s (positionKey d s t c p) (i + 1) (n + (p + 1)) cs
+  below : (t i n : ℕ) (c : List ℕ) (cs : List (List ℕ)) (p : ℕ) → First d s t c p
+      → directory s (positionKey d s t c p) ≡ true
+      → lookupFrom d s t i n (c ∷ cs) ≡ lookupFrom d s (positionKey d s t c p) (i + 1) (n + (p + 1)) cs
   unfolding lookupFrom pick
   below t i n c cs p f e = rw (search-first d s t c p f, e)
 
-  pub along : {t k m : ℕ} {cs : List (List ℕ)} → Trail d s t cs k m → (i n : ℕ) (back : List (List ℕ)) → lookupFrom d s t i n (cs ++ back) ≡ lookupFrom d s k (i + length cs) (n + m) back
+  pub along : {t k m : ℕ} {cs : List (List ℕ)} → Trail d s t cs k m → (i n : ℕ) (back : List (List ℕ))
+      → lookupFrom d s t i n (cs ++ back) ≡ lookupFrom d s k (i + length cs) (n + m) back
   along {t} stay i n back =
       let a : i + 0 ≡ i = omega arith in
       let b : n + 0 ≡ n = omega arith in
@@ -58,13 +72,30 @@ module _ (d : Disk) (s : List ℕ) where
     module _ (p : ℕ) (f : First d s t c p) (e : directory s (positionKey d s t c p) ≡ true) where
       -- one after it
       abbrev further : Comes d s (positionKey d s t c p) cs → Comes d s t (c ∷ cs)
-      further w = record { front = c ∷ w .front; name = w .name; back = w .back; parts = ap (λ l. c ∷ l) (w .parts); parent = w .parent; compared = p + 1 + w .compared; trail = down p f e (w .trail) }
+      further w =
+          record {
+            front = c ∷ w .front;
+            name = w .name;
+            back = w .back;
+            parts = ap (λ l. c ∷ l) (w .parts);
+            parent = w .parent;
+            compared = p + 1 + w .compared;
+            trail = down p f e (w .trail);
+          }
 
-      deeper : (i n : ℕ) (r : Found) → Leads d s (positionKey d s t c p) (i + 1) (n + (p + 1)) cs r → Leads d s t i n (c ∷ cs) r
-      deeper i n r (holds k m h q) = let x : n + (p + 1) + m ≡ n + (p + 1 + m) = omega arith in holds k (p + 1 + m) (down p f e h) (rw x at q)
-      deeper i n r (file w p′ g u v q) = let x : n + (p + 1) + (w .compared + (p′ + 1)) ≡ n + (p + 1 + w .compared + (p′ + 1)) = omega arith in file (further w) p′ g u v (rw x at q)
-      deeper i n r (used w p′ g u v q) = let x : i + 1 + length (w .front) ≡ i + suc (length (w .front)) = omega arith in used (further w) p′ g u v (rw x at q)
-      deeper i n r (missing w p′ g q) = let x : i + 1 + length (w .front) ≡ i + suc (length (w .front)) = omega arith in missing (further w) p′ g (rw x at q)
+      deeper : (i n : ℕ) (r : Found) → Leads d s (positionKey d s t c p) (i + 1) (n + (p + 1)) cs r
+          → Leads d s t i n (c ∷ cs) r
+      deeper i n r (holds k m h q) =
+          let x : n + (p + 1) + m ≡ n + (p + 1 + m) = omega arith in holds k (p + 1 + m) (down p f e h) (rw x at q)
+      deeper i n r (file w p′ g u v q) =
+          let x : n + (p + 1) + (w .compared + (p′ + 1)) ≡ n + (p + 1 + w .compared + (p′ + 1)) = omega arith in
+          file (further w) p′ g u v (rw x at q)
+      deeper i n r (used w p′ g u v q) =
+          let x : i + 1 + length (w .front) ≡ i + suc (length (w .front)) = omega arith in
+          used (further w) p′ g u v (rw x at q)
+      deeper i n r (missing w p′ g q) =
+          let x : i + 1 + length (w .front) ≡ i + suc (length (w .front)) = omega arith in
+          missing (further w) p′ g (rw x at q)
       deeper i n r (fault w p′ g q) = fault (further w) p′ g q
 
   pub leads : (t i n : ℕ) (cs : List (List ℕ)) → Leads d s t i n cs (lookupFrom d s t i n cs)
@@ -75,20 +106,28 @@ module _ (d : Disk) (s : List ℕ) where
       here : i + 0 ≡ i
       here = omega arith
 
-      is : (p : ℕ) → First d s t c p → directory s (positionKey d s t c p) ≡ false → lookupFrom d s t i n (c ∷ cs) ≡ fileAt s i (n + (p + 1)) cs (positionKey d s t c p)
+      is : (p : ℕ) → First d s t c p → directory s (positionKey d s t c p) ≡ false
+          → lookupFrom d s t i n (c ∷ cs) ≡ fileAt s i (n + (p + 1)) cs (positionKey d s t c p)
       is p f e = rw (search-first d s t c p f, e)
 
-      ends : (l : List (List ℕ)) → cs ≡ l → (p : ℕ) → First d s t c p → directory s (positionKey d s t c p) ≡ false → Leads d s t i n (c ∷ cs) (lookupFrom d s t i n (c ∷ cs))
+      ends : (l : List (List ℕ)) → cs ≡ l → (p : ℕ) → First d s t c p → directory s (positionKey d s t c p) ≡ false
+          → Leads d s t i n (c ∷ cs) (lookupFrom d s t i n (c ∷ cs))
       ends [] x p f e =
           let y : 0 + (p + 1) ≡ p + 1 = omega arith in
           file (first t c cs) p f e x (rw y (is p f e ∙ ap (λ l. fileAt s i (n + (p + 1)) l (positionKey d s t c p)) x))
-      ends (b ∷ l) x p f e = used (first t c cs) p f e (λ y. impossible cc) (is p f e ∙ ap (λ l. fileAt s i (n + (p + 1)) l (positionKey d s t c p)) x ∙ (rw here))
+      ends (b ∷ l) x p f e =
+          used (first t c cs) p f e (λ y. impossible cc)
+          (is p f e ∙ ap (λ l. fileAt s i (n + (p + 1)) l (positionKey d s t c p)) x ∙ (rw here))
 
-      which : (b : Bool) (p : ℕ) → First d s t c p → directory s (positionKey d s t c p) ≡ b → ((k m : ℕ) → Leads d s k (i + 1) m cs (lookupFrom d s k (i + 1) m cs)) → Leads d s t i n (c ∷ cs) (lookupFrom d s t i n (c ∷ cs))
-      which true p f e ih = deeper t c cs p f e i n _ (rw (below t i n c cs p f e) (ih (positionKey d s t c p) (n + (p + 1))))
+      which : (b : Bool) (p : ℕ) → First d s t c p → directory s (positionKey d s t c p) ≡ b
+          → ((k m : ℕ) → Leads d s k (i + 1) m cs (lookupFrom d s k (i + 1) m cs))
+          → Leads d s t i n (c ∷ cs) (lookupFrom d s t i n (c ∷ cs))
+      which true p f e ih =
+          deeper t c cs p f e i n _ (rw (below t i n c cs p f e) (ih (positionKey d s t c p) (n + (p + 1))))
       which false p f e ih = ends cs refl p f e
 
-      go : Outcome d s t c (searchOf d s t c) → ((k m : ℕ) → Leads d s k (i + 1) m cs (lookupFrom d s k (i + 1) m cs)) → Leads d s t i n (c ∷ cs) (lookupFrom d s t i n (c ∷ cs))
+      go : Outcome d s t c (searchOf d s t c) → ((k m : ℕ) → Leads d s k (i + 1) m cs (lookupFrom d s k (i + 1) m cs))
+          → Leads d s t i n (c ∷ cs) (lookupFrom d s t i n (c ∷ cs))
       go (at p f q) ih = which (directory s (positionKey d s t c p)) p f refl ih
       go (ended p f q) ih = missing (first t c cs) p f (rw (q, here))
       go (faulty p f q) ih = fault (first t c cs) p f (rw q)
@@ -99,11 +138,16 @@ module _ (d : Disk) (s : List ℕ) where
   unfolding lookupFrom pick
   leads-only t i n cs r h = go h
     where
-      to : (w : Comes d s t cs) → lookupFrom d s t i n cs ≡ lookupFrom d s (w .parent) (i + length (w .front)) (n + w .compared) (w .name ∷ w .back)
+      to : (w : Comes d s t cs)
+          → lookupFrom d s t i n cs ≡ lookupFrom d s (w .parent) (i + length (w .front)) (n + w .compared)
+          (w .name ∷ w .back)
       to w = ap (lookupFrom d s t i n) (w .parts) ∙ along (w .trail) i n (w .name ∷ w .back)
 
       -- a file that the component of w leads to
-      ends : (w : Comes d s t cs) (p : ℕ) → First d s (w .parent) (w .name) p → directory s (positionKey d s (w .parent) (w .name) p) ≡ false → lookupFrom d s t i n cs ≡ fileAt s (i + length (w .front)) (n + w .compared + (p + 1)) (w .back) (positionKey d s (w .parent) (w .name) p)
+      ends : (w : Comes d s t cs) (p : ℕ) → First d s (w .parent) (w .name) p
+          → directory s (positionKey d s (w .parent) (w .name) p) ≡ false
+          → lookupFrom d s t i n cs ≡ fileAt s (i + length (w .front)) (n + w .compared + (p + 1)) (w .back)
+          (positionKey d s (w .parent) (w .name) p)
       ends w p f e = to w ∙ (rw (search-first d s (w .parent) (w .name) p f, e))
 
       behind : (k j m : ℕ) (l : List (List ℕ)) → (l ≡ [] → ⊥) → fileAt s j m l k ≡ refuse 20 j
@@ -114,7 +158,9 @@ module _ (d : Disk) (s : List ℕ) where
       go (holds k m h q) = q ∙ sym (ap (lookupFrom d s t i n) (sym (append-nil cs)) ∙ along h i n [])
       go (file w p f e b q) =
           let x : n + (w .compared + (p + 1)) ≡ n + w .compared + (p + 1) = omega arith in
-          q ∙ (rw x (sym (ends w p f e ∙ ap (λ l. fileAt s (i + length (w .front)) (n + w .compared + (p + 1)) l (positionKey d s (w .parent) (w .name) p)) b)))
+          q ∙ (rw x (sym (ends w p f e
+          ∙ ap (λ l. fileAt s (i + length (w .front)) (n + w .compared + (p + 1)) l
+          (positionKey d s (w .parent) (w .name) p)) b)))
       go (used w p f e b q) = q ∙ sym (ends w p f e ∙ behind _ _ _ (w .back) b)
       go (missing w p f q) = q ∙ sym (to w ∙ (rw (search-over d s (w .parent) (w .name) p f)))
       go (fault w p f q) = q ∙ sym (to w ∙ (rw (search-fails d s (w .parent) (w .name) p f)))

@@ -1,5 +1,5 @@
--- A lookup: image length, the path's form, boot tag, the root up to its name; then component by component, each in the directory that
--- the one before it led to (docs/FORMAT.md, "Paths and reads" and "Numbers").
+-- A lookup: image length, the path's form, boot tag, the root up to its name; then component by component, each in
+-- the directory that the one before it led to (docs/FORMAT.md, "Paths and reads" and "Numbers").
 use Prim.Native.Nat.{ℕ, _+_}
 use mathlib.Core.Path.{_≡_}
 use mathlib.Core.List.{List, [], _∷_}
@@ -39,7 +39,10 @@ numbersOf (Refused r) = refusedAs (record { kind = 0; key = 0; size = 0; compare
 
 -- the numbers of all refusals of a lookup
 abbrev pub findRefusals : List ℕ
-findRefusals = fault.imageLength ∷ fault.bootTag ∷ fault.rootWords ∷ fault.badKey ∷ fault.claimedTwice ∷ fault.blockSum ∷ fault.blockType ∷ fault.link ∷ fault.wrongTies ∷ fault.badName ∷ fault.wrongSlot ∷ fault.pathForm ∷ fault.notFound ∷ fault.wrongKind ∷ []
+findRefusals =
+    fault.imageLength ∷ fault.bootTag ∷ fault.rootWords ∷ fault.badKey ∷ fault.claimedTwice ∷ fault.blockSum
+    ∷ fault.blockType ∷ fault.link ∷ fault.wrongTies ∷ fault.badName ∷ fault.wrongSlot ∷ fault.pathForm
+    ∷ fault.notFound ∷ fault.wrongKind ∷ []
 
 abbrev pub refuse : ℕ → ℕ → Found
 refuse v at = Refused (refusal v at)

@@ -1,5 +1,5 @@
--- A path is components split by '/'. It has at most 255 bytes, and each component is 1 to 30 bytes without ':'; the empty path has no
--- component (docs/FORMAT.md, "Paths and reads"; refusal 18).
+-- A path is components split by '/'. It has at most 255 bytes, and each component is 1 to 30 bytes without ':'; the
+-- empty path has no component (docs/FORMAT.md, "Paths and reads"; refusal 18).
 use Prim.Native.Nat.{ℕ, _+_}
 use mathlib.Core.Bool.{Bool, false}
 use mathlib.Core.List.{List, [], _∷_, _++_}
@@ -49,4 +49,5 @@ componentsFault i [] = Passed
 componentsFault i (c ∷ cs) = pick (isComponent c) (componentsFault (i + 1) cs) (Failed (refusal fault.pathForm i))
 
 unfoldable pub pathFault : List ℕ → Tested
-pathFault path = pick (ltb longestPath (length path)) (Failed (refusal fault.pathForm 0)) (componentsFault 0 (components path))
+pathFault path =
+    pick (ltb longestPath (length path)) (Failed (refusal fault.pathForm 0)) (componentsFault 0 (components path))

@@ -1,5 +1,5 @@
--- One component in a directory: the chain of its name's slot is searched position by position. Each entry is tested, counted, and compared; the
--- first with an equal folded name ends the search (docs/FORMAT.md, "Paths and reads").
+-- One component in a directory: the chain of its name's slot is searched position by position. Each entry is tested,
+-- counted, and compared; the first with an equal folded name ends the search (docs/FORMAT.md, "Paths and reads").
 use Prim.Native.Nat.{ℕ, zero, suc, _+_}
 use mathlib.Core.List.{List, [], _∷_}
 use lib.Dec.{ltb, eqb}
@@ -22,7 +22,8 @@ positionKey d s t name p = chainKey s (slotWord s t (slotOf d name)) p
 
 -- the tests of key k at position p of the chain of slot i: key range, chain limit, and the entry's own
 unfoldable pub positionFault : Disk → List ℕ → ℕ → ℕ → ℕ → ℕ → ℕ
-positionFault d s t i p k = tests (keyFault d k ∷ must (ltb p (chainLimit d)) fault.claimedTwice ∷ entryFault d s k t i ∷ [])
+positionFault d s t i p k =
+    tests (keyFault d k ∷ must (ltb p (chainLimit d)) fault.claimedTwice ∷ entryFault d s k t i ∷ [])
 
 -- at position p the key is k, and v is what its tests say; `on` is what the positions after it give
 abbrev pub visit : Disk → List ℕ → List ℕ → ℕ → ℕ → ℕ → Step → Step

@@ -1,5 +1,5 @@
--- Components that lead from directory to directory: what stands at each position of a component's chain, and the directories passed on the
--- way; and the names under which an entry lies in the volume.
+-- Components that lead from directory to directory: what stands at each position of a component's chain, and the
+-- directories passed on the way; and the names under which an entry lies in the volume.
 use Prim.Native.Nat.{ℕ, _+_, _≤_, _<_}
 use mathlib.Core.Path.{_≡_}
 use mathlib.Core.Logic.{_≢_}
@@ -16,8 +16,8 @@ use Rattle.lookup.specs.Search.{positionKey}
 
 -- ---- the positions of one chain: that on which directory t would have a name
 
--- position p has an entry that passes its tests: its key lies in the volume, fewer entries come before it than a chain may have, and it is as
--- the law asks of an entry on that chain of t
+-- position p has an entry that passes its tests: its key lies in the volume, fewer entries come before it than a
+-- chain may have, and it is as the law asks of an entry on that chain of t
 pub record Tests (d : Disk) (s : List ℕ) (t : ℕ) (name : List ℕ) (p : ℕ) : Type 0 where
   pub some : positionKey d s t name p ≢ 0
   pub inside : Inside d (positionKey d s t name p)
@@ -45,11 +45,13 @@ pub record Over (d : Disk) (s : List ℕ) (t : ℕ) (name : List ℕ) (p : ℕ) 
 
 -- ---- from directory to directory
 
--- The components cs lead from directory t down to directory k, n entries compared: each is the first equal folded name in the
--- directory that the one before it led to.
+-- The components cs lead from directory t down to directory k, n entries compared: each is the first equal folded
+-- name in the directory that the one before it led to.
 pub data Trail (d : Disk) (s : List ℕ) : ℕ → List (List ℕ) → ℕ → ℕ → Type 0 where
   stay : {t : ℕ} → Trail d s t [] t 0
-  down : {t k n : ℕ} {c : List ℕ} {cs : List (List ℕ)} (p : ℕ) → First d s t c p → directory s (positionKey d s t c p) ≡ true → Trail d s (positionKey d s t c p) cs k n → Trail d s t (c ∷ cs) k (p + 1 + n)
+  down : {t k n : ℕ} {c : List ℕ} {cs : List (List ℕ)} (p : ℕ) → First d s t c p
+      → directory s (positionKey d s t c p) ≡ true → Trail d s (positionKey d s t c p) cs k n
+      → Trail d s t (c ∷ cs) k (p + 1 + n)
 
 -- one of the components, looked for in the directory that those before it lead to
 pub record Comes (d : Disk) (s : List ℕ) (t : ℕ) (cs : List (List ℕ)) : Type 0 where
@@ -66,7 +68,8 @@ pub record Comes (d : Disk) (s : List ℕ) (t : ℕ) (cs : List (List ℕ)) : Ty
 -- the names that lead from directory t down to directory k
 pub data Names (s : List ℕ) : ℕ → List (List ℕ) → ℕ → Type 0 where
   none : {t : ℕ} → Names s t [] t
-  into : {t b k : ℕ} {cs : List (List ℕ)} (i : ℕ) → Hangs s t i b → directory s b ≡ true → Names s b cs k → Names s t (nameOf s b ∷ cs) k
+  into : {t b k : ℕ} {cs : List (List ℕ)} (i : ℕ) → Hangs s t i b → directory s b ≡ true → Names s b cs k
+      → Names s t (nameOf s b ∷ cs) k
 
 -- entry k hangs in the directory `parent`, to which the names `front` lead from directory r
 pub record Lies (s : List ℕ) (r k : ℕ) : Type 0 where

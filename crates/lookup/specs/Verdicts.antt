@@ -1,4 +1,5 @@
--- What each answer of a lookup means: when a path has a bad form, when an entry is found, and when which number is given at which place.
+-- What each answer of a lookup means: when a path has a bad form, when an entry is found, and when which number is
+-- given at which place.
 use Prim.Native.Nat.{ℕ, _+_, _≤_, _<_}
 use mathlib.Core.Path.{_≡_}
 use mathlib.Core.Logic.{_≢_}
@@ -102,13 +103,17 @@ pub record AsDirectory (d : Disk) (s path : List ℕ) (i : ℕ) : Type 0 where
 pub data Refuses (d : Disk) (s path : List ℕ) (v k : ℕ) : Type 0 where
   number-1 : length s ≢ imageBytes d → v ≡ fault.imageLength → k ≡ 0 → Refuses d s path v k
   number-18 : length s ≡ imageBytes d → BadForm path k → v ≡ fault.pathForm → Refuses d s path v k
-  number-3 : length s ≡ imageBytes d → GoodForm path → wordAt s 0 ≢ tagOf d → v ≡ fault.bootTag → k ≡ 0 → Refuses d s path v k
+  number-3 : length s ≡ imageBytes d → GoodForm path → wordAt s 0 ≢ tagOf d → v ≡ fault.bootTag → k ≡ 0
+      → Refuses d s path v k
   -- 7, 8, 4 and 11: the root breaks the law as that number says
-  of-root : length s ≡ imageBytes d → GoodForm path → wordAt s 0 ≡ tagOf d → RootBreaks s (rootOf d) v → k ≡ rootOf d → Refuses d s path v k
+  of-root : length s ≡ imageBytes d → GoodForm path → wordAt s 0 ≡ tagOf d → RootBreaks s (rootOf d) v → k ≡ rootOf d
+      → Refuses d s path v k
   number-5 : Stands d s path k → (Inside d k → ⊥) → v ≡ fault.badKey → Refuses d s path v k
   -- as many entries as a chain may have were compared
-  number-6 : (h : Stands d s path k) → Inside d k → h .position ≡ chainLimit d → v ≡ fault.claimedTwice → Refuses d s path v k
+  number-6 : (h : Stands d s path k) → Inside d k → h .position ≡ chainLimit d → v ≡ fault.claimedTwice
+      → Refuses d s path v k
   -- 7 to 12: the entry breaks the law as that number says
-  of-entry : (h : Stands d s path k) → Inside d k → h .position < chainLimit d → EntryBreaks d s k (h .comes .parent) (slotOf d (h .comes .name)) v → Refuses d s path v k
+  of-entry : (h : Stands d s path k) → Inside d k → h .position < chainLimit d
+      → EntryBreaks d s k (h .comes .parent) (slotOf d (h .comes .name)) v → Refuses d s path v k
   number-19 : Missing d s path k → v ≡ fault.notFound → Refuses d s path v k
   number-20 : AsDirectory d s path k → v ≡ fault.wrongKind → Refuses d s path v k

@@ -47,7 +47,8 @@ fn lookup(
     compared: u32,
 ) -> Found
     requires { ⌜ Looks disk (now image) (now path) directory component compared ⌝ }
-    ensures { λ r. ⌜ r ≡ lookupFrom disk (now (image .entry)) directory component compared (split (now (path .entry))) ⌝ }
+    ensures { λ r. ⌜ r ≡ lookupFrom disk (now (image .entry)) directory component compared
+        (split (now (path .entry))) ⌝ }
 {
     let end = first_slash(path);
     let step = search(disk, image, directory, &path[..end]);

@@ -72,10 +72,14 @@ module _ (t : ℕ) (size : ℕ → ℕ) where
   turn-steps c w mode.Body = body-steps c w
   turn-steps c w (mode.Length kind) = either Steps _ _ _ (one fault.bodyLength tt) (either Steps _ _ _ tt tt)
   turn-steps c w (mode.Stored i) = either Steps _ _ _ tt tt
-  turn-steps c w mode.Part = either Steps _ _ _ tt (either Steps _ _ _ tt (either Steps _ _ _ tt (either Steps _ _ _ tt (one fault.misplacedBlock tt))))
+  turn-steps c w mode.Part =
+      either Steps _ _ _ tt (either Steps _ _ _ tt
+      (either Steps _ _ _ tt (either Steps _ _ _ tt (one fault.misplacedBlock tt))))
   turn-steps c w mode.Count = either Steps _ _ _ tt tt
   turn-steps c w (mode.Number n) = either Steps _ _ _ tt (one fault.badTarget tt)
-  turn-steps c w (mode.Offset n k) = either Steps _ _ _ (either Steps _ _ _ (one fault.badTarget tt) (either Steps _ _ _ tt tt)) (one fault.badTarget tt)
+  turn-steps c w (mode.Offset n k) =
+      either Steps _ _ _ (either Steps _ _ _ (one fault.badTarget tt) (either Steps _ _ _ tt tt))
+      (one fault.badTarget tt)
   turn-steps c w mode.Symbol = either Steps _ _ _ tt (either Steps _ _ _ (one fault.symbolType tt) tt)
   turn-steps c w mode.DebugLength = either Steps _ _ _ tt tt
   turn-steps c w (mode.Skip n a) = either Steps _ _ _ tt tt
@@ -96,14 +100,16 @@ module _ (t : ℕ) (size : ℕ → ℕ) where
   ended-answers end c (mode.Skip n a) = one fault.earlyEnd tt
   ended-answers end c mode.End = tt
 
-  next-answers : (r : Next) (at : ℕ) (f : Cursor → Answer) → Steps r → ((d : Cursor) → Answers (f d)) → Answers (next r at f)
+  next-answers : (r : Next) (at : ℕ) (f : Cursor → Answer) → Steps r → ((d : Cursor) → Answers (f d))
+      → Answers (next r at f)
   next-answers (On d) at f h g = g d
   next-answers (Bad v) at f h g = h
 
   walk-answers : (end at : ℕ) (c : Cursor) (ws : List ℕ) → Answers (walk t size end at c ws)
   unfolding walk stepOf
   walk-answers end at c [] = ended-answers end c (c .mode)
-  walk-answers end at c (w ∷ ws) = next-answers (stepOf t size c w) at _ (turn-steps c w (c .mode)) (λ d. walk-answers end (at + 4) d ws)
+  walk-answers end at c (w ∷ ws) =
+      next-answers (stepOf t size c w) at _ (turn-steps c w (c .mode)) (λ d. walk-answers end (at + 4) d ws)
 
 -- ---- the header
 
@@ -118,7 +124,9 @@ heads-tests : (file : List ℕ) (i n : ℕ) → Tests (heads file i n)
 unfolding heads
 heads-tests file i zero = tt
 heads-tests file i (suc n) =
-    either Tests _ _ _ (one fault.earlyEnd tt) (judge-tests (headFault (totalOf file) i (wordAt file (4 * i))) (4 * i) _ (head-given (totalOf file) i (wordAt file (4 * i))) (heads-tests file (i + 1) n))
+    either Tests _ _ _ (one fault.earlyEnd tt)
+    (judge-tests (headFault (totalOf file) i (wordAt file (4 * i))) (4 * i) _
+    (head-given (totalOf file) i (wordAt file (4 * i))) (heads-tests file (i + 1) n))
 
 and-answers : (h : Tested) (a : Answer) → Tests h → Answers a → Answers (and h a)
 and-answers Passed a p q = q
@@ -132,14 +140,16 @@ unfolding checkOf
 check-refuses file =
     either Answers _ _ _ (one fault.fileLength tt)
     (either Answers _ _ _
-    (and-answers (heads file 0 5) _ (heads-tests file 0 5) (and-answers (heads file 5 (totalOf file)) _ (heads-tests file 5 (totalOf file)) (walk-answers _ _ _ _ _ _)))
+    (and-answers (heads file 0 5) _ (heads-tests file 0 5)
+    (and-answers (heads file 5 (totalOf file)) _ (heads-tests file 5 (totalOf file)) (walk-answers _ _ _ _ _ _)))
     (one fault.fileLength tt))
 
 pub check-number : (file : List ℕ) (f : Refusal) → checkOf file ≡ Refused f → f .number ∈ checkRefusals
 check-number file f e = subst Answers e (check-refuses file)
 
 -- an answer with a number of ns, where 0 is none of them: it is 0 if and only if the answer accepts
-pub zero-accepts : (ns : List ℕ) → T (not (has ns 0)) → (r : Answer) → Refuses ns r → (numbersOf r .number ≡ 0) ↔ ((t : ℕ) × (n : ℕ) × (r ≡ Accepted t n))
+pub zero-accepts : (ns : List ℕ) → T (not (has ns 0)) → (r : Answer) → Refuses ns r
+    → (numbersOf r .number ≡ 0) ↔ ((t : ℕ) × (n : ℕ) × (r ≡ Accepted t n))
 zero-accepts ns z (Accepted t n) h = (λ _. (t, n, refl), λ _. refl)
 zero-accepts ns z (Refused x) h = (λ e. unlisted ns (x .number) 0 z h e, λ q. impossible cc)
 

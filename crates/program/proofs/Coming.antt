@@ -1,4 +1,5 @@
--- A refusal by the reader, word by word (`Because`): a step towards `Says` of specs/Verdicts, in which no reader stands. Assumes nothing.
+-- A refusal by the reader, word by word (`Because`): a step towards `Says` of specs/Verdicts, in which no reader
+-- stands. Assumes nothing.
 use Prim.Native.Nat.{ℕ, _+_, _*_, _%_, _<_, _≤_}
 use mathlib.Core.Path.{_≡_}
 use mathlib.Core.Logic.{_≢_, _⊎_}
@@ -11,7 +12,9 @@ use Rattle.answers.specs.Refusals.{refusal}
 use Rattle.answers.specs.declared.Refusal.{Refusal}
 use Rattle.program.specs.declared.reader.Cursor.{Cursor}
 use Rattle.program.specs.declared.reader.Mode.{Mode}
-use Rattle.program.specs.declared.reader.Mode.the-variants.{Begin, NameLength, Body, Length, Stored, Part, Count, Number, Offset, Symbol, DebugLength, Skip, End}
+use Rattle.program.specs.declared.reader.Mode.the-variants.{Begin, NameLength, Body, Length, Stored, Part}
+use Rattle.program.specs.declared.reader.Mode.the-variants.{Count, Number, Offset, Symbol, DebugLength, Skip}
+use Rattle.program.specs.declared.reader.Mode.the-variants.{End}
 use Rattle.program.specs.declared.reader.Next.the-variants.{On, Bad}
 use Rattle.program.specs.Header.{totalOf, sizeOf, startAt}
 use Rattle.program.specs.Reader.{start, stepOf}
@@ -20,7 +23,8 @@ use Rattle.program.specs.Verdicts.{BadLength, GoodLength, HeadWord, Head
 -- the reader comes to byte `at` with the cursor c: it has taken every word of the hunks before that byte
 pub data Comes (file : List ℕ) : Cursor → ℕ → Type 0 where
   begins : Comes file start (startAt file)
-  takes : {c d : Cursor} {at : ℕ} → Comes file c at → at < length file → stepOf (totalOf file) (sizeOf file) c (wordAt file at) ≡ On d → Comes file d (at + 4)
+  takes : {c d : Cursor} {at : ℕ} → Comes file c at → at < length file
+      → stepOf (totalOf file) (sizeOf file) c (wordAt file at) ≡ On d → Comes file d (at + 4)
 
 -- 35 to 39: it comes to a word that it does not take
 pub record HunkWord (file : List ℕ) (f : Refusal) : Type 0 where
@@ -41,10 +45,12 @@ pub record Missing (file : List ℕ) (f : Refusal) : Type 0 where
 
 -- which word w is not taken, by what the reader expects there: v is the number
 abbrev pub Refuses : ℕ → (ℕ → ℕ) → Cursor → ℕ → ℕ → Mode → Type 0
-Refuses t size c w v Begin = (v ≡ fault.misplacedBlock) × (w ≢ type.name) × (w ≢ type.code) × (w ≢ type.stores) × (w ≢ type.bss)
+Refuses t size c w v Begin =
+    (v ≡ fault.misplacedBlock) × (w ≢ type.name) × (w ≢ type.code) × (w ≢ type.stores) × (w ≢ type.bss)
 Refuses t size c w v Body = (v ≡ fault.misplacedBlock) × (w ≢ type.code) × (w ≢ type.stores) × (w ≢ type.bss)
 Refuses t size c w v (Length k) = (v ≡ fault.bodyLength) × (size (c .hunk) < w)
-Refuses t size c w v Part = (v ≡ fault.misplacedBlock) × (w ≢ type.relocation) × (w ≢ type.symbols) × (w ≢ type.debug) × (w ≢ type.end)
+Refuses t size c w v Part =
+    (v ≡ fault.misplacedBlock) × (w ≢ type.relocation) × (w ≢ type.symbols) × (w ≢ type.debug) × (w ≢ type.end)
 Refuses t size c w v (Number n) = (v ≡ fault.badTarget) × (t ≤ w)
 Refuses t size c w v (Offset n k) = (v ≡ fault.badTarget) × ((w % 2 ≢ 0) ⊎ (4 * c .stored < w + 4))
 Refuses t size c w v Symbol = (v ≡ fault.symbolType) × (0x1000000 ≤ w)

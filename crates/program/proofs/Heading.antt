@@ -54,7 +54,8 @@ split s (x ∷ l) rest at (suc n) e =
     let b : suc n - suc (length l) ≡ n - length l = omega arith in
     record { long = omega (arith, r .long); others = rw (a, b) (r .others); first = go p (r .first) }
   where
-    go : wordAt s at ≡ x → ((i : ℕ) → i < length l → wordAt s (at + 4 + 4 * i) ≡ getD l i 0) → (i : ℕ) → i < suc (length l) → wordAt s (at + 4 * i) ≡ getD (x ∷ l) i 0
+    go : wordAt s at ≡ x → ((i : ℕ) → i < length l → wordAt s (at + 4 + 4 * i) ≡ getD l i 0) → (i : ℕ)
+        → i < suc (length l) → wordAt s (at + 4 * i) ≡ getD (x ∷ l) i 0
     go p f zero h = let a : at + 4 * 0 ≡ at = omega arith in rw a p
     go p f (suc i) h = let a : at + 4 * suc i ≡ at + 4 + 4 * i = omega arith in rw a (f i (omega arith))
 
@@ -63,12 +64,14 @@ split s (x ∷ l) rest at (suc n) e =
 judged : (v at : ℕ) (r : Tested) → v ≡ 0 → judge v at r ≡ r
 judged v at r e = rw e
 
-pub heads-pass : (file : List ℕ) (n i : ℕ) → 4 * (i + n) ≤ length file → ((j : ℕ) → i ≤ j → j < i + n → headFault (totalOf file) j (wordAt file (4 * j)) ≡ 0) → heads file i n ≡ Passed
+pub heads-pass : (file : List ℕ) (n i : ℕ) → 4 * (i + n) ≤ length file
+    → ((j : ℕ) → i ≤ j → j < i + n → headFault (totalOf file) j (wordAt file (4 * j)) ≡ 0) → heads file i n ≡ Passed
 unfolding heads pick
 heads-pass file zero i l f = refl
 heads-pass file (suc n) i l f =
     rw (le-ltb (length file) (4 * i + 4) (omega arith))
-    (judged _ _ _ (f i (omega arith) (omega arith)) ∙ heads-pass file n (i + 1) (omega arith) (λ j a b. f j (omega arith) (omega arith)))
+    (judged _ _ _ (f i (omega arith) (omega arith))
+    ∙ heads-pass file n (i + 1) (omega arith) (λ j a b. f j (omega arith) (omega arith)))
 
 module _ (t w : ℕ) where
   pub fault-0 : w ≡ type.header → headFault t 0 w ≡ 0
@@ -93,7 +96,14 @@ module _ (t w : ℕ) where
 
   size-test : (i : ℕ) → headFault t (5 + i) w ≡ must (leb w type.largestHunk) 34
   unfolding pick
-  size-test i = rw (ne-eqb (5 + i) 0 (omega arith), ne-eqb (5 + i) 1 (omega arith), ne-eqb (5 + i) 2 (omega arith), ne-eqb (5 + i) 3 (omega arith), ne-eqb (5 + i) 4 (omega arith))
+  size-test i =
+      rw (
+        ne-eqb (5 + i) 0 (omega arith),
+        ne-eqb (5 + i) 1 (omega arith),
+        ne-eqb (5 + i) 2 (omega arith),
+        ne-eqb (5 + i) 3 (omega arith),
+        ne-eqb (5 + i) 4 (omega arith),
+      )
 
   pub fault-size : (i : ℕ) → w ≤ type.largestHunk → headFault t (5 + i) w ≡ 0
   unfolding must
@@ -113,7 +123,8 @@ module _ (t w : ℕ) where
   unfolding pick
   is-2 e = go (eqb w 0) refl e
     where
-      go : (b : Bool) → eqb w 0 ≡ b → pick b fault.headerWord (must (leb w type.mostHunks) fault.headerWord) ≡ 0 → (1 ≤ w) × (w ≤ type.mostHunks)
+      go : (b : Bool) → eqb w 0 ≡ b → pick b fault.headerWord (must (leb w type.mostHunks) fault.headerWord) ≡ 0
+          → (1 ≤ w) × (w ≤ type.mostHunks)
       go true q x = absurd (omega arith)
       go false q x = let z = eqb-false w 0 q in (omega (arith, z), leb-true w type.mostHunks (must-passed _ _ x))
 
@@ -138,7 +149,8 @@ each-passes file zero i e j l h = absurd (omega arith)
 each-passes file (suc n) i e j l h =
     let a = pick-passed (ltb (length file) (4 * i + 4)) _ _ e in
     let b = judge-pass (headFault (totalOf file) i (wordAt file (4 * i))) (4 * i) _ (a .1) in
-    go (decLt i j) (ltb-false (length file) (4 * i + 4) (a .0), b .0) (λ q. each-passes file n (i + 1) (b .1) j (omega arith) (omega arith))
+    go (decLt i j) (ltb-false (length file) (4 * i + 4) (a .0), b .0)
+    (λ q. each-passes file n (i + 1) (b .1) j (omega arith) (omega arith))
   where
     go : Dec (i < j) → HeadPasses file i → (i < j → HeadPasses file j) → HeadPasses file j
     go (yes q) f more = more q

@@ -19,7 +19,8 @@ module _ (file : List ℕ) (i n : ℕ) where
   unfolding heads pick
   heads-short p h = let e : n ≡ suc (n - 1) = omega arith in rw (e, lt-ltb _ _ h)
 
-  module _ (v w : ℕ) (p : 0 < n) (h : 4 * i + 4 ≤ length file) (x : w ≡ wordAt file (4 * i)) (e : v ≡ headFault (totalOf file) i w) where
+  module _ (v w : ℕ) (p : 0 < n) (h : 4 * i + 4 ≤ length file) (x : w ≡ wordAt file (4 * i))
+      (e : v ≡ headFault (totalOf file) i w) where
     pub heads-bad : (v ≡ 0 → ⊥) → heads file i n ≡ Failed (refusal v (4 * i))
     unfolding heads pick
     heads-bad z =
@@ -40,7 +41,8 @@ heads-none file i n h = let e : n ≡ 0 = omega arith in rw e
 
 -- ---- a header that passed
 
-pub few-hunks : (file : List ℕ) → heads file 0 5 ≡ Passed → (20 ≤ length file) × (1 ≤ totalOf file) × (totalOf file ≤ 64)
+pub few-hunks : (file : List ℕ) → heads file 0 5 ≡ Passed
+    → (20 ≤ length file) × (1 ≤ totalOf file) × (totalOf file ≤ 64)
 few-hunks file e =
     let f = is-2 (totalOf file) (totalOf file) (each-passes file 5 0 e 2 (omega arith) (omega arith) .1) in
     (omega (arith, each-passes file 5 0 e 4 (omega arith) (omega arith) .0), f .0, f .1)
@@ -54,5 +56,8 @@ header-fits file e g =
       few = f .2;
       some = f .1;
       long = omega (arith, last .0);
-      small = λ i h. is-size (totalOf file) (sizeOf file i) i (subst (λ (p : ℕ). headFault (totalOf file) (5 + i) (wordAt file p) ≡ 0) (omega arith) (each-passes file (totalOf file) 5 g (5 + i) (omega arith) (omega arith) .1));
+      small =
+          λ i h. is-size (totalOf file) (sizeOf file i) i
+          (subst (λ (p : ℕ). headFault (totalOf file) (5 + i) (wordAt file p) ≡ 0) (omega arith)
+          (each-passes file (totalOf file) 5 g (5 + i) (omega arith) (omega arith) .1));
     }

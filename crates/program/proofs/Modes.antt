@@ -18,7 +18,9 @@ use Rattle.program.specs.declared.act.Act.the-variants as act
 use Rattle.program.specs.declared.check.Answer.{Answer}
 use Rattle.program.specs.declared.reader.Cursor.{Cursor}
 use Rattle.program.specs.declared.reader.Mode.{Mode}
-use Rattle.program.specs.declared.reader.Mode.the-variants.{Begin, NameLength, Body, Length, Stored, Part, Count, Number, Offset, Symbol, DebugLength, Skip, End}
+use Rattle.program.specs.declared.reader.Mode.the-variants.{Begin, NameLength, Body, Length, Stored, Part}
+use Rattle.program.specs.declared.reader.Mode.the-variants.{Count, Number, Offset, Symbol, DebugLength, Skip}
+use Rattle.program.specs.declared.reader.Mode.the-variants.{End}
 use Rattle.program.specs.declared.reader.Next.{Next}
 use Rattle.program.specs.Header.{totalOf}
 use Rattle.program.specs.Reader.{turn, stepOf}
@@ -70,7 +72,8 @@ rest-quiet c at w = go (c .mode)
 abbrev missing : List ℕ
 missing = 0 ∷ 1 ∷ 2 ∷ 3 ∷ 4 ∷ 5 ∷ 6 ∷ 7 ∷ 8 ∷ 9 ∷ 10 ∷ 11 ∷ []
 
-pub rest-open : (end : ℕ) (c : Cursor) (m : Mode) → OneOf missing (tagOf the-type m) → refuse fault.earlyEnd end ≡ endedOf end c m
+pub rest-open : (end : ℕ) (c : Cursor) (m : Mode) → OneOf missing (tagOf the-type m)
+    → refuse fault.earlyEnd end ≡ endedOf end c m
 unfolding pick
 rest-open end c End h = absurd (none missing 12 tt h)
 rest-open end c Begin h = refl
@@ -88,7 +91,8 @@ rest-open end c (Skip n a) h = refl
 
 -- ---- by the mode that a branch knows
 
-pub by-mode : (t : ℕ) (size : ℕ → ℕ) (c : Cursor) (w : ℕ) (m : Mode) (r : Next) → c .mode ≡ m → r ≡ turn t size c w m → r ≡ stepOf t size c w
+pub by-mode : (t : ℕ) (size : ℕ → ℕ) (c : Cursor) (w : ℕ) (m : Mode) (r : Next) → c .mode ≡ m → r ≡ turn t size c w m
+    → r ≡ stepOf t size c w
 unfolding stepOf
 by-mode t size c w m r e h = h ∙ sym (ap (turn t size c w) e)
 
@@ -96,16 +100,20 @@ pub by-act : (c : Cursor) (at w : ℕ) (m : Mode) (r : Act) → c .mode ≡ m �
 unfolding actOf
 by-act c at w m r e h = h ∙ sym (ap (asks c at w) e)
 
-pub by-end : (end : ℕ) (c : Cursor) (m : Mode) (r : Answer) → c .mode ≡ m → r ≡ endedOf end c m → r ≡ endedOf end c (c .mode)
+pub by-end : (end : ℕ) (c : Cursor) (m : Mode) (r : Answer) → c .mode ≡ m → r ≡ endedOf end c m
+    → r ≡ endedOf end c (c .mode)
 by-end end c m r e h = h ∙ sym (ap (endedOf end c) e)
 
 -- the header's words are there while a hunk is read
-pub in-header : (file : List ℕ) (c : Cursor) (m : Mode) → CursorFits file c → c .mode ≡ m → (ModeFits (totalOf file) (c .hunk) (c .stored) m → c .hunk < totalOf file) → (24 + 4 * c .hunk ≤ length file) × (c .hunk < 64) × (c .place ≤ 4294967296)
+pub in-header : (file : List ℕ) (c : Cursor) (m : Mode) → CursorFits file c → c .mode ≡ m
+    → (ModeFits (totalOf file) (c .hunk) (c .stored) m → c .hunk < totalOf file)
+    → (24 + 4 * c .hunk ≤ length file) × (c .hunk < 64) × (c .place ≤ 4294967296)
 in-header file c m s e f =
     let h : c .hunk < totalOf file = f (subst (ModeFits (totalOf file) (c .hunk) (c .stored)) e (s .mode)) in
     (omega (arith, s .header .long), omega (arith, s .header .few), omega (arith, s .low, s .header .few))
 
 pub stored-fits : (file : List ℕ) (c : Cursor) (i : ℕ) → CursorFits file c → c .mode ≡ Stored i → i + 1 < 4294967296
 stored-fits file c i s e =
-    let h : (c .hunk < totalOf file) × (i < c .stored) = subst (ModeFits (totalOf file) (c .hunk) (c .stored)) e (s .mode) in
+    let h : (c .hunk < totalOf file) × (i < c .stored) =
+    subst (ModeFits (totalOf file) (c .hunk) (c .stored)) e (s .mode) in
     omega (arith, h .1, s .fits, s .header .small (c .hunk) (h .0))

@@ -1,5 +1,5 @@
--- A program file is what the page says: the check accepts the files whose words are hunks within the limits, written out, and no others.
--- Assumes nothing.
+-- A program file is what the page says: the check accepts the files whose words are hunks within the limits, written
+-- out, and no others. Assumes nothing.
 use Prim.Native.Nat.{ℕ, zero, suc, _+_, _*_, _-_, _/_, _%_, _<_, _≤_}
 use mathlib.Core.Path.{_≡_, refl, sym, ap, _∙_}
 use mathlib.Core.Logic.{_⊎_, inl, inr, _↔_}
@@ -28,7 +28,8 @@ use Rattle.program.proofs.Beginnings.{unended}
 use Rattle.program.proofs.Standing.{cons, Within, Past, comes-stands}
 use Rattle.program.proofs.Stops.{Ends, ended, Stops, walk-stops}
 use Rattle.program.proofs.Heads.{header-fits}
-use Rattle.program.proofs.Heading.{words-add, Split, split, heads-pass, fault-0, fault-1, fault-2, fault-3, fault-4, fault-size, is-0, is-1, is-3, is-4, each-passes}
+use Rattle.program.proofs.Heading.{words-add, Split, split, heads-pass, fault-0, fault-1, fault-2, fault-3}
+use Rattle.program.proofs.Heading.{fault-4, fault-size, is-0, is-1, is-3, is-4, each-passes}
 
 -- ---- sizes
 
@@ -40,8 +41,12 @@ sized-of : (t : ℕ) (size : ℕ → ℕ) (hs : List Hunk) (h : ℕ) → Each (H
 sized-of t size [] h f e g = omega arith
 sized-of t size (x ∷ xs) h f e g =
     let a : h + 0 ≡ h = omega arith in
-    let b : size h ≡ x .size = rw a at (g 0 (omega arith)) in
-    (sym b, f .0, sized-of t size xs (h + 1) (f .1) (omega arith) (λ i l. let d : h + suc i ≡ h + 1 + i = omega arith in rw d at (g (suc i) (omega arith))))
+    let b : size h ≡ x .size = rw a at (g 0 (omega arith)) in (
+      sym b,
+      f .0,
+      sized-of t size xs (h + 1) (f .1) (omega arith)
+          (λ i l. let d : h + suc i ≡ h + 1 + i = omega arith in rw d at (g (suc i) (omega arith))),
+    )
 
 small-sizes : (t : ℕ) (hs : List Hunk) (i : ℕ) → Each (HunkFits t) hs → i < length hs → getD (sizes hs) i 0 ≤ 65536
 small-sizes t [] i f l = absurd (omega arith)
@@ -52,7 +57,8 @@ sizes-fit : (t : ℕ) (size : ℕ → ℕ) (hs : List Hunk) (h : ℕ) → OfSize
 sizes-fit t size [] h f = tt
 sizes-fit t size (x ∷ xs) h f = (f .1, sizes-fit t size xs (h + 1) (f .2))
 
-sizes-words : (t : ℕ) (file : List ℕ) (hs : List Hunk) (h : ℕ) → OfSizes t (sizeOf file) h hs → wordsAt file (20 + 4 * h) (length hs) ≡ sizes hs
+sizes-words : (t : ℕ) (file : List ℕ) (hs : List Hunk) (h : ℕ) → OfSizes t (sizeOf file) h hs
+    → wordsAt file (20 + 4 * h) (length hs) ≡ sizes hs
 unfolding wordsAt sizeOf
 sizes-words t file [] h f = refl
 sizes-words t file (x ∷ xs) h f =
@@ -61,7 +67,8 @@ sizes-words t file (x ∷ xs) h f =
 
 -- ---- what is written is accepted
 
-module _ (file : List ℕ) (hs : List Hunk) (p : Program hs) (whole : length file % 4 ≡ 0) (e : wordsAt file 0 (length file / 4) ≡ written hs) where
+module _ (file : List ℕ) (hs : List Hunk) (p : Program hs) (whole : length file % 4 ≡ 0)
+    (e : wordsAt file 0 (length file / 4) ≡ written hs) where
   cut : Split file (headWords hs) (joined hunkWords hs) 0 (length file / 4)
   cut = split file (headWords hs) (joined hunkWords hs) 0 (length file / 4) e
 
@@ -91,7 +98,8 @@ module _ (file : List ℕ) (hs : List Hunk) (p : Program hs) (whole : length fil
       go : (j : ℕ) → 0 ≤ j → j < 5 → headFault (totalOf file) j (wordAt file (4 * j)) ≡ 0
       go zero a b = fault-0 (totalOf file) _ (cut .first 0 (omega (arith, head-length)))
       go (suc zero) a b = fault-1 (totalOf file) _ (cut .first 1 (omega (arith, head-length)))
-      go (suc (suc zero)) a b = fault-2 (totalOf file) (totalOf file) (omega (arith, is-total, p .least)) (omega (arith, is-total, p .most))
+      go (suc (suc zero)) a b =
+          fault-2 (totalOf file) (totalOf file) (omega (arith, is-total, p .least)) (omega (arith, is-total, p .most))
       go (suc (suc (suc zero))) a b = fault-3 (totalOf file) _ (cut .first 3 (omega (arith, head-length)))
       go (suc (suc (suc (suc zero)))) a b =
           let l = cut .first 4 (omega (arith, head-length)) in
@@ -107,12 +115,14 @@ module _ (file : List ℕ) (hs : List Hunk) (p : Program hs) (whole : length fil
       go : (j i : ℕ) → j ≡ 5 + i → i < length hs → headFault (totalOf file) j (wordAt file (4 * j)) ≡ 0
       go j i d l =
           let a : 4 * (5 + i) ≡ 20 + 4 * i = omega arith in
-          rw (d, a) (fault-size (totalOf file) (sizeOf file i) i (rw (is-sized i l) (small-sizes (length hs) hs i (p .hunks) l)))
+          rw (d, a) (fault-size (totalOf file) (sizeOf file i) i
+          (rw (is-sized i l) (small-sizes (length hs) hs i (p .hunks) l)))
 
   pub rest-words : wordsAt file (startAt file) ((length file - startAt file) / 4) ≡ joined hunkWords hs
   rest-words =
       let a : startAt file ≡ 0 + 4 * length (headWords hs) = omega (arith, is-total, head-length) in
-      let b : (length file - startAt file) / 4 ≡ length file / 4 - length (headWords hs) = omega (arith, is-total, head-length) in
+      let b : (length file - startAt file) / 4 ≡ length file / 4 - length (headWords hs) =
+      omega (arith, is-total, head-length) in
       rw (b, a) (cut .others)
 
   walk-taken : walkOf file ≡ Accepted (totalOf file) (4 * total hs)
@@ -128,17 +138,20 @@ module _ (file : List ℕ) (hs : List Hunk) (p : Program hs) (whole : length fil
       rw (ne-eqb (length file) 0 (omega (arith, is-long)), eq-eqb (length file % 4) 0 whole, heads-first, heads-second)
       (walk-taken ∙ ap (λ (k : ℕ). Accepted k (4 * total hs)) is-total)
 
-pub page-accepted : (file : List ℕ) (hs : List Hunk) → Holds file hs → checkOf file ≡ Accepted (length hs) (4 * total hs)
+pub page-accepted : (file : List ℕ) (hs : List Hunk) → Holds file hs
+    → checkOf file ≡ Accepted (length hs) (4 * total hs)
 page-accepted file hs h = is-accepted file hs (h .fits) (h .whole) (h .words)
 
 -- ---- what is accepted is written
 
-pick-no : (b : Bool) (r : Refusal) (a : Answer) (t n : ℕ) → pick b (Refused r) a ≡ Accepted t n → (b ≡ false) × (a ≡ Accepted t n)
+pick-no : (b : Bool) (r : Refusal) (a : Answer) (t n : ℕ) → pick b (Refused r) a ≡ Accepted t n
+    → (b ≡ false) × (a ≡ Accepted t n)
 unfolding pick
 pick-no true r a t n e = not-accepted e
 pick-no false r a t n e = (refl, e)
 
-pick-yes : (b : Bool) (r : Refusal) (a : Answer) (t n : ℕ) → pick b a (Refused r) ≡ Accepted t n → (b ≡ true) × (a ≡ Accepted t n)
+pick-yes : (b : Bool) (r : Refusal) (a : Answer) (t n : ℕ) → pick b a (Refused r) ≡ Accepted t n
+    → (b ≡ true) × (a ≡ Accepted t n)
 unfolding pick
 pick-yes true r a t n e = (refl, e)
 pick-yes false r a t n e = not-accepted e
@@ -185,9 +198,12 @@ module _ (file : List ℕ) (t n : ℕ) (r : Read file t n) where
     where
       stop : Stops file (walkOf file) → (hs : List Hunk) × AllHunks file hs (length file)
       stop (inr k) = not-accepted (sym (k .2) ∙ r .hunks)
-      stop (inl k) = over (ended (length file) (k .0) (k .0 .mode)) (comes-stands file (r .whole) headed (k .0) (length file) (k .1))
+      stop (inl k) =
+          over (ended (length file) (k .0) (k .0 .mode))
+          (comes-stands file (r .whole) headed (k .0) (length file) (k .1))
         where
-          over : Ends (length file) (k .0) (k .0 .mode) → Within file (k .0) (length file) ⊎ Past file (k .0) (length file)
+          over : Ends (length file) (k .0) (k .0 .mode)
+              → Within file (k .0) (length file) ⊎ Past file (k .0) (length file)
               → (hs : List Hunk) × AllHunks file hs (length file)
           over (inr x) y = not-accepted (sym (x .1) ∙ sym (k .2) ∙ r .hunks)
           over (inl x) (inl y) = absurd (unended (y .begun) (ap (λ (c : Cursor). c .mode) (y .is) ∙ x .0))
@@ -198,7 +214,8 @@ module _ (file : List ℕ) (t n : ℕ) (r : Read file t n) where
     unfolding wordsAt
     all-written =
         let k : ℕ = length (joined hunkWords hs) in
-        let q : length file / 4 ≡ suc (suc (suc (suc (suc (length hs + k))))) = omega (arith, z .all, z .stand .reaches) in
+        let q : length file / 4 ≡ suc (suc (suc (suc (suc (length hs + k))))) =
+        omega (arith, z .all, z .stand .reaches) in
         let s : 20 + 4 * length hs ≡ startAt file = omega (arith, z .all) in
         ap (wordsAt file 0) q
         ∙ cons word-0 (cons word-1 (cons (sym (z .all)) (cons word-3 (cons (omega (arith, word-4, z .all))
@@ -206,13 +223,27 @@ module _ (file : List ℕ) (t n : ℕ) (r : Read file t n) where
 
     is-program : Program hs
     is-program =
-        record { least = omega (arith, z .all, headed .some); most = omega (arith, z .all, headed .few); hunks = rw (z .all) (sizes-fit (totalOf file) (sizeOf file) hs 0 (z .hunks)) }
+        record {
+          least = omega (arith, z .all, headed .some);
+          most = omega (arith, z .all, headed .few);
+          hunks = rw (z .all) (sizes-fit (totalOf file) (sizeOf file) hs 0 (z .hunks));
+        }
 
   read : (hs : List Hunk) × Holds file hs
-  read = (past .0, record { fits = is-program (past .0) (past .1); whole = r .whole; words = all-written (past .0) (past .1) })
+  read = (
+    past .0,
+    record {
+      fits = is-program (past .0) (past .1);
+      whole = r .whole;
+      words = all-written (past .0) (past .1);
+    },
+  )
 
 pub accepted-page : (file : List ℕ) (t n : ℕ) → checkOf file ≡ Accepted t n → (hs : List Hunk) × Holds file hs
 accepted-page file t n e = read file t n (accepted-read file t n e)
 
 pub page : (file : List ℕ) → ((t : ℕ) × (n : ℕ) × (checkOf file ≡ Accepted t n)) ↔ ((hs : List Hunk) × Holds file hs)
-page file = (λ a. accepted-page file (a .0) (a .1) (a .2), λ b. (length (b .0), 4 * total (b .0), page-accepted file (b .0) (b .1)))
+page file = (
+  λ a. accepted-page file (a .0) (a .1) (a .2),
+  λ b. (length (b .0), 4 * total (b .0), page-accepted file (b .0) (b .1)),
+)

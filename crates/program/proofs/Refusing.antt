@@ -1,5 +1,5 @@
--- What each refusal of the check says of the file, and that it is given exactly then: `refused-exactly`. Before that the same by the reader's
--- cursor (`check-why`, `why-check`). Assumes nothing.
+-- What each refusal of the check says of the file, and that it is given exactly then: `refused-exactly`. Before that
+-- the same by the reader's cursor (`check-why`, `why-check`). Assumes nothing.
 use Prim.Native.Nat.{ℕ, zero, suc, _+_, _*_, _-_, _%_, _<_, _≤_}
 use mathlib.Core.Path.{_≡_, refl, sym, ap, subst, _∙_}
 use mathlib.Core.Logic.{_≢_, _⊎_, inl, inr, _↔_, Iff·rfl}
@@ -23,15 +23,20 @@ use Rattle.program.specs.declared.check.Answer.{Answer}
 use Rattle.program.specs.declared.check.Answer.the-variants.{Accepted, Refused}
 use Rattle.program.specs.declared.reader.Cursor.{Cursor}
 use Rattle.program.specs.declared.reader.Mode.{Mode}
-use Rattle.program.specs.declared.reader.Mode.the-variants.{Begin, NameLength, Body, Length, Stored, Part, Count, Number, Offset, Symbol, DebugLength, Skip, End}
+use Rattle.program.specs.declared.reader.Mode.the-variants.{Begin, NameLength, Body, Length, Stored, Part}
+use Rattle.program.specs.declared.reader.Mode.the-variants.{Count, Number, Offset, Symbol, DebugLength, Skip}
+use Rattle.program.specs.declared.reader.Mode.the-variants.{End}
 use Rattle.program.specs.declared.reader.Next.the-variants.{On, Bad}
 use Rattle.program.specs.Header.{totalOf, sizeOf, judge, heads}
 use Rattle.program.specs.Reader.{on, bodyOf, endOf, turn, stepOf}
 use Rattle.program.specs.Check.{refuse, endedOf, walkOf, and, checkOf}
 use Rattle.program.specs.Cursors.{HeaderFits}
 use Rattle.program.specs.Page.{Hunk, storedWords, OffsetFits, Holds, total}
-use Rattle.program.specs.Begun.{PartBegun, Begun, aPart, aCount, aNumber, anOffset, aSymbol, symbolWord, debugLength, debugWord, first, nameLength, nameWord, aBody, bodyLength, bodyWord, afterBody, PartWrong, Wrong}
-use Rattle.program.specs.Verdicts.{WrongWord, MoreWords, MissingWord, Says, BadLength, GoodLength, OfHeader, HeadPasses, faultAt, HeadFails, HeadWord, Headed}
+use Rattle.program.specs.Begun.{PartBegun, Begun, aPart, aCount, aNumber, anOffset, aSymbol, symbolWord}
+use Rattle.program.specs.Begun.{debugLength, debugWord, first, nameLength, nameWord, aBody, bodyLength}
+use Rattle.program.specs.Begun.{bodyWord, afterBody, PartWrong, Wrong}
+use Rattle.program.specs.Verdicts.{WrongWord, MoreWords, MissingWord, Says, BadLength, GoodLength, OfHeader}
+use Rattle.program.specs.Verdicts.{HeadPasses, faultAt, HeadFails, HeadWord, Headed}
 use Rattle.program.proofs.Coming.{HunkWord, Missing, Refuses, Because}
 use Rattle.program.proofs.Answers.{not-refused, not-failed}
 use Rattle.program.proofs.Heading.{each-passes, heads-pass}
@@ -39,7 +44,8 @@ use Rattle.program.proofs.Heads.{header-fits}
 use Rattle.program.proofs.Pages.{accepted-page, page-accepted}
 use Rattle.program.proofs.CursorsFit.{pick-on}
 use Rattle.program.proofs.Taken.{cursor}
-use Rattle.program.proofs.Beginnings.{partMode, modeOf, unended, cursorIn, cursorOf, cursorPast, before-comes, whole-comes}
+use Rattle.program.proofs.Beginnings.{partMode, modeOf, unended, cursorIn, cursorOf, cursorPast, before-comes}
+use Rattle.program.proofs.Beginnings.{whole-comes}
 use Rattle.program.proofs.Standing.{Within, Past, comes-stands}
 use Rattle.program.proofs.Stops.{Ends, ended, Stops, walk-stops, comes-reads}
 use Rattle.program.proofs.Walks.{walk-bad, walk-end}
@@ -49,29 +55,47 @@ use Rattle.program.proofs.Walks.{walk-bad, walk-end}
 failed-same : (r f : Refusal) → Failed r ≡ Failed f → f ≡ r
 failed-same r f e = cc
 
-passes-more : (file : List ℕ) (i : ℕ) → ((j : ℕ) → j < i → HeadPasses file j) → HeadPasses file i → (j : ℕ) → j < i + 1 → HeadPasses file j
+passes-more : (file : List ℕ) (i : ℕ) → ((j : ℕ) → j < i → HeadPasses file j) → HeadPasses file i → (j : ℕ)
+    → j < i + 1 → HeadPasses file j
 passes-more file i b x j h = go (decLt j i)
   where
     go : Dec (j < i) → HeadPasses file j
     go (yes q) = b j q
     go (no q) = let e : i ≡ j = omega arith in subst (HeadPasses file) e x
 
-heads-why : (file : List ℕ) (f : Refusal) (n i : ℕ) → ((j : ℕ) → i ≤ j → j < i + n → OfHeader file j) → ((j : ℕ) → j < i → HeadPasses file j)
+heads-why : (file : List ℕ) (f : Refusal) (n i : ℕ) → ((j : ℕ) → i ≤ j → j < i + n → OfHeader file j)
+    → ((j : ℕ) → j < i → HeadPasses file j)
     → heads file i n ≡ Failed f → HeadWord file f
 unfolding heads pick
 heads-why file f zero i w b e = not-failed e
-heads-why file f (suc n) i w b e = long (ltb (length file) (4 * i + 4)) refl e (heads-why file f n (i + 1) (λ j l h. w j (omega arith) (omega arith)))
+heads-why file f (suc n) i w b e =
+    long (ltb (length file) (4 * i + 4)) refl e
+    (heads-why file f n (i + 1) (λ j l h. w j (omega arith) (omega arith)))
   where
     wrong : (v : ℕ) → faultAt file i ≡ v → 4 * i + 4 ≤ length file → judge v (4 * i) (heads file (i + 1) n) ≡ Failed f
-        → (((j : ℕ) → j < i + 1 → HeadPasses file j) → heads file (i + 1) n ≡ Failed f → HeadWord file f) → HeadWord file f
+        → (((j : ℕ) → j < i + 1 → HeadPasses file j) → heads file (i + 1) n ≡ Failed f → HeadWord file f)
+        → HeadWord file f
     wrong zero q l x k = k (passes-more file i b (l, q)) x
     wrong (suc v) q l x k =
-        record { word = i; within = w i (omega arith) (omega arith); before = b; cause = inr (l, (λ z. omega (arith, q, z)), failed-same _ f x ∙ ap (λ u. refusal u (4 * i)) (sym q)) }
+        record {
+          word = i;
+          within = w i (omega arith) (omega arith);
+          before = b;
+          cause = inr (l, (λ z. omega (arith, q, z)), failed-same _ f x ∙ ap (λ u. refusal u (4 * i)) (sym q));
+        }
 
     long : (t : Bool) → ltb (length file) (4 * i + 4) ≡ t
-        → pick t (Failed (refusal fault.earlyEnd (length file))) (judge (faultAt file i) (4 * i) (heads file (i + 1) n)) ≡ Failed f
-        → (((j : ℕ) → j < i + 1 → HeadPasses file j) → heads file (i + 1) n ≡ Failed f → HeadWord file f) → HeadWord file f
-    long true q x k = record { word = i; within = w i (omega arith) (omega arith); before = b; cause = inl (ltb-true _ _ q, failed-same _ f x) }
+        → pick t (Failed (refusal fault.earlyEnd (length file)))
+        (judge (faultAt file i) (4 * i) (heads file (i + 1) n)) ≡ Failed f
+        → (((j : ℕ) → j < i + 1 → HeadPasses file j) → heads file (i + 1) n ≡ Failed f → HeadWord file f)
+        → HeadWord file f
+    long true q x k =
+        record {
+          word = i;
+          within = w i (omega arith) (omega arith);
+          before = b;
+          cause = inl (ltb-true _ _ q, failed-same _ f x);
+        }
     long false q x k = wrong _ refl (ltb-false _ _ q) x k
 
 -- ---- the hunks
@@ -88,7 +112,13 @@ walk-why file f a (inl k) e = go (ended (length file) (k .0) (k .0 .mode))
   where
     go : Ends (length file) (k .0) (k .0 .mode) → HunkWord file f ⊎ Missing file f
     go (inl x) = not-refused (sym (x .1) ∙ sym (k .2) ∙ e)
-    go (inr x) = inr (record { cursor = k .0; comes = k .1; unended = x .0; said = refused-same _ f (sym (x .1) ∙ sym (k .2) ∙ e) })
+    go (inr x) =
+        inr (record {
+          cursor = k .0;
+          comes = k .1;
+          unended = x .0;
+          said = refused-same _ f (sym (x .1) ∙ sym (k .2) ∙ e);
+        })
 
 -- ---- the whole check
 
@@ -100,9 +130,20 @@ all-pass file p q j h = go (decLt j 5)
     go (no l) = each-passes file (totalOf file) 5 q j (omega arith) h
 
 module _ (file : List ℕ) (f : Refusal) where
-  all-why : GoodLength file → (a b : Tested) → heads file 0 5 ≡ a → heads file 5 (totalOf file) ≡ b → and a (and b (walkOf file)) ≡ Refused f → Because file f
-  all-why w (Failed r) b p q e = inr (inl (w, heads-why file f 5 0 (λ j l h. omega arith) (λ j h. absurd (omega arith)) (p ∙ ap Failed (sym (refused-same r f e)))))
-  all-why w Passed (Failed r) p q e = inr (inl (w, heads-why file f (totalOf file) 5 (λ j l h. h) (λ j h. each-passes file 5 0 p j (omega arith) h) (q ∙ ap Failed (sym (refused-same r f e)))))
+  all-why : GoodLength file → (a b : Tested) → heads file 0 5 ≡ a → heads file 5 (totalOf file) ≡ b
+      → and a (and b (walkOf file)) ≡ Refused f → Because file f
+  all-why w (Failed r) b p q e =
+      inr (inl (
+        w,
+        heads-why file f 5 0 (λ j l h. omega arith) (λ j h. absurd (omega arith))
+            (p ∙ ap Failed (sym (refused-same r f e))),
+      ))
+  all-why w Passed (Failed r) p q e =
+      inr (inl (
+        w,
+        heads-why file f (totalOf file) 5 (λ j l h. h) (λ j h. each-passes file 5 0 p j (omega arith) h)
+            (q ∙ ap Failed (sym (refused-same r f e))),
+      ))
   all-why w Passed Passed p q e =
       inr (inr (w, all-pass file p q, walk-why file f (walkOf file) (walk-stops file (w .1) (header-fits file p q)) e))
 
@@ -112,10 +153,14 @@ module _ (file : List ℕ) (f : Refusal) where
   check-why e = empty (eqb (length file) 0) refl (eqb (length file % 4) 0) refl e
     where
       empty : (x : Bool) → eqb (length file) 0 ≡ x → (y : Bool) → eqb (length file % 4) 0 ≡ y
-          → pick x (refuse fault.fileLength 0) (pick y (and (heads file 0 5) (and (heads file 5 (totalOf file)) (walkOf file))) (refuse fault.fileLength 0)) ≡ Refused f → Because file f
+          → pick x (refuse fault.fileLength 0)
+          (pick y (and (heads file 0 5) (and (heads file 5 (totalOf file)) (walkOf file)))
+          (refuse fault.fileLength 0)) ≡ Refused f
+          → Because file f
       empty true p y q e = inl (inl (eqb-true _ _ p), refused-same _ f e)
       empty false p false q e = inl (inr (eqb-false _ _ q), refused-same _ f e)
-      empty false p true q e = all-why (eqb-false _ _ p, eqb-true _ _ q) (heads file 0 5) (heads file 5 (totalOf file)) refl refl e
+      empty false p true q e =
+          all-why (eqb-false _ _ p, eqb-true _ _ q) (heads file 0 5) (heads file 5 (totalOf file)) refl refl e
 
 -- ---- and each of these reasons gives that refusal
 
@@ -141,11 +186,13 @@ module _ (file : List ℕ) (f : Refusal) where
       here e (inl c) = rw (e, lt-ltb _ _ (c .0), c .1)
       here e (inr c) = rw (e, le-ltb _ _ (c .0), c .2) (judged (faultAt file (w .word)) (c .1))
         where
-          judged : (v : ℕ) → v ≢ 0 → judge v (4 * w .word) (heads file (w .word + 1) n) ≡ Failed (refusal v (4 * w .word))
+          judged : (v : ℕ) → v ≢ 0
+              → judge v (4 * w .word) (heads file (w .word + 1) n) ≡ Failed (refusal v (4 * w .word))
           judged zero z = absurd (z refl)
           judged (suc v) z = refl
 
-      go : Dec (i < w .word) → (i + 1 ≤ w .word → w .word < i + 1 + n → heads file (i + 1) n ≡ Failed f) → heads file i (suc n) ≡ Failed f
+      go : Dec (i < w .word) → (i + 1 ≤ w .word → w .word < i + 1 + n → heads file (i + 1) n ≡ Failed f)
+          → heads file i (suc n) ≡ Failed f
       go (yes q) k = let x = w .before i q in rw (le-ltb _ _ (x .0), x .1) (k (omega arith) (omega arith))
       go (no q) k = here (omega arith) (w .cause)
 
@@ -153,12 +200,15 @@ module _ (file : List ℕ) (f : Refusal) where
   walk-refuses : GoodLength file → HeaderFits file → HunkWord file f ⊎ Missing file f → walkOf file ≡ Refused f
   walk-refuses w s (inl c) =
       let r = comes-reads file (w .1) s (c .comes) in
-      r .rest ∙ walk-bad file (c .at) (c .cursor) (wordAt file (c .at)) _ (w .1) (r .aligned) (c .there) refl refl (c .number) (c .refuses) ∙ ap Refused (sym (c .said))
+      r .rest ∙ walk-bad file (c .at) (c .cursor) (wordAt file (c .at)) _ (w .1) (r .aligned) (c .there) refl refl
+      (c .number) (c .refuses) ∙ ap Refused (sym (c .said))
   walk-refuses w s (inr c) =
       let r = comes-reads file (w .1) s (c .comes) in
-      r .rest ∙ walk-end file (length file) (c .cursor) (omega arith) ∙ go (ended (length file) (c .cursor) (c .cursor .mode)) ∙ ap Refused (sym (c .said))
+      r .rest ∙ walk-end file (length file) (c .cursor) (omega arith)
+      ∙ go (ended (length file) (c .cursor) (c .cursor .mode)) ∙ ap Refused (sym (c .said))
     where
-      go : Ends (length file) (c .cursor) (c .cursor .mode) → endedOf (length file) (c .cursor) (c .cursor .mode) ≡ refuse fault.earlyEnd (length file)
+      go : Ends (length file) (c .cursor) (c .cursor .mode)
+          → endedOf (length file) (c .cursor) (c .cursor .mode) ≡ refuse fault.earlyEnd (length file)
       go (inl x) = absurd (c .unended (x .0))
       go (inr x) = x .1
 
@@ -171,7 +221,11 @@ module _ (file : List ℕ) (f : Refusal) where
     where
       go : Dec (w .word < 5) → and (heads file 0 5) (and (heads file 5 (totalOf file)) (walkOf file)) ≡ Refused f
       go (yes h) = rw (heads-fail w 5 0 (omega arith) (omega arith))
-      go (no h) = rw (pass-five file (λ j q. w .before j (omega arith)), heads-fail w (totalOf file) 5 (omega arith) (w .within))
+      go (no h) =
+          rw (
+            pass-five file (λ j q. w .before j (omega arith)),
+            heads-fail w (totalOf file) 5 (omega arith) (w .within),
+          )
 
   -- each is given exactly then
   pub why-check : Because file f → checkOf file ≡ Refused f
@@ -183,12 +237,16 @@ module _ (file : List ℕ) (f : Refusal) where
       short (inr h) = go (eqb (length file) 0)
         where
           go : (b : Bool)
-              → pick b (refuse fault.fileLength 0) (pick (eqb (length file % 4) 0) (and (heads file 0 5) (and (heads file 5 (totalOf file)) (walkOf file))) (refuse fault.fileLength 0)) ≡ refuse fault.fileLength 0
+              → pick b (refuse fault.fileLength 0)
+              (pick (eqb (length file % 4) 0)
+              (and (heads file 0 5) (and (heads file 5 (totalOf file)) (walkOf file)))
+              (refuse fault.fileLength 0)) ≡ refuse fault.fileLength 0
           go true = refl
           go false = rw (ne-eqb _ _ h)
   why-check (inr (inl c)) = whole-check (c .0) ∙ head-refuses (c .1)
   why-check (inr (inr c)) =
-      whole-check (c .0) ∙ rw (pass-five file (λ j q. c .1 j (omega arith)), pass-sizes file (c .1)) (walk-refuses (c .0) (headed-fits file (c .1)) (c .2))
+      whole-check (c .0) ∙ rw (pass-five file (λ j q. c .1 j (omega arith)), pass-sizes file (c .1))
+      (walk-refuses (c .0) (headed-fits file (c .1)) (c .2))
 
 -- ---- which word is not taken, by what the reader expects: both ways
 
@@ -216,23 +274,34 @@ module _ (t : ℕ) (size : ℕ → ℕ) (c : Cursor) (w v : ℕ) where
   turn-why NameLength = λ e. both-on (eqb w 0) _ _ e
   turn-why Body = λ e. body-why e
   turn-why (Length k) =
-      pick-on (ltb (size (c .hunk)) w) (Bad fault.bodyLength) _ (Bad v) (λ p e. (bad-same fault.bodyLength v e, ltb-true _ _ p)) (λ p e. both-on _ _ _ e)
+      pick-on (ltb (size (c .hunk)) w) (Bad fault.bodyLength) _ (Bad v)
+      (λ p e. (bad-same fault.bodyLength v e, ltb-true _ _ p)) (λ p e. both-on _ _ _ e)
   turn-why (Stored i) = λ e. both-on _ _ _ e
   turn-why Part =
       pick-on (eqb w type.relocation) (on c Count) _ (Bad v) (λ _. on-bad _ v)
       (λ p. pick-on (eqb w type.symbols) (on c Symbol) _ (Bad v) (λ _. on-bad _ v)
       (λ q. pick-on (eqb w type.debug) (on c DebugLength) _ (Bad v) (λ _. on-bad _ v)
       (λ r. pick-on (eqb w type.end) (endOf t size c) (Bad fault.misplacedBlock) (Bad v) (λ _. on-bad _ v)
-      (λ s e. (bad-same fault.misplacedBlock v e, eqb-false _ _ p, eqb-false _ _ q, eqb-false _ _ r, eqb-false _ _ s)))))
+      (λ s e. (
+        bad-same fault.misplacedBlock v e,
+        eqb-false _ _ p,
+        eqb-false _ _ q,
+        eqb-false _ _ r,
+        eqb-false _ _ s,
+      )))))
   turn-why Count = λ e. both-on _ _ _ e
-  turn-why (Number n) = pick-on (ltb w t) (on c (Offset n w)) (Bad fault.badTarget) (Bad v) (λ _. on-bad _ v) (λ p e. (bad-same fault.badTarget v e, ltb-false _ _ p))
+  turn-why (Number n) =
+      pick-on (ltb w t) (on c (Offset n w)) (Bad fault.badTarget) (Bad v) (λ _. on-bad _ v)
+      (λ p e. (bad-same fault.badTarget v e, ltb-false _ _ p))
   turn-why (Offset n k) =
       pick-on (eqb (w % 2) 0) _ (Bad fault.badTarget) (Bad v)
-      (λ _. pick-on (ltb (4 * c .stored) (w + 4)) (Bad fault.badTarget) _ (Bad v) (λ p e. (bad-same fault.badTarget v e, inr (ltb-true _ _ p))) (λ p e. both-on _ _ _ e))
+      (λ _. pick-on (ltb (4 * c .stored) (w + 4)) (Bad fault.badTarget) _ (Bad v)
+      (λ p e. (bad-same fault.badTarget v e, inr (ltb-true _ _ p))) (λ p e. both-on _ _ _ e))
       (λ p e. (bad-same fault.badTarget v e, inl (eqb-false _ _ p)))
   turn-why Symbol =
       pick-on (eqb w 0) (on c Part) _ (Bad v) (λ _. on-bad _ v)
-      (λ _. pick-on (leb 0x1000000 w) (Bad fault.symbolType) _ (Bad v) (λ p e. (bad-same fault.symbolType v e, leb-true _ _ p)) (λ _. on-bad _ v))
+      (λ _. pick-on (leb 0x1000000 w) (Bad fault.symbolType) _ (Bad v)
+      (λ p e. (bad-same fault.symbolType v e, leb-true _ _ p)) (λ _. on-bad _ v))
   turn-why DebugLength = λ e. both-on _ _ _ e
   turn-why (Skip n a) = λ e. both-on _ _ _ e
   turn-why End = λ e. bad-same fault.trailingWords v e
@@ -247,12 +316,20 @@ module _ (t : ℕ) (size : ℕ → ℕ) (c : Cursor) (w v : ℕ) where
   why-turn Begin h = rw (ne-eqb w type.name (h .1)) (body-refused (h .0) (h .2) (h .3) (h .4))
   why-turn Body h = body-refused (h .0) (h .1) (h .2) (h .3)
   why-turn (Length k) h = rw (lt-ltb _ _ (h .1), h .0)
-  why-turn Part h = rw (ne-eqb w type.relocation (h .1), ne-eqb w type.symbols (h .2), ne-eqb w type.debug (h .3), ne-eqb w type.end (h .4), h .0)
+  why-turn Part h =
+      rw (
+        ne-eqb w type.relocation (h .1),
+        ne-eqb w type.symbols (h .2),
+        ne-eqb w type.debug (h .3),
+        ne-eqb w type.end (h .4),
+        h .0,
+      )
   why-turn (Number n) h = rw (le-ltb _ _ (h .1), h .0)
   why-turn (Offset n k) h = go (eqb (w % 2) 0) refl (h .1)
     where
       go : (b : Bool) → eqb (w % 2) 0 ≡ b → (w % 2 ≢ 0) ⊎ (4 * c .stored < w + 4)
-          → pick b (pick (ltb (4 * c .stored) (w + 4)) (Bad fault.badTarget) (pick (eqb n 0) (on c Count) (on c (Offset (n - 1) k)))) (Bad fault.badTarget) ≡ Bad v
+          → pick b (pick (ltb (4 * c .stored) (w + 4)) (Bad fault.badTarget)
+          (pick (eqb n 0) (on c Count) (on c (Offset (n - 1) k)))) (Bad fault.badTarget) ≡ Bad v
       go false q x = ap Bad (sym (h .0))
       go true q (inl x) = absurd (x (eqb-true _ _ q))
       go true q (inr x) = rw (lt-ltb _ _ x, h .0)
@@ -283,7 +360,8 @@ offset-wrong n w = (there (decLt (4 * n) (w + 4)), back)
     back (inr l) h = omega (arith, h .1)
 
 module _ (t : ℕ) (size : ℕ → ℕ) (h p w v : ℕ) where
-  part-wrong : (n : ℕ) (q : PartBegun) → PartWrong t n w v q ↔ Refuses t size (cursor (partMode q) h p n) w v (partMode q)
+  part-wrong : (n : ℕ) (q : PartBegun)
+      → PartWrong t n w v q ↔ Refuses t size (cursor (partMode q) h p n) w v (partMode q)
   part-wrong n aPart = Iff·rfl
   part-wrong n (aCount gs) = Iff·rfl
   part-wrong n (aNumber gs k) = Iff·rfl
@@ -315,7 +393,9 @@ module _ (file : List ℕ) (whole : length file % 4 ≡ 0) (s : HeaderFits file)
 
         go : Within file (r .cursor) (r .at) ⊎ Past file (r .cursor) (r .at) → WrongWord file f ⊎ MoreWords file f
         go (inl k) =
-            let x = subst (λ (c : Cursor). Refuses (totalOf file) (sizeOf file) c (wordAt file (r .at)) (r .number) (c .mode)) (sym (k .is)) why in
+            let x =
+            subst (λ (c : Cursor). Refuses (totalOf file) (sizeOf file) c (wordAt file (r .at)) (r .number)
+            (c .mode)) (sym (k .is)) why in
             inl (record {
               hunks = k .hunks;
               begun = k .begun;
@@ -323,18 +403,31 @@ module _ (file : List ℕ) (whole : length file % 4 ≡ 0) (s : HeaderFits file)
               before = k .before;
               there = r .there;
               number = r .number;
-              wrong = begun-wrong (totalOf file) (sizeOf file) (length (k .hunks)) (4 * total (k .hunks)) (wordAt file (r .at)) (r .number) (k .begun) .1 x;
+              wrong =
+                  begun-wrong (totalOf file) (sizeOf file) (length (k .hunks)) (4 * total (k .hunks))
+                  (wordAt file (r .at)) (r .number) (k .begun) .1 x;
               said = r .said;
             })
         go (inr k) =
-            let x : r .number ≡ fault.trailingWords = subst (λ (c : Cursor). Refuses (totalOf file) (sizeOf file) c (wordAt file (r .at)) (r .number) (c .mode)) (sym (k .is)) why in
-            inr (record { hunks = k .hunks; at = r .at; whole = k .whole; there = r .there; said = r .said ∙ ap (λ (n : ℕ). refusal n (r .at)) x })
+            let x : r .number ≡ fault.trailingWords =
+            subst (λ (c : Cursor). Refuses (totalOf file) (sizeOf file) c (wordAt file (r .at)) (r .number)
+            (c .mode)) (sym (k .is)) why in
+            inr (record {
+              hunks = k .hunks;
+              at = r .at;
+              whole = k .whole;
+              there = r .there;
+              said = r .said
+                  ∙ ap (λ (n : ℕ). refusal n (r .at)) x;
+            })
 
     says-word : WrongWord file f ⊎ MoreWords file f → HunkWord file f
     says-word (inl r) =
         let c = cursorOf (r .hunks) (r .begun) in
         let w = wordAt file (r .at) in
-        let x = begun-wrong (totalOf file) (sizeOf file) (length (r .hunks)) (4 * total (r .hunks)) w (r .number) (r .begun) .0 (r .wrong) in
+        let x =
+        begun-wrong (totalOf file) (sizeOf file) (length (r .hunks)) (4 * total (r .hunks)) w (r .number)
+        (r .begun) .0 (r .wrong) in
         record {
           cursor = c;
           at = r .at;

@@ -1,5 +1,5 @@
--- Words that are stored or passed over lead on (`past-stored`, `past-skipped`), and what a reader or a pass makes of the rest stays
--- (`leads-reads`, `passing-turn`). Assumes nothing.
+-- Words that are stored or passed over lead on (`past-stored`, `past-skipped`), and what a reader or a pass makes of
+-- the rest stays (`leads-reads`, `passing-turn`). Assumes nothing.
 use Prim.Native.Nat.{ℕ, zero, suc, _+_, _-_, _*_, _/_, _%_, _<_, _≤_, min}
 use mathlib.Core.Path.{_≡_, refl, sym, ap, subst, _∙_}
 use mathlib.Core.List.{List, _∷_}
@@ -30,7 +30,9 @@ on-skip : (c : Cursor) (n : ℕ) (a : After) → On (skipAt c n a) ≡ skip c n 
 unfolding pick
 on-skip c n a = go (eqb n 0)
   where
-    go : (t : Bool) → On (pick t (modedOf c (resume a)) (modedOf c (Skip (n - 1) a))) ≡ pick t (on c (resume a)) (on c (Skip (n - 1) a))
+    go : (t : Bool)
+        → On (pick t (modedOf c (resume a)) (modedOf c (Skip (n - 1) a))) ≡ pick t (on c (resume a))
+        (on c (Skip (n - 1) a))
     go true = refl
     go false = refl
 
@@ -59,28 +61,36 @@ skip-open c n a = let e : n + 1 - 1 ≡ n = omega arith in rw (ne-eqb (n + 1) 0 
 -- ---- runs
 
 module _ (file : List ℕ) where
-  stored-on : (c : Cursor) (k j at n to : ℕ) → n ≡ j + k → to ≡ at + 4 * k → n ≤ c .stored → to ≤ length file → Leads file (storedAt c j) at (storedAt c n) to
+  stored-on : (c : Cursor) (k j at n to : ℕ) → n ≡ j + k → to ≡ at + 4 * k → n ≤ c .stored → to ≤ length file
+      → Leads file (storedAt c j) at (storedAt c n) to
   unfolding stepOf actOf
   stored-on c zero j at n to e f h l = let p : n ≡ j = omega arith in let q : to ≡ at = omega arith in rw (p, q) here
   stored-on c (suc k) j at n to e f h l =
       rw (stored-open c j (omega arith))
-      (along {at = at} (omega arith) (sym (on-stored (modedOf c (Stored j)) (j + 1))) tt (stored-on c k (j + 1) (at + 4) n to (omega arith) (omega arith) h l))
+      (along {at = at} (omega arith) (sym (on-stored (modedOf c (Stored j)) (j + 1))) tt
+      (stored-on c k (j + 1) (at + 4) n to (omega arith) (omega arith) h l))
 
-  skip-on : (c : Cursor) (a : After) (k n at m to : ℕ) → n ≡ m + k → to ≡ at + 4 * k → to ≤ length file → Leads file (skipAt c n a) at (skipAt c m a) to
+  skip-on : (c : Cursor) (a : After) (k n at m to : ℕ) → n ≡ m + k → to ≡ at + 4 * k → to ≤ length file
+      → Leads file (skipAt c n a) at (skipAt c m a) to
   unfolding stepOf actOf
   skip-on c a zero n at m to e f l = let p : n ≡ m = omega arith in let q : to ≡ at = omega arith in rw (p, q) here
   skip-on c a (suc k) n at m to e f l =
       let p : n ≡ m + k + 1 = omega arith in
       rw (p, skip-open c (m + k) a)
-      (along {at = at} (omega arith) (sym (on-skip (modedOf c (Skip (m + k) a)) (m + k) a)) tt (skip-on c a k (m + k) (at + 4) m to refl (omega arith) l))
+      (along {at = at} (omega arith) (sym (on-skip (modedOf c (Skip (m + k) a)) (m + k) a)) tt
+      (skip-on c a k (m + k) (at + 4) m to refl (omega arith) l))
 
-  stored-leads : (c : Cursor) (i k at n to : ℕ) → c .mode ≡ Stored i → i < c .stored → n ≡ i + k → to ≡ at + 4 * k → n ≤ c .stored → to ≤ length file → Leads file c at (storedAt c n) to
+  stored-leads : (c : Cursor) (i k at n to : ℕ) → c .mode ≡ Stored i → i < c .stored → n ≡ i + k → to ≡ at + 4 * k
+      → n ≤ c .stored → to ≤ length file → Leads file c at (storedAt c n) to
   stored-leads c i k at n to m s e f h l =
-      subst (λ d. Leads file d at (storedAt c n) to) (stored-open c i s ∙ ap (modedOf c) (sym m)) (stored-on c k i at n to e f h l)
+      subst (λ d. Leads file d at (storedAt c n) to) (stored-open c i s ∙ ap (modedOf c) (sym m))
+      (stored-on c k i at n to e f h l)
 
-  skip-leads : (c : Cursor) (i : ℕ) (a : After) (k at n to : ℕ) → c .mode ≡ Skip i a → i + 1 ≡ n + k → to ≡ at + 4 * k → to ≤ length file → Leads file c at (skipAt c n a) to
+  skip-leads : (c : Cursor) (i : ℕ) (a : After) (k at n to : ℕ) → c .mode ≡ Skip i a → i + 1 ≡ n + k → to ≡ at + 4 * k
+      → to ≤ length file → Leads file c at (skipAt c n a) to
   skip-leads c i a k at n to m e f l =
-      subst (λ d. Leads file d at (skipAt c n a) to) (skip-open c i a ∙ ap (modedOf c) (sym m)) (skip-on c a k (i + 1) at n to e f l)
+      subst (λ d. Leads file d at (skipAt c n a) to) (skip-open c i a ∙ ap (modedOf c) (sym m))
+      (skip-on c a k (i + 1) at n to e f l)
 
   -- ---- as the code counts them
 
@@ -90,12 +100,16 @@ module _ (file : List ℕ) where
   pub stored-left : (c : Cursor) (i : ℕ) → CursorFits file c → c .mode ≡ Stored i → i ≤ c .stored
   stored-left c i s e = omega (arith, stored-some c i s e)
 
-  module _ (c : Cursor) (i at left n : ℕ) (d : Cursor) (there : at < length file) (words : left ≡ (length file - at) / 4) where
-    pub past-stored : CursorFits file c → c .mode ≡ Stored i → n ≡ min (c .stored - i) left → d ≡ storedAt c (i + n) → Leads file c at d (at + 4 * n)
+  module _ (c : Cursor) (i at left n : ℕ) (d : Cursor) (there : at < length file)
+      (words : left ≡ (length file - at) / 4) where
+    pub past-stored : CursorFits file c → c .mode ≡ Stored i → n ≡ min (c .stored - i) left → d ≡ storedAt c (i + n)
+        → Leads file c at d (at + 4 * n)
     past-stored s m e f =
-        let l = stored-some c i s m in rw f (stored-leads c i n at (i + n) (at + 4 * n) m l refl refl (omega arith) (omega arith))
+        let l = stored-some c i s m in
+        rw f (stored-leads c i n at (i + n) (at + 4 * n) m l refl refl (omega arith) (omega arith))
 
-    pub past-skipped : (a : After) → c .mode ≡ Skip i a → n ≡ min (i + 1) left → d ≡ skipAt c (i + 1 - n) a → Leads file c at d (at + 4 * n)
+    pub past-skipped : (a : After) → c .mode ≡ Skip i a → n ≡ min (i + 1) left → d ≡ skipAt c (i + 1 - n) a
+        → Leads file c at d (at + 4 * n)
     past-skipped a m e f = rw f (skip-leads c i a n at (i + 1 - n) (at + 4 * n) m (omega arith) refl (omega arith))
 
   -- ---- what stays
@@ -109,7 +123,9 @@ module _ (file : List ℕ) where
   leads-reads (along {c = c} {d = d} {at = at} l e a k) i = leads-reads k (reads-on file c at _ _ d i l refl refl e)
 
 -- what makes nothing of quiet acts and stores makes the same of the acts from here and from there
-pub leads-acts : {Y : Type 0} (f : List Act → Y) (file : List ℕ) → ((a : Act) (us : List Act) → QuietOrStore a → f (a ∷ us) ≡ f us) → {c d : Cursor} {at to : ℕ} → Leads file c at d to → Reads file c at → f (actsFrom file at c) ≡ f (actsFrom file to d)
+pub leads-acts : {Y : Type 0} (f : List Act → Y) (file : List ℕ)
+    → ((a : Act) (us : List Act) → QuietOrStore a → f (a ∷ us) ≡ f us) → {c d : Cursor} {at to : ℕ}
+    → Leads file c at d to → Reads file c at → f (actsFrom file at c) ≡ f (actsFrom file to d)
 leads-acts f file quiet here i = refl
 leads-acts f file quiet (along {c = c} {d = d} {at = at} l e a k) i =
     ap f (acts-on file at c _ _ i l refl refl d _ e refl)
@@ -118,21 +134,28 @@ leads-acts f file quiet (along {c = c} {d = d} {at = at} l e a k) i =
 
 -- ---- a turn of a loop that goes on past such words
 
-pub turn-less : (file : List ℕ) (d e : Cursor) (at to : ℕ) → at < length file → Leads file d (at + 4) e to → length file - to < length file - at
+pub turn-less : (file : List ℕ) (d e : Cursor) (at to : ℕ) → at < length file → Leads file d (at + 4) e to
+    → length file - to < length file - at
 turn-less file d e at to h k = omega (arith, leads-far file k)
 
 module _ (file : List ℕ) (c : Cursor) (at : ℕ) (i : Reads file c at) where
   pub turn-aligned : (at + 4) % 4 ≡ 0
   turn-aligned = omega (arith, i .aligned)
 
-  module _ (w : ℕ) (r : Next) (d : Cursor) (l : at < length file) (p : w ≡ wordAt file at) (q : r ≡ stepOf (totalOf file) (sizeOf file) c w) (n : r ≡ On d) where
+  module _ (w : ℕ) (r : Next) (d : Cursor) (l : at < length file) (p : w ≡ wordAt file at)
+      (q : r ≡ stepOf (totalOf file) (sizeOf file) c w) (n : r ≡ On d) where
     pub turn-fits : CursorFits file d
     turn-fits = reads-on file c at w r d i l p q n .fits
 
     pub reads-turn : (e : Cursor) (to : ℕ) → Leads file d (at + 4) e to → Reads file e to
     reads-turn e to k = leads-reads file k (reads-on file c at w r d i l p q n)
 
-pub passing-turn : (g : List ℕ → Act → List ℕ) (file x₀ x : List ℕ) (c d e : Cursor) (at w : ℕ) (r : Next) (a : Act) (y : List ℕ) (to : ℕ) → Passing g file x₀ x c at → at < length file → w ≡ wordAt file at → r ≡ stepOf (totalOf file) (sizeOf file) c w → r ≡ On d → a ≡ actOf c at w → y ≡ g x a → Leads file d (at + 4) e to → ((z : List ℕ) (b : Act) → length (g z b) ≡ length z) → ((z : List ℕ) (b : Act) → QuietOrStore b → g z b ≡ z) → Passing g file x₀ y e to
+pub passing-turn : (g : List ℕ → Act → List ℕ) (file x₀ x : List ℕ) (c d e : Cursor) (at w : ℕ) (r : Next) (a : Act)
+    (y : List ℕ) (to : ℕ)
+    → Passing g file x₀ x c at → at < length file → w ≡ wordAt file at → r ≡ stepOf (totalOf file) (sizeOf file) c w
+    → r ≡ On d → a ≡ actOf c at w → y ≡ g x a → Leads file d (at + 4) e to
+    → ((z : List ℕ) (b : Act) → length (g z b) ≡ length z) → ((z : List ℕ) (b : Act) → QuietOrStore b → g z b ≡ z)
+    → Passing g file x₀ y e to
 unfolding pass
 passing-turn g file x₀ x c d e at w r a y to i l p q n z k f long quiet =
     let j = passing-on g file x₀ x c at i w r l p q d a y n z k long in

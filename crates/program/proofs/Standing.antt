@@ -18,8 +18,13 @@ use Rattle.program.specs.declared.reader.After.the-variants as after
 use Rattle.program.specs.declared.reader.Cursor.{Cursor}
 use Rattle.program.specs.declared.reader.Mode.the-variants as mode
 use Rattle.program.specs.declared.reader.Next.the-variants.{On}
-use Rattle.program.specs.Page.{Name, Body, Group, Symbol, Part, Hunk, none, named, code, stores, bss, relocation, symbols, debug, joined, nameWords, bodyWords, groupWords, symbolWords, partWords, hunkWords, Each, bodyCount, storedWords, OffsetFits, GroupFits, SymbolFits, PartFits, HunkFits, total}
-use Rattle.program.specs.Begun.{PartBegun, Begun, aPart, aCount, aNumber, anOffset, aSymbol, symbolWord, debugLength, debugWord, first, nameLength, nameWord, aBody, bodyLength, bodyWord, afterBody, partSoFar, soFar, PartBegunFits, BegunFits}
+use Rattle.program.specs.Page.{Name, Body, Group, Symbol, Part, Hunk, none, named, code, stores, bss}
+use Rattle.program.specs.Page.{relocation, symbols, debug, joined, nameWords, bodyWords, groupWords}
+use Rattle.program.specs.Page.{symbolWords, partWords, hunkWords, Each, bodyCount, storedWords, OffsetFits}
+use Rattle.program.specs.Page.{GroupFits, SymbolFits, PartFits, HunkFits, total}
+use Rattle.program.specs.Begun.{PartBegun, Begun, aPart, aCount, aNumber, anOffset, aSymbol, symbolWord}
+use Rattle.program.specs.Begun.{debugLength, debugWord, first, nameLength, nameWord, aBody, bodyLength}
+use Rattle.program.specs.Begun.{bodyWord, afterBody, partSoFar, soFar, PartBegunFits, BegunFits}
 use Rattle.program.specs.Header.{totalOf, sizeOf, startAt}
 use Rattle.program.specs.Reader.{resume, skip, bodyOf, storedFrom, endOf, turn, stepOf}
 use Rattle.program.specs.Cursors.{HeaderFits}
@@ -28,7 +33,8 @@ use Rattle.program.proofs.Coming.{Comes, begins, takes}
 use Rattle.program.proofs.Heading.{words-add}
 use Rattle.program.proofs.CursorsFit.{pick-on, on-on, bad-on}
 use Rattle.program.proofs.Taken.{cursor}
-use Rattle.program.proofs.Beginnings.{partMode, modeOf, cursorIn, cursorOf, cursorPast, before-comes, whole-comes}
+use Rattle.program.proofs.Beginnings.{partMode, modeOf, cursorIn, cursorOf, cursorPast, before-comes}
+use Rattle.program.proofs.Beginnings.{whole-comes}
 
 pub cons : {w v : ℕ} {a b : List ℕ} → w ≡ v → a ≡ b → w ∷ a ≡ v ∷ b
 cons p q = cc
@@ -48,9 +54,11 @@ each-snoc P (y ∷ xs) x f g = (f .0, each-snoc P xs x (f .1) g)
 
 joined-snoc : {A : Type 0} (f : A → List ℕ) (xs : List A) (x : A) → joined f (xs ▹ x) ≡ joined f xs ++ f x
 joined-snoc f [] x = append-nil (f x)
-joined-snoc f (y ∷ xs) x = ap (λ (l : List ℕ). f y ++ l) (joined-snoc f xs x) ∙ sym (append-assoc (f y) (joined f xs) (f x))
+joined-snoc f (y ∷ xs) x =
+    ap (λ (l : List ℕ). f y ++ l) (joined-snoc f xs x) ∙ sym (append-assoc (f y) (joined f xs) (f x))
 
-sizes-snoc : (t : ℕ) (size : ℕ → ℕ) (hs : List Hunk) (i j : ℕ) (x : Hunk) → i + length hs ≡ j → OfSizes t size i hs → x .size ≡ size j → HunkFits t x
+sizes-snoc : (t : ℕ) (size : ℕ → ℕ) (hs : List Hunk) (i j : ℕ) (x : Hunk) → i + length hs ≡ j → OfSizes t size i hs
+    → x .size ≡ size j → HunkFits t x
     → OfSizes t size i (hs ▹ x)
 sizes-snoc t size [] i j x e z s f = let a : i ≡ j = omega arith in (rw a s, f, tt)
 sizes-snoc t size (h ∷ hs) i j x e z s f = (z .0, z .1, sizes-snoc t size hs (i + 1) j x (omega arith) (z .2) s f)
@@ -76,9 +84,11 @@ module _ (t : ℕ) (size : ℕ → ℕ) (h p w : ℕ) (d : Cursor) where
 
   abbrev Passes : ℕ → After → ℕ → List ℕ → Type 0
   Passes s a n ws =
-      ((length (ws ▹ w) ≡ n) × (cursor (resume a) h p s ≡ d)) ⊎ ((length (ws ▹ w) < n) × (cursor (mode.Skip (n - suc (length (ws ▹ w))) a) h p s ≡ d))
+      ((length (ws ▹ w) ≡ n) × (cursor (resume a) h p s ≡ d))
+      ⊎ ((length (ws ▹ w) < n) × (cursor (mode.Skip (n - suc (length (ws ▹ w))) a) h p s ≡ d))
 
-  passes : (s : ℕ) (a : After) (n : ℕ) (ws : List ℕ) → length ws < n → skip (cursor mode.Part h p s) (n - suc (length ws)) a ≡ On d → Passes s a n ws
+  passes : (s : ℕ) (a : After) (n : ℕ) (ws : List ℕ) → length ws < n
+      → skip (cursor mode.Part h p s) (n - suc (length ws)) a ≡ On d → Passes s a n ws
   passes s a n ws l =
       let k = length-snoc ws w in
       pick-on (eqb (n - suc (length ws)) 0) _ _ (On d)
@@ -97,12 +107,19 @@ module _ (t : ℕ) (size : ℕ → ℕ) (h p w : ℕ) (d : Cursor) where
         ⊎ ((partSoFar q ▹ w ≡ type.end ∷ []) × (endOf t size (cursor mode.Part h p s) ≡ On d))
 
     offset-step : (gs : List Group) (n k : ℕ) (os : List ℕ) → PartBegunFits t s (anOffset gs n k os) → OffsetFits s w
-        → pick (eqb (n - suc (length os)) 0) (On (cursor mode.Count h p s)) (On (cursor (mode.Offset (n - suc (length os) - 1) k) h p s)) ≡ On d → PartStep (anOffset gs n k os)
+        → pick (eqb (n - suc (length os)) 0) (On (cursor mode.Count h p s))
+        (On (cursor (mode.Offset (n - suc (length os) - 1) k) h p s)) ≡ On d
+        → PartStep (anOffset gs n k os)
     offset-step gs n k os f o =
         pick-on (eqb (n - suc (length os)) 0) _ _ (On d)
         (λ q x.
         let z = eqb-true (n - suc (length os)) 0 q in
-        inl (aCount (gs ▹ groupOf k (os ▹ w)), each-snoc (GroupFits t s) gs (groupOf k (os ▹ w)) (f .0) fits, last (omega (arith, long, f .3)), on-on _ d x))
+        inl (
+          aCount (gs ▹ groupOf k (os ▹ w)),
+          each-snoc (GroupFits t s) gs (groupOf k (os ▹ w)) (f .0) fits,
+          last (omega (arith, long, f .3)),
+          on-on _ d x,
+        ))
         (λ q x.
         let z = eqb-false (n - suc (length os)) 0 q in
         let y : n - suc (length (os ▹ w)) ≡ n - suc (length os) - 1 = omega (arith, long) in
@@ -127,18 +144,29 @@ module _ (t : ℕ) (size : ℕ → ℕ) (h p w : ℕ) (d : Cursor) where
         last : length (os ▹ w) ≡ n → partSoFar (anOffset gs n k os) ▹ w ≡ partSoFar (aCount (gs ▹ groupOf k (os ▹ w)))
         last e =
             ap (λ (l : List ℕ). type.relocation ∷ l)
-            (append-assoc (joined groupWords gs) (n ∷ k ∷ os) (w ∷ []) ∙ ap (λ (i : ℕ). joined groupWords gs ++ (i ∷ k ∷ os ▹ w)) (sym e)
+            (append-assoc (joined groupWords gs) (n ∷ k ∷ os) (w ∷ [])
+            ∙ ap (λ (i : ℕ). joined groupWords gs ++ (i ∷ k ∷ os ▹ w)) (sym e)
             ∙ sym (joined-snoc groupWords gs (groupOf k (os ▹ w))))
 
-    part-step : (q : PartBegun) → PartBegunFits t s q → turn t size (cursor (partMode q) h p s) w (partMode q) ≡ On d → PartStep q
+    part-step : (q : PartBegun) → PartBegunFits t s q → turn t size (cursor (partMode q) h p s) w (partMode q) ≡ On d
+        → PartStep q
     part-step aPart f =
         pick-on (eqb w type.relocation) _ _ (On d) (λ e x. inl (aCount [], tt, cons (eqb-true _ _ e) refl, on-on _ d x))
-        (λ _. pick-on (eqb w type.symbols) _ _ (On d) (λ e x. inl (aSymbol [], tt, cons (eqb-true _ _ e) refl, on-on _ d x))
-        (λ _. pick-on (eqb w type.debug) _ _ (On d) (λ e x. inl (debugLength, tt, cons (eqb-true _ _ e) refl, on-on _ d x))
-        (λ _. pick-on (eqb w type.end) _ _ (On d) (λ e x. inr (inr (cons (eqb-true _ _ e) refl, x))) (λ _. bad-on fault.misplacedBlock d))))
+        (λ _. pick-on (eqb w type.symbols) _ _ (On d)
+        (λ e x. inl (aSymbol [], tt, cons (eqb-true _ _ e) refl, on-on _ d x))
+        (λ _. pick-on (eqb w type.debug) _ _ (On d)
+        (λ e x. inl (debugLength, tt, cons (eqb-true _ _ e) refl, on-on _ d x))
+        (λ _. pick-on (eqb w type.end) _ _ (On d) (λ e x. inr (inr (cons (eqb-true _ _ e) refl, x)))
+        (λ _. bad-on fault.misplacedBlock d))))
     part-step (aCount gs) f =
         pick-on (eqb w 0) _ _ (On d)
-        (λ e x. inr (inl (relocation gs, f, ap (λ (i : ℕ). type.relocation ∷ joined groupWords gs ++ (i ∷ [])) (eqb-true w 0 e), on-on _ d x)))
+        (λ e x. inr (inl (
+          relocation gs,
+          f,
+          ap (λ (i : ℕ). type.relocation ∷ joined groupWords gs ++ (i ∷ []))
+              (eqb-true w 0 e),
+          on-on _ d x,
+        )))
         (λ e x. let z = eqb-false w 0 e in inl (aNumber gs w, (f, omega (arith, z)), refl, on-on _ d x))
     part-step (aNumber gs n) f =
         pick-on (ltb w t) _ _ (On d)
@@ -148,11 +176,18 @@ module _ (t : ℕ) (size : ℕ → ℕ) (h p w : ℕ) (d : Cursor) where
         (λ _. bad-on fault.badTarget d)
     part-step (anOffset gs n k os) f =
         pick-on (eqb (w % 2) 0) _ _ (On d)
-        (λ e. pick-on (ltb (4 * s) (w + 4)) _ _ (On d) (λ _. bad-on fault.badTarget d) (λ g x. offset-step gs n k os f (eqb-true _ _ e, ltb-false _ _ g) x))
+        (λ e. pick-on (ltb (4 * s) (w + 4)) _ _ (On d) (λ _. bad-on fault.badTarget d)
+        (λ g x. offset-step gs n k os f (eqb-true _ _ e, ltb-false _ _ g) x))
         (λ _. bad-on fault.badTarget d)
     part-step (aSymbol us) f =
         pick-on (eqb w 0) _ _ (On d)
-        (λ e x. inr (inl (symbols us, f, ap (λ (i : ℕ). type.symbols ∷ joined symbolWords us ++ (i ∷ [])) (eqb-true w 0 e), on-on _ d x)))
+        (λ e x. inr (inl (
+          symbols us,
+          f,
+          ap (λ (i : ℕ). type.symbols ∷ joined symbolWords us ++ (i ∷ []))
+              (eqb-true w 0 e),
+          on-on _ d x,
+        )))
         (λ e. pick-on (leb 0x1000000 w) _ _ (On d) (λ _. bad-on fault.symbolType d)
         (λ g x.
         let z = eqb-false w 0 e in
@@ -175,7 +210,9 @@ module _ (t : ℕ) (size : ℕ → ℕ) (h p w : ℕ) (d : Cursor) where
             inl (
               aSymbol (us ▹ u),
               each-snoc SymbolFits us u (f .0) (omega (arith, f .1), omega (arith, f .2)),
-              words ∙ ap (λ (l : List ℕ). type.symbols ∷ l) (ap (λ (i : ℕ). joined symbolWords us ++ (i ∷ ws ▹ w)) (sym k) ∙ sym (joined-snoc symbolWords us u)),
+              words ∙ ap (λ (l : List ℕ). type.symbols ∷ l)
+                  (ap (λ (i : ℕ). joined symbolWords us ++ (i ∷ ws ▹ w)) (sym k)
+                  ∙ sym (joined-snoc symbolWords us u)),
               r .1,
             )
         go (inr r) = inl (symbolWord us n (ws ▹ w), (f .0, f .1, f .2, r .0), words, r .1)
@@ -194,14 +231,18 @@ module _ (t : ℕ) (size : ℕ → ℕ) (h p w : ℕ) (d : Cursor) where
   abbrev Step : Begun → Type 0
   Step b =
       ((r : Begun) × BegunFits t (size h) r × (soFar b ▹ w ≡ soFar r) × (cursorIn r h p ≡ d))
-      ⊎ ((x : Name) × (y : Body) × (ps : List Part) × (bodyCount y ≤ size h) × Each (PartFits t (length (storedWords y))) ps
-      × (soFar b ▹ w ≡ nameWords x ++ bodyWords y ++ joined partWords ps ++ (type.end ∷ [])) × (endOf t size (cursor mode.Part h p (length (storedWords y))) ≡ On d))
+      ⊎ ((x : Name) × (y : Body) × (ps : List Part) × (bodyCount y ≤ size h)
+      × Each (PartFits t (length (storedWords y))) ps
+      × (soFar b ▹ w ≡ nameWords x ++ bodyWords y ++ joined partWords ps ++ (type.end ∷ []))
+      × (endOf t size (cursor mode.Part h p (length (storedWords y))) ≡ On d))
 
-  type-step : (s : ℕ) → bodyOf (cursor mode.Part h p s) w ≡ On d → ((w ≡ type.code) ⊎ (w ≡ type.stores) ⊎ (w ≡ type.bss)) × (cursor (mode.Length w) h p s ≡ d)
+  type-step : (s : ℕ) → bodyOf (cursor mode.Part h p s) w ≡ On d
+      → ((w ≡ type.code) ⊎ (w ≡ type.stores) ⊎ (w ≡ type.bss)) × (cursor (mode.Length w) h p s ≡ d)
   type-step s =
       pick-on (eqb w type.code) _ _ (On d) (λ e x. (inl (eqb-true _ _ e), on-on _ d x))
       (λ _. pick-on (eqb w type.stores) _ _ (On d) (λ e x. (inr (inl (eqb-true _ _ e)), on-on _ d x))
-      (λ _. pick-on (eqb w type.bss) _ _ (On d) (λ e x. (inr (inr (eqb-true _ _ e)), on-on _ d x)) (λ _. bad-on fault.misplacedBlock d)))
+      (λ _. pick-on (eqb w type.bss) _ _ (On d) (λ e x. (inr (inr (eqb-true _ _ e)), on-on _ d x))
+      (λ _. bad-on fault.misplacedBlock d)))
 
   -- of n stored words, i stand there
   abbrev Stores : ℕ → ℕ → Type 0
@@ -209,17 +250,22 @@ module _ (t : ℕ) (size : ℕ → ℕ) (h p w : ℕ) (d : Cursor) where
 
   stored-step : (n i : ℕ) → storedFrom (cursor mode.Part h p n) i ≡ On d → Stores n i
   stored-step n i =
-      pick-on (eqb i n) _ _ (On d) (λ e x. inl (eqb-true _ _ e, on-on _ d x)) (λ e x. inr (eqb-false _ _ e, on-on _ d x))
+      pick-on (eqb i n) _ _ (On d) (λ e x. inl (eqb-true _ _ e, on-on _ d x))
+      (λ e x. inr (eqb-false _ _ e, on-on _ d x))
 
   -- a whole body
-  body-words : (x : Name) (l : List ℕ) (b : Body) → l ▹ w ≡ bodyWords b → (nameWords x ++ l) ▹ w ≡ soFar (afterBody x b [] aPart)
+  body-words : (x : Name) (l : List ℕ) (b : Body) → l ▹ w ≡ bodyWords b
+      → (nameWords x ++ l) ▹ w ≡ soFar (afterBody x b [] aPart)
   body-words x l b e =
-      append-assoc (nameWords x) l (w ∷ []) ∙ ap (λ (k : List ℕ). nameWords x ++ k) e ∙ sym (append-nil (nameWords x ++ bodyWords b)) ∙ sym (append-nil (nameWords x ++ bodyWords b ++ []))
+      append-assoc (nameWords x) l (w ∷ []) ∙ ap (λ (k : List ℕ). nameWords x ++ k) e
+      ∙ sym (append-nil (nameWords x ++ bodyWords b)) ∙ sym (append-nil (nameWords x ++ bodyWords b ++ []))
 
   -- code or data: a body of type k whose words are all stored
   abbrev Full : ℕ → (List ℕ → Body) → Type 0
   Full k c =
-      ((k ≡ type.code) ⊎ (k ≡ type.stores)) × ((us : List ℕ) → (bodyWords (c us) ≡ k ∷ length us ∷ us) × (bodyCount (c us) ≡ length us) × (storedWords (c us) ≡ us))
+      ((k ≡ type.code) ⊎ (k ≡ type.stores))
+      × ((us : List ℕ) → (bodyWords (c us) ≡ k ∷ length us ∷ us) × (bodyCount (c us) ≡ length us)
+      × (storedWords (c us) ≡ us))
 
   as-code : (k : ℕ) → k ≡ type.code → Full k code
   as-code k e = (inl e, λ us. (ap (λ (i : ℕ). i ∷ length us ∷ us) (sym e), refl, refl))
@@ -229,10 +275,12 @@ module _ (t : ℕ) (size : ℕ → ℕ) (h p w : ℕ) (d : Cursor) where
 
   -- a body's number of words
   module _ (x : Name) (l : w ≤ size h) where
-    full-step : (k : ℕ) (c : List ℕ → Body) → Full k c → storedFrom (cursor mode.Part h p w) 0 ≡ On d → Step (bodyLength x k)
+    full-step : (k : ℕ) (c : List ℕ → Body) → Full k c → storedFrom (cursor mode.Part h p w) 0 ≡ On d
+        → Step (bodyLength x k)
     full-step k c f e = go (f .1 []) (stored-step w 0 e)
       where
-        go : (bodyWords (c []) ≡ k ∷ 0 ∷ []) × (bodyCount (c []) ≡ 0) × (storedWords (c []) ≡ []) → Stores w 0 → Step (bodyLength x k)
+        go : (bodyWords (c []) ≡ k ∷ 0 ∷ []) × (bodyCount (c []) ≡ 0) × (storedWords (c []) ≡ []) → Stores w 0
+            → Step (bodyLength x k)
         go b (inl r) =
             let z : length (storedWords (c [])) ≡ w = ap length (b .2) ∙ r .0 in
             inl (
@@ -241,23 +289,32 @@ module _ (t : ℕ) (size : ℕ → ℕ) (h p w : ℕ) (d : Cursor) where
               body-words x (k ∷ []) (c []) (ap (λ (i : ℕ). k ∷ i ∷ []) (sym (r .0)) ∙ sym (b .0)),
               ap (λ (i : ℕ). cursor mode.Part h p i) z ∙ r .1,
             )
-        go b (inr r) = let z = r .0 in inl (bodyWord x k w [], (f .0, l, omega (arith, z)), append-assoc (nameWords x) (k ∷ []) (w ∷ []), r .1)
+        go b (inr r) =
+            let z = r .0 in
+            inl (bodyWord x k w [], (f .0, l, omega (arith, z)), append-assoc (nameWords x) (k ∷ []) (w ∷ []), r .1)
 
-    length-step : (k : ℕ) → (k ≡ type.code) ⊎ (k ≡ type.stores) ⊎ (k ≡ type.bss) → storedFrom (cursor mode.Part h p (pick (eqb k type.bss) 0 w)) 0 ≡ On d
+    length-step : (k : ℕ) → (k ≡ type.code) ⊎ (k ≡ type.stores) ⊎ (k ≡ type.bss)
+        → storedFrom (cursor mode.Part h p (pick (eqb k type.bss) 0 w)) 0 ≡ On d
         → Step (bodyLength x k)
     unfolding pick
     length-step k (inl e) q = full-step k code (as-code k e) (rw e at q)
     length-step k (inr (inl e)) q = full-step k stores (as-data k e) (rw e at q)
     length-step k (inr (inr e)) q =
         let y : On (cursor mode.Part h p 0) ≡ On d = rw e at q in
-        inl (afterBody x (bss w) [] aPart, (l, tt, tt), body-words x (k ∷ []) (bss w) (ap (λ (i : ℕ). i ∷ w ∷ []) e), on-on _ d y)
+        inl (
+          afterBody x (bss w) [] aPart,
+          (l, tt, tt),
+          body-words x (k ∷ []) (bss w) (ap (λ (i : ℕ). i ∷ w ∷ []) e),
+          on-on _ d y,
+        )
 
   -- a stored word
   word-step : (x : Name) (k n : ℕ) (ws : List ℕ) (c : List ℕ → Body) → Full k c → n ≤ size h → length ws < n
       → storedFrom (cursor mode.Part h p n) (length ws + 1) ≡ On d → Step (bodyWord x k n ws)
   word-step x k n ws c f l m e = go (f .1 (ws ▹ w)) (stored-step n (length ws + 1) e)
     where
-      go : (bodyWords (c (ws ▹ w)) ≡ k ∷ length (ws ▹ w) ∷ (ws ▹ w)) × (bodyCount (c (ws ▹ w)) ≡ length (ws ▹ w)) × (storedWords (c (ws ▹ w)) ≡ ws ▹ w)
+      go : (bodyWords (c (ws ▹ w)) ≡ k ∷ length (ws ▹ w) ∷ (ws ▹ w)) × (bodyCount (c (ws ▹ w)) ≡ length (ws ▹ w))
+          × (storedWords (c (ws ▹ w)) ≡ ws ▹ w)
           → Stores n (length ws + 1) → Step (bodyWord x k n ws)
       go b (inl r) =
           let y : length (ws ▹ w) ≡ n = omega (arith, length-snoc ws w, r .0) in
@@ -292,21 +349,27 @@ module _ (t : ℕ) (size : ℕ → ℕ) (h p w : ℕ) (d : Cursor) where
       go (inl r) = inl (aBody (ws ▹ w), tt, ap (λ (i : ℕ). type.name ∷ i ∷ ws ▹ w) (sym (r .0)), r .1)
       go (inr r) = inl (nameWord n (ws ▹ w), r .0, refl, r .1)
   begun-step (aBody ws) f = λ e. let y = type-step 0 e in inl (bodyLength (named ws) w, y .0, refl, y .1)
-  begun-step (bodyLength x k) f = pick-on (ltb (size h) w) _ _ (On d) (λ _. bad-on fault.bodyLength d) (λ q e. length-step x (ltb-false _ _ q) k f e)
+  begun-step (bodyLength x k) f =
+      pick-on (ltb (size h) w) _ _ (On d) (λ _. bad-on fault.bodyLength d)
+      (λ q e. length-step x (ltb-false _ _ q) k f e)
   begun-step (bodyWord x k n ws) f = go (f .0)
     where
-      go : (k ≡ type.code) ⊎ (k ≡ type.stores) → storedFrom (cursor mode.Part h p n) (length ws + 1) ≡ On d → Step (bodyWord x k n ws)
+      go : (k ≡ type.code) ⊎ (k ≡ type.stores) → storedFrom (cursor mode.Part h p n) (length ws + 1) ≡ On d
+          → Step (bodyWord x k n ws)
       go (inl q) e = word-step x k n ws code (as-code k q) (f .1) (f .2) e
       go (inr q) e = word-step x k n ws stores (as-data k q) (f .1) (f .2) e
   begun-step (afterBody x b ps q) f = λ e. go (part-step (length (storedWords b)) q (f .2) e)
     where
       -- words after the whole parts
-      grown : (l : List ℕ) → partSoFar q ▹ w ≡ l → soFar (afterBody x b ps q) ▹ w ≡ nameWords x ++ bodyWords b ++ joined partWords ps ++ l
+      grown : (l : List ℕ) → partSoFar q ▹ w ≡ l
+          → soFar (afterBody x b ps q) ▹ w ≡ nameWords x ++ bodyWords b ++ joined partWords ps ++ l
       grown l e =
-          append-assoc (nameWords x ++ bodyWords b ++ joined partWords ps) (partSoFar q) (w ∷ []) ∙ ap (λ (k : List ℕ). nameWords x ++ bodyWords b ++ joined partWords ps ++ k) e
+          append-assoc (nameWords x ++ bodyWords b ++ joined partWords ps) (partSoFar q) (w ∷ [])
+          ∙ ap (λ (k : List ℕ). nameWords x ++ bodyWords b ++ joined partWords ps ++ k) e
 
       -- one whole part more
-      parted : (y : Part) → nameWords x ++ bodyWords b ++ joined partWords ps ++ partWords y ≡ soFar (afterBody x b (ps ▹ y) aPart)
+      parted : (y : Part)
+          → nameWords x ++ bodyWords b ++ joined partWords ps ++ partWords y ≡ soFar (afterBody x b (ps ▹ y) aPart)
       parted y =
           append-assoc (nameWords x ++ bodyWords b) (joined partWords ps) (partWords y)
           ∙ ap (λ (l : List ℕ). nameWords x ++ bodyWords b ++ l) (sym (joined-snoc partWords ps y))
@@ -338,11 +401,14 @@ pub record Past (file : List ℕ) (c : Cursor) (at : ℕ) : Type 0 where
   pub whole : AllHunks file hunks at
   pub is : cursorPast hunks ≡ c
 
-after-hunks : (hs : List Hunk) (us : List ℕ) (w : ℕ) (vs : List ℕ) → us ▹ w ≡ vs → (joined hunkWords hs ++ us) ▹ w ≡ joined hunkWords hs ++ vs
-after-hunks hs us w vs e = append-assoc (joined hunkWords hs) us (w ∷ []) ∙ ap (λ (k : List ℕ). joined hunkWords hs ++ k) e
+after-hunks : (hs : List Hunk) (us : List ℕ) (w : ℕ) (vs : List ℕ) → us ▹ w ≡ vs
+    → (joined hunkWords hs ++ us) ▹ w ≡ joined hunkWords hs ++ vs
+after-hunks hs us w vs e =
+    append-assoc (joined hunkWords hs) us (w ∷ []) ∙ ap (λ (k : List ℕ). joined hunkWords hs ++ k) e
 
 module _ (file : List ℕ) (whole : length file % 4 ≡ 0) (s : HeaderFits file) where
-  stand-on : (ws vs : List ℕ) (at : ℕ) → Stand file ws at → at < length file → ws ▹ wordAt file at ≡ vs → Stand file vs (at + 4)
+  stand-on : (ws vs : List ℕ) (at : ℕ) → Stand file ws at → at < length file → ws ▹ wordAt file at ≡ vs
+      → Stand file vs (at + 4)
   unfolding wordsAt
   stand-on ws vs at r l e =
       let n : length vs ≡ length ws + 1 = ap length (sym e) ∙ simp length-append in
@@ -354,9 +420,12 @@ module _ (file : List ℕ) (whole : length file % 4 ≡ 0) (s : HeaderFits file)
       }
 
   -- the last word of a hunk
-  whole-hunk : (hs : List Hunk) (b : Begun) (at : ℕ) → Before file hs b at → at < length file → (x : Hunk) → x .size ≡ sizeOf file (length hs)
+  whole-hunk : (hs : List Hunk) (b : Begun) (at : ℕ) → Before file hs b at → at < length file → (x : Hunk)
+      → x .size ≡ sizeOf file (length hs)
       → HunkFits (totalOf file) x
-      → soFar b ▹ wordAt file at ≡ hunkWords x → (n : ℕ) (d : Cursor) → endOf (totalOf file) (sizeOf file) (cursor mode.Part (length hs) (4 * total hs) n) ≡ On d → Within file d (at + 4) ⊎ Past file d (at + 4)
+      → soFar b ▹ wordAt file at ≡ hunkWords x → (n : ℕ) (d : Cursor)
+      → endOf (totalOf file) (sizeOf file) (cursor mode.Part (length hs) (4 * total hs) n) ≡ On d
+      → Within file d (at + 4) ⊎ Past file d (at + 4)
   unfolding pick
   whole-hunk hs b at r l x z f e n d q = go (eqb (length hs + 1) (totalOf file)) refl (on-on _ d q)
     where
@@ -388,7 +457,13 @@ module _ (file : List ℕ) (whole : length file % 4 ≡ 0) (s : HeaderFits file)
           inl (record {
             hunks = hs ▹ x;
             begun = first;
-            before = record { next = omega (arith, long, r .next, u); hunks = fitted; begun = tt; stand = rw append-nil stood };
+            before =
+                record {
+                  next = omega (arith, long, r .next, u);
+                  hunks = fitted;
+                  begun = tt;
+                  stand = rw append-nil stood;
+                };
             is = ap₂ (λ (j p : ℕ). cursor mode.Begin j p 0) long place ∙ i;
           })
 
@@ -396,7 +471,9 @@ module _ (file : List ℕ) (whole : length file % 4 ≡ 0) (s : HeaderFits file)
   word-on : (c d : Cursor) (at : ℕ) → at < length file → stepOf (totalOf file) (sizeOf file) c (wordAt file at) ≡ On d
       → Within file c at ⊎ Past file c at → Within file d (at + 4) ⊎ Past file d (at + 4)
   unfolding stepOf
-  word-on c d at l e (inl r) = go (begun-step (totalOf file) (sizeOf file) (length (r .hunks)) (4 * total (r .hunks)) (wordAt file at) d (r .begun) (r .before .begun) (rw (← r .is) at e))
+  word-on c d at l e (inl r) =
+      go (begun-step (totalOf file) (sizeOf file) (length (r .hunks)) (4 * total (r .hunks)) (wordAt file at) d
+      (r .begun) (r .before .begun) (rw (← r .is) at e))
     where
       go : Step (totalOf file) (sizeOf file) (length (r .hunks)) (4 * total (r .hunks)) (wordAt file at) d (r .begun)
           → Within file d (at + 4) ⊎ Past file d (at + 4)
@@ -405,20 +482,34 @@ module _ (file : List ℕ) (whole : length file % 4 ≡ 0) (s : HeaderFits file)
           inl (record {
             hunks = r .hunks;
             begun = k .0;
-            before = record { next = b .next; hunks = b .hunks; begun = k .1; stand = stand-on _ _ at (b .stand) l (after-hunks (r .hunks) (soFar (r .begun)) (wordAt file at) _ (k .2)) };
+            before =
+                record {
+                  next = b .next;
+                  hunks = b .hunks;
+                  begun = k .1;
+                  stand = stand-on _ _ at (b .stand) l
+                      (after-hunks (r .hunks) (soFar (r .begun)) (wordAt file at) _ (k .2));
+                };
             is = k .3;
           })
       go (inr k) =
           let n = sizeOf file (length (r .hunks)) in
           let x : Hunk = record { size = n; name = k .0; body = k .1; parts = k .2 } in
-          let f : HunkFits (totalOf file) x = record { size = s .small (length (r .hunks)) (r .before .next); body = k .3; parts = k .4 } in
+          let f : HunkFits (totalOf file) x =
+          record { size = s .small (length (r .hunks)) (r .before .next); body = k .3; parts = k .4 } in
           whole-hunk (r .hunks) (r .begun) at (r .before) l x refl f (k .5) (length (storedWords (k .1))) d (k .6)
   word-on c d at l e (inr r) = bad-on fault.trailingWords d (rw (← r .is) at e)
 
   pub comes-stands : (c : Cursor) (at : ℕ) → Comes file c at → Within file c at ⊎ Past file c at
   unfolding wordsAt
   comes-stands c at begins =
-      let b : Before file [] first (startAt file) = record { next = s .some; hunks = tt; begun = tt; stand = record { reaches = omega arith; within = s .long; words = refl } } in
+      let b : Before file [] first (startAt file) =
+      record {
+        next = s .some;
+        hunks = tt;
+        begun = tt;
+        stand = record { reaches = omega arith; within = s .long; words = refl };
+      } in
       inl (record { hunks = []; begun = first; before = b; is = refl })
   comes-stands c at (takes {c = c′} {d = d} {at = i} r l e) = word-on c′ d i l e (comes-stands c′ i r)
 
@@ -427,7 +518,7 @@ module _ (file : List ℕ) (whole : length file % 4 ≡ 0) (s : HeaderFits file)
   stands-comes c at (inl r) = rw (← r .is) (before-comes file (s .some) (r .hunks) at (r .begun) (r .before))
   stands-comes c at (inr r) = rw (← r .is) (whole-comes file (s .some) (r .hunks) at (r .whole))
 
-  -- the reader comes to a byte, with this cursor, if and only if whole hunks and a begun one stand before it, or all hunks do, and the cursor
-  -- is theirs
+  -- the reader comes to a byte, with this cursor, if and only if whole hunks and a begun one stand before it, or all
+  -- hunks do, and the cursor is theirs
   pub comes-exactly : (c : Cursor) (at : ℕ) → Comes file c at ↔ (Within file c at ⊎ Past file c at)
   comes-exactly c at = (comes-stands c at, stands-comes c at)

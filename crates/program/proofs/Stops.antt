@@ -1,4 +1,5 @@
--- Where the walk over the hunks stops: at the first word that the reader does not take, or at the end of the file. Assumes nothing.
+-- Where the walk over the hunks stops: at the first word that the reader does not take, or at the end of the file.
+-- Assumes nothing.
 use Prim.Native.Nat.{ℕ, zero, suc, _+_, _*_, _-_, _/_, _%_, _<_}
 use mathlib.Core.Path.{_≡_, refl, subst}
 use mathlib.Core.Logic.{_≢_, _⊎_, inl, inr}
@@ -14,7 +15,9 @@ use Rattle.program.specs.declared.check.Answer.{Answer}
 use Rattle.program.specs.declared.check.Answer.the-variants.{Accepted, Refused}
 use Rattle.program.specs.declared.reader.Cursor.{Cursor}
 use Rattle.program.specs.declared.reader.Mode.{Mode}
-use Rattle.program.specs.declared.reader.Mode.the-variants.{Begin, NameLength, Body, Length, Stored, Part, Count, Number, Offset, Symbol, DebugLength, Skip, End}
+use Rattle.program.specs.declared.reader.Mode.the-variants.{Begin, NameLength, Body, Length, Stored, Part}
+use Rattle.program.specs.declared.reader.Mode.the-variants.{Count, Number, Offset, Symbol, DebugLength, Skip}
+use Rattle.program.specs.declared.reader.Mode.the-variants.{End}
 use Rattle.program.specs.declared.reader.Next.{Next}
 use Rattle.program.specs.declared.reader.Next.the-variants.{On, Bad}
 use Rattle.program.specs.Header.{totalOf, sizeOf, startAt}
@@ -28,7 +31,8 @@ use Rattle.program.proofs.Walks.{Reads, reads-start, reads-on, walk-on,
 
 abbrev pub Ends : ℕ → Cursor → Mode → Type 0
 Ends end c m =
-    ((m ≡ End) × (endedOf end c m ≡ Accepted (c .hunk) (c .place))) ⊎ ((m ≢ End) × (endedOf end c m ≡ refuse fault.earlyEnd end))
+    ((m ≡ End) × (endedOf end c m ≡ Accepted (c .hunk) (c .place)))
+    ⊎ ((m ≢ End) × (endedOf end c m ≡ refuse fault.earlyEnd end))
 
 pub ended : (end : ℕ) (c : Cursor) (m : Mode) → Ends end c m
 ended end c End = inl (refl, refl)
@@ -50,7 +54,8 @@ ended end c (Skip n a) = inr ((λ q. impossible cc), refl)
 -- with the answer a: at the end, or before it
 abbrev pub Stops : List ℕ → Answer → Type 0
 Stops file a =
-    ((c : Cursor) × Comes file c (length file) × (a ≡ endedOf (length file) c (c .mode))) ⊎ ((f : Refusal) × HunkWord file f × (a ≡ Refused f))
+    ((c : Cursor) × Comes file c (length file) × (a ≡ endedOf (length file) c (c .mode)))
+    ⊎ ((f : Refusal) × HunkWord file f × (a ≡ Refused f))
 
 module _ (file : List ℕ) (whole : length file % 4 ≡ 0) where
   -- n words are left
@@ -67,10 +72,25 @@ module _ (file : List ℕ) (whole : length file % 4 ≡ 0) where
       k = omega arith
 
       go : (x : Next) → stepOf (totalOf file) (sizeOf file) c (wordAt file at) ≡ x
-          → ((d : Cursor) → length file ≡ at + 4 + 4 * n → Comes file d (at + 4) → Stops file (restOf file (at + 4) d)) → Stops file (restOf file at c)
-      go (On d) q more = rw (walk-on file at c (wordAt file at) _ whole k h refl refl d q) (more d (omega arith) (takes r h q))
+          → ((d : Cursor) → length file ≡ at + 4 + 4 * n → Comes file d (at + 4)
+          → Stops file (restOf file (at + 4) d))
+          → Stops file (restOf file at c)
+      go (On d) q more =
+          rw (walk-on file at c (wordAt file at) _ whole k h refl refl d q) (more d (omega arith) (takes r h q))
       go (Bad v) q more =
-          inr (refusal v at, record { cursor = c; at = at; comes = r; there = h; number = v; refuses = q; said = refl }, walk-bad file at c (wordAt file at) _ whole k h refl refl v q)
+          inr (
+            refusal v at,
+            record {
+              cursor = c;
+              at = at;
+              comes = r;
+              there = h;
+              number = v;
+              refuses = q;
+              said = refl;
+            },
+            walk-bad file at c (wordAt file at) _ whole k h refl refl v q,
+          )
 
   pub walk-stops : HeaderFits file → Stops file (walkOf file)
   walk-stops s = stops ((length file - startAt file) / 4) (startAt file) start (omega (arith, s .long, whole)) begins

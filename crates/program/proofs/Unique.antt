@@ -6,7 +6,10 @@ use native.Mathlib.Omega.{arith}
 use lib.ListN.{length, length-map}
 use Rattle.program.specs.Types as type
 use Rattle.answers.proofs.Clashes.{impossible}
-use Rattle.program.specs.Page.{Name, Body, Group, Symbol, Part, Hunk, none, named, code, stores, bss, relocation, symbols, debug, joined, nameWords, bodyWords, groupWords, symbolWords, partWords, hunkWords, written, Each, storedWords, GroupFits, SymbolFits, PartFits, HunkFits, Program, Holds}
+use Rattle.program.specs.Page.{Name, Body, Group, Symbol, Part, Hunk, none, named, code, stores, bss}
+use Rattle.program.specs.Page.{relocation, symbols, debug, joined, nameWords, bodyWords, groupWords}
+use Rattle.program.specs.Page.{symbolWords, partWords, hunkWords, written, Each, storedWords, GroupFits}
+use Rattle.program.specs.Page.{SymbolFits, PartFits, HunkFits, Program, Holds}
 use Rattle.program.proofs.Standing.{cons}
 
 -- ---- lists of words
@@ -30,17 +33,24 @@ differ : {X : Type 0} (a b : ℕ) (r s : List ℕ) → (a ≡ b → ⊥) → a �
 differ a b r s h e = let q : a ≡ b = cc in absurd (h q)
 
 -- pieces one after the other, up to a word with which no piece begins
-module _ {A : Type 0} (f : A → List ℕ) (Fits : A → Type 0) (end : ℕ) (one : (x y : A) (r s : List ℕ) → Fits x → Fits y → f x ++ r ≡ f y ++ s → (x ≡ y) × (r ≡ s)) (other : (x : A) (r s : List ℕ) → Fits x → f x ++ r ≡ end ∷ s → ⊥) where
-  joined-same : (xs ys : List A) (r s : List ℕ) → Each Fits xs → Each Fits ys → joined f xs ++ (end ∷ r) ≡ joined f ys ++ (end ∷ s) → (xs ≡ ys) × (r ≡ s)
-  joined-same [] [] r s p q e = (refl, cc)
-  joined-same [] (y ∷ ys) r s p q e = absurd (other y _ r (q .0) (sym (e ∙ append-assoc (f y) (joined f ys) (end ∷ s))))
-  joined-same (x ∷ xs) [] r s p q e = absurd (other x _ s (p .0) (sym (append-assoc (f x) (joined f xs) (end ∷ r)) ∙ e))
-  joined-same (x ∷ xs) (y ∷ ys) r s p q e =
-      let h = one x y _ _ (p .0) (q .0) (sym (append-assoc (f x) (joined f xs) (end ∷ r)) ∙ e ∙ append-assoc (f y) (joined f ys) (end ∷ s)) in
-      let t = joined-same xs ys r s (p .1) (q .1) (h .1) in
-      let a = h .0 in
-      let b = t .0 in
-      (cc, t .1)
+module _ {A : Type 0} (f : A → List ℕ) (Fits : A → Type 0) (end : ℕ) (one : (x y : A) (r s : List ℕ) → Fits x → Fits y
+    → f x ++ r ≡ f y ++ s → (x ≡ y) × (r ≡ s)) (other : (x : A) (r s : List ℕ) → Fits x → f x ++ r ≡ end ∷ s → ⊥)
+  where
+    joined-same : (xs ys : List A) (r s : List ℕ) → Each Fits xs → Each Fits ys
+        → joined f xs ++ (end ∷ r) ≡ joined f ys ++ (end ∷ s) → (xs ≡ ys) × (r ≡ s)
+    joined-same [] [] r s p q e = (refl, cc)
+    joined-same [] (y ∷ ys) r s p q e =
+        let g = e ∙ append-assoc (f y) (joined f ys) (end ∷ s) in absurd (other y _ r (q .0) (sym g))
+    joined-same (x ∷ xs) [] r s p q e =
+        let g = append-assoc (f x) (joined f xs) (end ∷ r) in absurd (other x _ s (p .0) (sym g ∙ e))
+    joined-same (x ∷ xs) (y ∷ ys) r s p q e =
+        let h =
+        one x y _ _ (p .0) (q .0) (sym (append-assoc (f x) (joined f xs) (end ∷ r)) ∙ e
+        ∙ append-assoc (f y) (joined f ys) (end ∷ s)) in
+        let t = joined-same xs ys r s (p .1) (q .1) (h .1) in
+        let a = h .0 in
+        let b = t .0 in
+        (cc, t .1)
 
 -- ---- the parts of a hunk
 
@@ -50,21 +60,26 @@ group-same x y r s e =
     let k : x .hunk ≡ y .hunk = cc in
     (go (x .hunk) (y .hunk) (x .offsets) (y .offsets) k (p .0), p .1)
   where
-    go : (k l : ℕ) (a b : List ℕ) → k ≡ l → a ≡ b → _≡_ {A = Group} (record { hunk = k; offsets = a }) (record { hunk = l; offsets = b })
+    go : (k l : ℕ) (a b : List ℕ) → k ≡ l → a ≡ b
+        → _≡_ {A = Group} (record { hunk = k; offsets = a }) (record { hunk = l; offsets = b })
     go k l a b p q = cc
 
 symbol-same : (x y : Symbol) (r s : List ℕ) → symbolWords x ++ r ≡ symbolWords y ++ s → (x ≡ y) × (r ≡ s)
 symbol-same x y r s e =
-    let p = counted-same (x .name) (y .name) (x .value ∷ r) (y .value ∷ s) (flat (x .name) (x .value) r (y .name) (y .value) s e) in
+    let p =
+    counted-same (x .name) (y .name) (x .value ∷ r) (y .value ∷ s)
+    (flat (x .name) (x .value) r (y .name) (y .value) s e) in
     let t = p .1 in
     let v : x .value ≡ y .value = cc in
     (go (x .value) (y .value) (x .name) (y .name) v (p .0), cc)
   where
-    flat : (a : List ℕ) (v : ℕ) (r b : List ℕ) (w : ℕ) (s : List ℕ) → length a ∷ (a ++ (v ∷ [])) ++ r ≡ length b ∷ (b ++ (w ∷ [])) ++ s
+    flat : (a : List ℕ) (v : ℕ) (r b : List ℕ) (w : ℕ) (s : List ℕ)
+        → length a ∷ (a ++ (v ∷ [])) ++ r ≡ length b ∷ (b ++ (w ∷ [])) ++ s
         → length a ∷ a ++ (v ∷ r) ≡ length b ∷ b ++ (w ∷ s)
     flat a v r b w s e = rw (append-assoc a (v ∷ []) r, append-assoc b (w ∷ []) s) at e
 
-    go : (v w : ℕ) (a b : List ℕ) → v ≡ w → a ≡ b → _≡_ {A = Symbol} (record { name = a; value = v }) (record { name = b; value = w })
+    go : (v w : ℕ) (a b : List ℕ) → v ≡ w → a ≡ b
+        → _≡_ {A = Symbol} (record { name = a; value = v }) (record { name = b; value = w })
     go v w a b p q = cc
 
 module _ (t n : ℕ) where
@@ -90,7 +105,8 @@ module _ (t n : ℕ) where
       ends : (x : Symbol) (r s : List ℕ) → SymbolFits x → symbolWords x ++ r ≡ 0 ∷ s → ⊥
       ends x r s f e = let z : length (x .name) ≡ 0 = cc in omega (arith, f .0)
 
-  part-same : (x y : Part) (r s : List ℕ) → PartFits t n x → PartFits t n y → partWords x ++ r ≡ partWords y ++ s → (x ≡ y) × (r ≡ s)
+  part-same : (x y : Part) (r s : List ℕ) → PartFits t n x → PartFits t n y → partWords x ++ r ≡ partWords y ++ s
+      → (x ≡ y) × (r ≡ s)
   part-same (relocation a) (relocation b) r s p q e = let h = groups-same a b r s p q (cc) in let g = h .0 in (cc, h .1)
   part-same (relocation a) (symbols b) r s p q e = differ type.relocation type.symbols _ _ (omega arith) e
   part-same (relocation a) (debug b) r s p q e = differ type.relocation type.debug _ _ (omega arith) e
@@ -123,33 +139,43 @@ unnamed (code a) r s e = differ type.code type.name _ _ (omega arith) e
 unnamed (stores a) r s e = differ type.stores type.name _ _ (omega arith) e
 unnamed (bss a) r s e = differ type.bss type.name _ _ (omega arith) e
 
-name-same : (x y : Name) (b d : Body) (r s : List ℕ) → nameWords x ++ (bodyWords b ++ r) ≡ nameWords y ++ (bodyWords d ++ s)
+name-same : (x y : Name) (b d : Body) (r s : List ℕ)
+    → nameWords x ++ (bodyWords b ++ r) ≡ nameWords y ++ (bodyWords d ++ s)
     → (x ≡ y) × (bodyWords b ++ r ≡ bodyWords d ++ s)
 name-same none none b d r s e = (refl, e)
 name-same none (named y) b d r s e = unnamed b r _ e
 name-same (named x) none b d r s e = unnamed d s _ (sym e)
-name-same (named x) (named y) b d r s e = let h = counted-same x y (bodyWords b ++ r) (bodyWords d ++ s) (cc) in let g = h .0 in (cc, h .1)
+name-same (named x) (named y) b d r s e =
+    let h = counted-same x y (bodyWords b ++ r) (bodyWords d ++ s) (cc) in let g = h .0 in (cc, h .1)
 
 -- ---- hunks
 
 -- a hunk's words and others, piece by piece
-grouped : (x : Hunk) (rest : List ℕ) → hunkWords x ++ rest ≡ nameWords (x .name) ++ (bodyWords (x .body) ++ (joined partWords (x .parts) ++ (type.end ∷ rest)))
+grouped : (x : Hunk) (rest : List ℕ)
+    → hunkWords x ++ rest ≡ nameWords (x .name)
+    ++ (bodyWords (x .body) ++ (joined partWords (x .parts) ++ (type.end ∷ rest)))
 grouped x rest = simp append-assoc
 
-hunk-same : (t : ℕ) (x y : Hunk) (r s : List ℕ) → x .size ≡ y .size → HunkFits t x → HunkFits t y → hunkWords x ++ r ≡ hunkWords y ++ s → (x ≡ y) × (r ≡ s)
+hunk-same : (t : ℕ) (x y : Hunk) (r s : List ℕ) → x .size ≡ y .size → HunkFits t x → HunkFits t y
+    → hunkWords x ++ r ≡ hunkWords y ++ s → (x ≡ y) × (r ≡ s)
 hunk-same t x y r s z p q e =
     let a = name-same (x .name) (y .name) (x .body) (y .body) _ _ (sym (grouped x r) ∙ e ∙ grouped y s) in
     let b = body-same (x .body) (y .body) _ _ (a .1) in
     let n = length (storedWords (x .body)) in
-    let f : Each (PartFits t n) (y .parts) = subst (λ (d : Body). Each (PartFits t (length (storedWords d))) (y .parts)) (sym (b .0)) (q .parts) in
-    let d = joined-same partWords (PartFits t n) type.end (part-same t n) (part-ends t n) (x .parts) (y .parts) r s (p .parts) f (b .1) in
+    let f : Each (PartFits t n) (y .parts) =
+    subst (λ (d : Body). Each (PartFits t (length (storedWords d))) (y .parts)) (sym (b .0)) (q .parts) in
+    let d =
+    joined-same partWords (PartFits t n) type.end (part-same t n) (part-ends t n) (x .parts) (y .parts) r s
+    (p .parts) f (b .1) in
     (go _ _ _ _ _ _ _ _ z (a .0) (b .0) (d .0), d .1)
   where
     go : (k l : ℕ) (u v : Name) (b c : Body) (m n : List Part) → k ≡ l → u ≡ v → b ≡ c → m ≡ n
-        → _≡_ {A = Hunk} (record { size = k; name = u; body = b; parts = m }) (record { size = l; name = v; body = c; parts = n })
+        → _≡_ {A = Hunk} (record { size = k; name = u; body = b; parts = m })
+        (record { size = l; name = v; body = c; parts = n })
     go k l u v b c m n e f g h = cc
 
-hunks-same : (t : ℕ) (xs ys : List Hunk) → map (λ h. h .size) xs ≡ map (λ h. h .size) ys → Each (HunkFits t) xs → Each (HunkFits t) ys
+hunks-same : (t : ℕ) (xs ys : List Hunk) → map (λ h. h .size) xs ≡ map (λ h. h .size) ys → Each (HunkFits t) xs
+    → Each (HunkFits t) ys
     → joined hunkWords xs ≡ joined hunkWords ys → xs ≡ ys
 hunks-same t [] [] z p q e = refl
 hunks-same t [] (y ∷ ys) z p q e = impossible cc
@@ -164,7 +190,9 @@ hunks-same t (x ∷ xs) (y ∷ ys) z p q e =
 pub written-same : (hs hs′ : List Hunk) → Program hs → Program hs′ → written hs ≡ written hs′ → hs ≡ hs′
 written-same hs hs′ p q e =
     let n : length hs ≡ length hs′ = cc in
-    let c = cut (map (λ h. h .size) hs) (map (λ h. h .size) hs′) (joined hunkWords hs) (joined hunkWords hs′) (omega (arith, length-map hs (λ h. h .size), length-map hs′ (λ h. h .size))) (cc) in
+    let c =
+    cut (map (λ h. h .size) hs) (map (λ h. h .size) hs′) (joined hunkWords hs) (joined hunkWords hs′)
+    (omega (arith, length-map hs (λ h. h .size), length-map hs′ (λ h. h .size))) (cc) in
     hunks-same (length hs) hs hs′ (c .0) (p .hunks) (rw n (q .hunks)) (c .1)
 
 -- a file holds one list of hunks at most

@@ -28,7 +28,8 @@ one-left : (n at : ℕ) → n % 4 ≡ 0 → at % 4 ≡ 0 → at < n → (n - at)
 one-left n at h k l = omega arith
 
 module _ (file : List ℕ) (at : ℕ) where
-  pub words-next : length file % 4 ≡ 0 → at % 4 ≡ 0 → at < length file → wordsFrom file at ≡ wordAt file at ∷ wordsFrom file (at + 4)
+  pub words-next : length file % 4 ≡ 0 → at % 4 ≡ 0 → at < length file
+      → wordsFrom file at ≡ wordAt file at ∷ wordsFrom file (at + 4)
   unfolding wordsAt
   words-next h k l = rw (one-left (length file) at h k l)
 
@@ -39,7 +40,8 @@ module _ (file : List ℕ) (at : ℕ) where
   -- ---- a word of the walk
 
   module _ (c : Cursor) where
-    module _ (w : ℕ) (r : Next) (h : length file % 4 ≡ 0) (k : at % 4 ≡ 0) (l : at < length file) (p : w ≡ wordAt file at) (q : r ≡ stepOf (totalOf file) (sizeOf file) c w) where
+    module _ (w : ℕ) (r : Next) (h : length file % 4 ≡ 0) (k : at % 4 ≡ 0) (l : at < length file)
+        (p : w ≡ wordAt file at) (q : r ≡ stepOf (totalOf file) (sizeOf file) c w) where
       pub walk-on : (d : Cursor) → r ≡ On d → restOf file at c ≡ restOf file (at + 4) d
       unfolding walk
       walk-on d e = rw (words-next h k l, ← p, ← q, e)
@@ -61,11 +63,19 @@ pub record Reads (file : List ℕ) (c : Cursor) (at : ℕ) : Type 0 where
   pub aligned : at % 4 ≡ 0
   pub rest : walkOf file ≡ restOf file at c
 
-pub reads-start : (file : List ℕ) (c : Cursor) (at t : ℕ) → HeaderFits file → length file % 4 ≡ 0 → c ≡ start → t ≡ totalOf file → at ≡ 20 + 4 * t → Reads file c at
+pub reads-start : (file : List ℕ) (c : Cursor) (at t : ℕ) → HeaderFits file → length file % 4 ≡ 0 → c ≡ start
+    → t ≡ totalOf file → at ≡ 20 + 4 * t → Reads file c at
 reads-start file c at t s v e g h =
-    record { fits = rw e (start-fits file s); whole = v; within = omega (arith, s .long); aligned = omega arith; rest = rw (e, h, g) }
+    record {
+      fits = rw e (start-fits file s);
+      whole = v;
+      within = omega (arith, s .long);
+      aligned = omega arith;
+      rest = rw (e, h, g);
+    }
 
-pub reads-on : (file : List ℕ) (c : Cursor) (at w : ℕ) (r : Next) (d : Cursor) → Reads file c at → at < length file → w ≡ wordAt file at → r ≡ stepOf (totalOf file) (sizeOf file) c w → r ≡ On d → Reads file d (at + 4)
+pub reads-on : (file : List ℕ) (c : Cursor) (at w : ℕ) (r : Next) (d : Cursor) → Reads file c at → at < length file
+    → w ≡ wordAt file at → r ≡ stepOf (totalOf file) (sizeOf file) c w → r ≡ On d → Reads file d (at + 4)
 reads-on file c at w r d i l p q e =
     record {
       fits = step-fits file c w d (i .fits) (sym q ∙ e);
@@ -78,7 +88,8 @@ reads-on file c at w r d i l p q e =
 -- ---- its returns
 
 module _ (file : List ℕ) (c : Cursor) (at : ℕ) (i : Reads file c at) (a : Answer) where
-  pub reads-bad : (w : ℕ) (r : Next) (v : ℕ) → at < length file → w ≡ wordAt file at → r ≡ stepOf (totalOf file) (sizeOf file) c w → r ≡ Bad v → a ≡ refuse v at → a ≡ walkOf file
+  pub reads-bad : (w : ℕ) (r : Next) (v : ℕ) → at < length file → w ≡ wordAt file at
+      → r ≡ stepOf (totalOf file) (sizeOf file) c w → r ≡ Bad v → a ≡ refuse v at → a ≡ walkOf file
   reads-bad w r v l p q e k = k ∙ sym (i .rest ∙ walk-bad file at c w r (i .whole) (i .aligned) l p q v e)
 
   pub reads-end : length file ≤ at → a ≡ endedOf (length file) c (c .mode) → a ≡ walkOf file
@@ -108,4 +119,5 @@ module _ (file : List ℕ) where
 
         pub check-hunks : b ≡ Passed → (r : Answer) → r ≡ walkOf file → r ≡ checkOf file
         unfolding checkOf pick
-        check-hunks h r e = e ∙ rw (ne-eqb _ _ some, eq-eqb _ _ whole, ← ea, fa, ap (heads file 5) (sym et) ∙ sym eb ∙ h)
+        check-hunks h r e =
+            e ∙ rw (ne-eqb _ _ some, eq-eqb _ _ whole, ← ea, fa, ap (heads file 5) (sym et) ∙ sym eb ∙ h)

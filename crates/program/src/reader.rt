@@ -10,7 +10,8 @@ ghost use lib.Dec.{eqb};
 ghost use Rattle.program.specs.Types as type;
 ghost use Rattle.answers.specs.Tests.{pick};
 ghost use Rattle.program.specs.Header.{totalOf, sizeOf};
-ghost use Rattle.program.specs.Reader.{on, resume, skip, bodyOf, beginOf, storedFrom, lengthOf, partOf, endOf, countOf, numberOf, offsetOf, symbolOf, stepOf, start};
+ghost use Rattle.program.specs.Reader.{on, resume, skip, bodyOf, beginOf, storedFrom, lengthOf, partOf, endOf};
+ghost use Rattle.program.specs.Reader.{countOf, numberOf, offsetOf, symbolOf, stepOf, start};
 ghost use Rattle.program.specs.Cursors.{CursorFits};
 ghost use Rattle.program.specs.Runs.{modedOf, skipAt, storedAt, Leads};
 

@@ -1,4 +1,5 @@
--- Facts on claim bytes: a list with a byte for each key, 0 where the key is free and 1 where it is claimed. Assumes nothing.
+-- Facts on claim bytes: a list with a byte for each key, 0 where the key is free and 1 where it is claimed. Assumes
+-- nothing.
 use mathlib.Core.Path.{_≡_, refl, ap}
 use mathlib.Core.Logic.{_≢_}
 use mathlib.Core.List.{List, [], _∷_}

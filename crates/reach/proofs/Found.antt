@@ -1,4 +1,5 @@
--- What the walk of the tree has found out: enough for the law. At the end all that is reached is found (`found-all`). Assumes nothing.
+-- What the walk of the tree has found out: enough for the law. At the end all that is reached is found (`found-all`).
+-- Assumes nothing.
 use mathlib.Core.Path.{_≡_, sym, ap, _∙_, subst}
 use mathlib.Core.Logic.{_≢_, _⊎_, inl, inr}
 use mathlib.Core.List.{List, [], _∷_, _++_}
@@ -38,8 +39,16 @@ module _ {Node S : Type 0} (G : Graph Node S) where
     pub good : (p : Item Node) → p ∈ s → (G .before (p .1) ≡ 0) × (G .after (p .1) ≡ 0)
     pub marked : (p : Item Node) → p ∈ s → getD c (K p) 1 ≡ 1
 
-  pub found-next : (c : List ℕ) (s : List (Item Node)) (p : Item Node) (ps : List (Item Node)) → verdict (unfolded G) c p ≡ 0 → Found c s (p ∷ ps) → Found (set c (K p) 1) (p ∷ s) (kids p ++ ps)
-  found-next c s p ps e i = record { rooted = shift start (i .rooted); closed = closed′; distinct = ((λ q m. apart-bytes c (K p) (K q) zero′ (i .marked q m)), i .distinct); good = good′; marked = marked′ }
+  pub found-next : (c : List ℕ) (s : List (Item Node)) (p : Item Node) (ps : List (Item Node))
+      → verdict (unfolded G) c p ≡ 0 → Found c s (p ∷ ps) → Found (set c (K p) 1) (p ∷ s) (kids p ++ ps)
+  found-next c s p ps e i =
+      record {
+        rooted = shift start (i .rooted);
+        closed = closed′;
+        distinct = ((λ q m. apart-bytes c (K p) (K q) zero′ (i .marked q m)), i .distinct);
+        good = good′;
+        marked = marked′;
+      }
     where
       ok : (G .before (p .1) ≡ 0) × (getD c (K p) 1 ≡ 0) × (G .after (p .1) ≡ 0)
       ok = passed (unfolded G) c p e

@@ -1,4 +1,5 @@
--- What the walk of the tree keeps true: all is reached, nothing stands twice, and each claim has an item that made it. Assumes nothing.
+-- What the walk of the tree keeps true: all is reached, nothing stands twice, and each claim has an item that made
+-- it. Assumes nothing.
 use mathlib.Core.Path.{_≡_, refl, sym, ap, ap₂, _∙_, subst}
 use mathlib.Core.Logic.{_≢_, _⊎_, inl, inr}
 use mathlib.Core.List.{List, _∷_, _++_, head-eq-of-cons-eq, tail-eq-of-cons-eq}
@@ -30,10 +31,21 @@ module _ {Node S : Type 0} (G : Graph Node S) where
     pub uniq : Uniq xs
     pub apart : (p : Item Node) → p ∈ xs → p ∈ s → ⊥
     -- whoever refers to an item is done
-    pub parent : (p : Item Node) (m : Node) (j : ℕ) (a : List (Node × ℕ)) → (p ∈ xs) ⊎ (p ∈ s) → p .0 ≡ (m, j) ∷ a → (a, m) ∈ s
+    pub parent : (p : Item Node) (m : Node) (j : ℕ) (a : List (Node × ℕ)) → (p ∈ xs) ⊎ (p ∈ s) → p .0 ≡ (m, j) ∷ a
+        → (a, m) ∈ s
 
-  pub kept-next : (c : List ℕ) (s : List (Item Node)) (p : Item Node) (ps : List (Item Node)) → verdict (unfolded G) c p ≡ 0 → Kept c s (p ∷ ps) → Kept (set c (K p) 1) (p ∷ s) (kids p ++ ps)
-  kept-next c s p ps e i = record { todo = todo′; seen = seen′; bytes = bytes′; uniq = uniq-append (kids p) ps (number-uniq 0 p (refs (p .1))) (i .uniq .1) (λ x m m′. fresh x m (inl (inr m′))); apart = apart′; parent = parent′ }
+  pub kept-next : (c : List ℕ) (s : List (Item Node)) (p : Item Node) (ps : List (Item Node))
+      → verdict (unfolded G) c p ≡ 0 → Kept c s (p ∷ ps) → Kept (set c (K p) 1) (p ∷ s) (kids p ++ ps)
+  kept-next c s p ps e i =
+      record {
+        todo = todo′;
+        seen = seen′;
+        bytes = bytes′;
+        uniq = uniq-append (kids p) ps (number-uniq 0 p (refs (p .1))) (i .uniq .1)
+            (λ x m m′. fresh x m (inl (inr m′)));
+        apart = apart′;
+        parent = parent′;
+      }
     where
       zero′ : getD c (K p) 1 ≡ 0
       zero′ = passed (unfolded G) c p e .1
@@ -64,7 +76,8 @@ module _ {Node S : Type 0} (G : Graph Node S) where
           old h (inr w) = inr (mark-other c (K p) k h ∙ w .0, (w .1 .0, inr (w .1 .1), w .1 .2))
 
           go : Dec (k ≡ K p) → Claim (set c (K p) 1) (p ∷ s) k
-          go (yes h) = inr (subst (λ y. getD (set c (K p) 1) y 1 ≡ 1) (sym h) (mark-same c (K p) zero′), (p, inl refl, sym h))
+          go (yes h) =
+              inr (subst (λ y. getD (set c (K p) 1) y 1 ≡ 1) (sym h) (mark-same c (K p) zero′), (p, inl refl, sym h))
           go (no h) = old h (i .bytes k (subst (λ y. k < y) (length-set c (K p) 1) b))
 
       apart′ : (x : Item Node) → x ∈ (kids p ++ ps) → x ∈ (p ∷ s) → ⊥
@@ -76,11 +89,14 @@ module _ {Node S : Type 0} (G : Graph Node S) where
           go (inr h) (inl h′) = i .uniq .0 (subst (λ y. y ∈ ps) h′ h)
           go (inr h) (inr h′) = i .apart x (inr h) h′
 
-      parent′ : (x : Item Node) (m : Node) (j : ℕ) (a : List (Node × ℕ)) → (x ∈ (kids p ++ ps)) ⊎ (x ∈ (p ∷ s)) → x .0 ≡ (m, j) ∷ a → (a, m) ∈ (p ∷ s)
+      parent′ : (x : Item Node) (m : Node) (j : ℕ) (a : List (Node × ℕ)) → (x ∈ (kids p ++ ps)) ⊎ (x ∈ (p ∷ s))
+          → x .0 ≡ (m, j) ∷ a → (a, m) ∈ (p ∷ s)
       parent′ x m j a (inl h) e = go (in-either x (kids p) ps h)
         where
           go : (x ∈ kids p) ⊎ (x ∈ ps) → (a, m) ∈ (p ∷ s)
-          go (inl h) = let f = sym e ∙ kid x h .2 in inl (ap₂ (λ y z. (y, z)) (tail-eq-of-cons-eq f) (ap (λ y. y .0) (head-eq-of-cons-eq f)))
+          go (inl h) =
+              let f = sym e ∙ kid x h .2 in
+              inl (ap₂ (λ y z. (y, z)) (tail-eq-of-cons-eq f) (ap (λ y. y .0) (head-eq-of-cons-eq f)))
           go (inr h) = inr (i .parent x m j a (inl (inr h)) e)
       parent′ x m j a (inr (inl h)) e = inr (i .parent x m j a (inl (inl h)) e)
       parent′ x m j a (inr (inr h)) e = inr (i .parent x m j a (inr h) e)

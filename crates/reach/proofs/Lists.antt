@@ -1,4 +1,5 @@
--- Facts on the positions of a list (`At`), membership (`_∈_`) and lists in which nothing stands twice (`Uniq`). Assumes nothing.
+-- Facts on the positions of a list (`At`), membership (`_∈_`) and lists in which nothing stands twice (`Uniq`).
+-- Assumes nothing.
 use mathlib.Core.Path.{_≡_, refl, sym, ap, _∙_}
 use mathlib.Core.Logic.{_⊎_, inl, inr}
 use mathlib.Core.List.{List, [], _∷_, _++_, map}

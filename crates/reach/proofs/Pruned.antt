@@ -1,5 +1,5 @@
--- The walk never looks at what a node that fails refers to: over the graph in which such nodes refer to nothing it has the same outcome
--- (`pruned-same`). What is reached there is reached by way of nodes that pass. Assumes nothing.
+-- The walk never looks at what a node that fails refers to: over the graph in which such nodes refer to nothing it
+-- has the same outcome (`pruned-same`). What is reached there is reached by way of nodes that pass. Assumes nothing.
 use Prim.Native.Nat.{ℕ, zero, suc}
 use mathlib.Core.Path.{_≡_, refl, sym, subst, _∙_}
 use mathlib.Core.Bool.{Bool, true, false}
@@ -26,11 +26,13 @@ module _ {Node S : Type 0} (G : Graph Node S) where
       both b a = rw b a
 
   -- a reference there is one here, of a node that passes
-  pub pruned-at : (i : ℕ) (m n : Node) → At i n (pruned G .references .refs m) → (G .before m ≡ 0) × (G .after m ≡ 0) × At i n (refs m)
+  pub pruned-at : (i : ℕ) (m n : Node) → At i n (pruned G .references .refs m)
+      → (G .before m ≡ 0) × (G .after m ≡ 0) × At i n (refs m)
   unfolding pick
   pruned-at i m n h = go (eqb (first (G .before m) (G .after m)) 0) refl h
     where
-      go : (t : Bool) → eqb (first (G .before m) (G .after m)) 0 ≡ t → At i n (pick t (refs m) []) → (G .before m ≡ 0) × (G .after m ≡ 0) × At i n (refs m)
+      go : (t : Bool) → eqb (first (G .before m) (G .after m)) 0 ≡ t → At i n (pick t (refs m) [])
+          → (G .before m ≡ 0) × (G .after m ≡ 0) × At i n (refs m)
       go true e h = let f = first-zero _ _ (eqb-true _ _ e) in (f .0, f .1, h)
       go false e h = absurd h
 
@@ -44,7 +46,8 @@ module _ {Node S : Type 0} (G : Graph Node S) where
   runs-pruned (enter {c = c} {s = s} {n = n} {ns = ns} {r = r} e d) =
       let p = passed G c n e in
       let k = pruned-refs n (p .0) (p .2) in
-      enter {r = r} (same-verdict c n ∙ e) (subst (λ l. Run (pruned G) (set c (key n) 1) (G .note n s) (l ++ ns) r) (sym k) (runs-pruned d))
+      enter {r = r} (same-verdict c n ∙ e)
+      (subst (λ l. Run (pruned G) (set c (key n) 1) (G .note n s) (l ++ ns) r) (sym k) (runs-pruned d))
 
   pub pruned-same : (N : ℕ) (s : S) → audit (pruned G) N s ≡ audit G N s
   unfolding audit

@@ -35,19 +35,45 @@ module _ {Node S : Type 0} (G : Graph Node S) where
 
     reports : (r : Outcome (List (Item Node))) → Fits G N r → Reports (told G s₀ r)
     reports (refused v k) i = tt
-    reports (done c t) i = record { size = i .size; byte = byte′; nodes = map (λ p. p .1) t; all = all′; only = only′; keys = uniq-keys t (i .found .distinct); noted = refl; used = rw length-map (i .total) }
+    reports (done c t) i =
+        record {
+          size = i .size;
+          byte = byte′;
+          nodes = map (λ p. p .1) t;
+          all = all′;
+          only = only′;
+          keys = uniq-keys t (i .found .distinct);
+          noted = refl;
+          used = rw length-map (i .total);
+        }
       where
         all′ : (n : Node) → Reached (G .references) n → n ∈ map (λ p. p .1) t
         all′ n r = let u = up (G .references) r in in-map (λ p. p .1) (u .0, n) t (found-all G c t (i .found) (u .1))
 
         only′ : (n : Node) → n ∈ map (λ p. p .1) t → Reached (G .references) n
-        only′ n h = let r = map-in (λ p. p .1) n t h in subst (λ x. Reached (G .references) x) (sym (r .2)) (down (G .references) (i .kept .seen (r .0) (r .1)))
+        only′ n h =
+            let r = map-in (λ p. p .1) n t h in
+            subst (λ x. Reached (G .references) x) (sym (r .2)) (down (G .references) (i .kept .seen (r .0) (r .1)))
 
-        byte′ : (k : ℕ) → k < N → ((getD c k 1 ≡ 0) × ((n : Node) → Reached (G .references) n → key n ≢ k)) ⊎ ((getD c k 1 ≡ 1) × ((n : Node) × Reached (G .references) n × (key n ≡ k)))
+        byte′ : (k : ℕ) → k < N
+            → ((getD c k 1 ≡ 0) × ((n : Node) → Reached (G .references) n → key n ≢ k))
+            ⊎ ((getD c k 1 ≡ 1) × ((n : Node) × Reached (G .references) n × (key n ≡ k)))
         byte′ k b = go (i .kept .bytes k (subst (λ x. k < x) (sym (i .size)) b))
           where
-            go : Claim G c t k → ((getD c k 1 ≡ 0) × ((n : Node) → Reached (G .references) n → key n ≢ k)) ⊎ ((getD c k 1 ≡ 1) × ((n : Node) × Reached (G .references) n × (key n ≡ k)))
-            go (inl z) = inl (z, λ n r e. let u = up (G .references) r in absurd (omega (arith, z, i .found .marked (u .0, n) (found-all G c t (i .found) (u .1)), ap (λ x. getD c x 1) e)))
+            go : Claim G c t k
+                → ((getD c k 1 ≡ 0) × ((n : Node) → Reached (G .references) n → key n ≢ k))
+                ⊎ ((getD c k 1 ≡ 1) × ((n : Node) × Reached (G .references) n × (key n ≡ k)))
+            go (inl z) =
+                inl (
+                  z,
+                  λ n r e. let u = up (G .references) r in absurd
+                      (omega (
+                        arith,
+                        z,
+                        i .found .marked (u .0, n) (found-all G c t (i .found) (u .1)),
+                        ap (λ x. getD c x 1) e,
+                      )),
+                )
             go (inr o) = inr (o .0, (o .1 .0 .1, down (G .references) (i .kept .seen (o .1 .0) (o .1 .1)), o .1 .2))
 
     pub report : (c : List ℕ) (s : S) → audit G N s₀ ≡ done c s → Report G N s₀ c s

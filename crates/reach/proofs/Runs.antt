@@ -28,7 +28,8 @@ module _ {Node S : Type 0} (G : Graph Node S) where
 
   -- ---- a verdict that passes
 
-  pub passed : (c : List ℕ) (n : Node) → verdict G c n ≡ 0 → (G .before n ≡ 0) × (getD c (key n) 1 ≡ 0) × (G .after n ≡ 0)
+  pub passed : (c : List ℕ) (n : Node) → verdict G c n ≡ 0
+      → (G .before n ≡ 0) × (getD c (key n) 1 ≡ 0) × (G .after n ≡ 0)
   unfolding verdict
   passed c n e =
       let h = first-zero (G .before n) _ e in
@@ -43,14 +44,18 @@ module _ {Node S : Type 0} (G : Graph Node S) where
 
   pub data Run : List ℕ → S → List Node → Outcome S → Type 0 where
     end : {c : List ℕ} {s : S} → Run c s [] (done c s)
-    stop : {c : List ℕ} {s : S} {n : Node} {ns : List Node} (v : ℕ) → verdict G c n ≡ suc v → Run c s (n ∷ ns) (refused (suc v) (key n))
-    enter : {c : List ℕ} {s : S} {n : Node} {ns : List Node} {r : Outcome S} → verdict G c n ≡ 0 → Run (set c (key n) 1) (G .note n s) (refs n ++ ns) r → Run c s (n ∷ ns) r
+    stop : {c : List ℕ} {s : S} {n : Node} {ns : List Node} (v : ℕ) → verdict G c n ≡ suc v
+        → Run c s (n ∷ ns) (refused (suc v) (key n))
+    enter : {c : List ℕ} {s : S} {n : Node} {ns : List Node} {r : Outcome S} → verdict G c n ≡ 0
+        → Run (set c (key n) 1) (G .note n s) (refs n ++ ns) r → Run c s (n ∷ ns) r
 
-  walk-stop : (f : ℕ) (c : List ℕ) (s : S) (n : Node) (ns : List Node) (v : ℕ) → verdict G c n ≡ suc v → walk G (suc f) c s (n ∷ ns) ≡ refused (suc v) (key n)
+  walk-stop : (f : ℕ) (c : List ℕ) (s : S) (n : Node) (ns : List Node) (v : ℕ) → verdict G c n ≡ suc v
+      → walk G (suc f) c s (n ∷ ns) ≡ refused (suc v) (key n)
   unfolding walk
   walk-stop f c s n ns v e = rw (e, walk)
 
-  walk-enter : (f : ℕ) (c : List ℕ) (s : S) (n : Node) (ns : List Node) → verdict G c n ≡ 0 → walk G (suc f) c s (n ∷ ns) ≡ walk G f (set c (key n) 1) (G .note n s) (refs n ++ ns)
+  walk-enter : (f : ℕ) (c : List ℕ) (s : S) (n : Node) (ns : List Node) → verdict G c n ≡ 0
+      → walk G (suc f) c s (n ∷ ns) ≡ walk G f (set c (key n) 1) (G .note n s) (refs n ++ ns)
   unfolding walk
   walk-enter f c s n ns e = rw (e, walk)
 
@@ -61,9 +66,13 @@ module _ {Node S : Type 0} (G : Graph Node S) where
   unfolding walk
   walk-runs zero c s ns h = absurd (not-suc-le-zero h)
   walk-runs (suc f) c s [] h = end
-  walk-runs (suc f) c s (n ∷ ns) h = go (verdict G c n) refl (walk-runs f (set c (key n) 1) (G .note n s) (refs n ++ ns))
+  walk-runs (suc f) c s (n ∷ ns) h =
+      go (verdict G c n) refl (walk-runs f (set c (key n) 1) (G .note n s) (refs n ++ ns))
     where
-      go : (v : ℕ) → verdict G c n ≡ v → (free (set c (key n) 1) < f → Run (set c (key n) 1) (G .note n s) (refs n ++ ns) (walk G f (set c (key n) 1) (G .note n s) (refs n ++ ns))) → Run c s (n ∷ ns) (walk G (suc f) c s (n ∷ ns))
+      go : (v : ℕ) → verdict G c n ≡ v
+          → (free (set c (key n) 1) < f → Run (set c (key n) 1) (G .note n s) (refs n ++ ns)
+          (walk G f (set c (key n) 1) (G .note n s) (refs n ++ ns)))
+          → Run c s (n ∷ ns) (walk G (suc f) c s (n ∷ ns))
       go zero e below = rw (walk-enter f c s n ns e) (enter e (below (less f c n e h)))
       go (suc v) e below = rw (walk-stop f c s n ns v e) (stop v e)
 
@@ -72,14 +81,16 @@ module _ {Node S : Type 0} (G : Graph Node S) where
   run-runs c s ns = walk-runs (suc (free c)) c s ns (le-refl _)
 
   -- any fuel above the number of bytes that are 0 gives the one outcome
-  pub runs-walk : {c : List ℕ} {s : S} {ns : List Node} {r : Outcome S} → Run c s ns r → (f : ℕ) → free c < f → walk G f c s ns ≡ r
+  pub runs-walk : {c : List ℕ} {s : S} {ns : List Node} {r : Outcome S} → Run c s ns r → (f : ℕ) → free c < f
+      → walk G f c s ns ≡ r
   unfolding walk
   runs-walk end zero h = absurd (not-suc-le-zero h)
   runs-walk end (suc f) h = refl
   runs-walk (stop v e) zero h = absurd (not-suc-le-zero h)
   runs-walk (stop {c = c} {s = s} {n = n} {ns = ns} v e) (suc f) h = walk-stop f c s n ns v e
   runs-walk (enter e d) zero h = absurd (not-suc-le-zero h)
-  runs-walk (enter {c = c} {s = s} {n = n} {ns = ns} e d) (suc f) h = walk-enter f c s n ns e ∙ runs-walk d f (less f c n e h)
+  runs-walk (enter {c = c} {s = s} {n = n} {ns = ns} e d) (suc f) h =
+      walk-enter f c s n ns e ∙ runs-walk d f (less f c n e h)
 
   pub runs-run : {c : List ℕ} {s : S} {ns : List Node} {r : Outcome S} → Run c s ns r → run G c s ns ≡ r
   unfolding run
@@ -90,10 +101,12 @@ module _ {Node S : Type 0} (G : Graph Node S) where
   pub run-end : (c : List ℕ) (s : S) → run G c s [] ≡ done c s
   run-end c s = runs-run end
 
-  pub run-stop : (c : List ℕ) (s : S) (n : Node) (ns : List Node) (v : ℕ) → verdict G c n ≡ suc v → run G c s (n ∷ ns) ≡ refused (suc v) (key n)
+  pub run-stop : (c : List ℕ) (s : S) (n : Node) (ns : List Node) (v : ℕ) → verdict G c n ≡ suc v
+      → run G c s (n ∷ ns) ≡ refused (suc v) (key n)
   run-stop c s n ns v e = runs-run (stop v e)
 
-  pub run-enter : (c : List ℕ) (s : S) (n : Node) (ns : List Node) → verdict G c n ≡ 0 → run G c s (n ∷ ns) ≡ run G (set c (key n) 1) (G .note n s) (refs n ++ ns)
+  pub run-enter : (c : List ℕ) (s : S) (n : Node) (ns : List Node) → verdict G c n ≡ 0
+      → run G c s (n ∷ ns) ≡ run G (set c (key n) 1) (G .note n s) (refs n ++ ns)
   run-enter c s n ns e = runs-run (enter e (run-runs _ _ _))
 
   -- ---- what holds at the start, and at every step, holds at the end
@@ -102,7 +115,9 @@ module _ {Node S : Type 0} (G : Graph Node S) where
   Ends I (done c s) = I c s []
   Ends I (refused v k) = Unit {0}
 
-  pub invariant : (I : List ℕ → S → List Node → Type 0) → ((c : List ℕ) (s : S) (n : Node) (ns : List Node) → verdict G c n ≡ 0 → I c s (n ∷ ns) → I (set c (key n) 1) (G .note n s) (refs n ++ ns))
+  pub invariant : (I : List ℕ → S → List Node → Type 0)
+      → ((c : List ℕ) (s : S) (n : Node) (ns : List Node) → verdict G c n ≡ 0 → I c s (n ∷ ns)
+      → I (set c (key n) 1) (G .note n s) (refs n ++ ns))
       → {c : List ℕ} {s : S} {ns : List Node} {r : Outcome S} → Run c s ns r → I c s ns → Ends I r
   invariant I next end i = i
   invariant I next (stop v e) i = tt

@@ -1,5 +1,5 @@
--- The whole walk of the tree: all that holds while it goes on (`Fit`) holds at its end (`whole-fits`), and its outcome is the audit's
--- (`audit-whole`). Assumes nothing.
+-- The whole walk of the tree: all that holds while it goes on (`Fit`) holds at its end (`whole-fits`), and its
+-- outcome is the audit's (`audit-whole`). Assumes nothing.
 use mathlib.Core.Path.{_≡_, refl, sym, ap, _∙_, subst}
 use mathlib.Core.Logic.{_⊎_, inl, inr}
 use mathlib.Core.List.{List, [], _∷_, _++_, nil≢cons}
@@ -24,24 +24,46 @@ module _ {Node S : Type 0} (G : Graph Node S) where
     pub found : Found G c s xs
     pub kept : Kept G c s xs
 
-  pub fit-next : (N : ℕ) (c : List ℕ) (s : List (Item Node)) (p : Item Node) (ps : List (Item Node)) → verdict (unfolded G) c p ≡ 0 → Fit N c s (p ∷ ps) → Fit N (set c (K p) 1) (p ∷ s) (kids p ++ ps)
+  pub fit-next : (N : ℕ) (c : List ℕ) (s : List (Item Node)) (p : Item Node) (ps : List (Item Node))
+      → verdict (unfolded G) c p ≡ 0 → Fit N c s (p ∷ ps) → Fit N (set c (K p) 1) (p ∷ s) (kids p ++ ps)
   fit-next N c s p ps e i =
-      record { size = length-set c (K p) 1 ∙ i .size; total = omega (arith, i .total, free-set c (K p) (passed (unfolded G) c p e .1)); found = found-next G c s p ps e (i .found); kept = kept-next G c s p ps e (i .kept) }
+      record {
+        size = length-set c (K p) 1 ∙ i .size;
+        total = omega (arith, i .total, free-set c (K p) (passed (unfolded G) c p e .1));
+        found = found-next G c s p ps e (i .found);
+        kept = kept-next G c s p ps e (i .kept);
+      }
 
   pub fit-start : (N : ℕ) → Fit N (replicate N 0) [] (start ∷ [])
   fit-start N =
       record {
         size = length-replicate N 0;
         total = omega (arith, free-all N);
-        found = record { rooted = inl (inl refl); closed = λ p q h. absurd h; distinct = tt; good = λ p h. absurd h; marked = λ p h. absurd h };
-        kept = record { todo = todo′; seen = λ p h. absurd h; bytes = λ k h. inl (getD-replicate N k 0 1 (subst (λ x. k < x) (length-replicate N 0) h)); uniq = ((λ h. h), tt); apart = λ p h h′. h′; parent = parent′ };
+        found =
+            record {
+              rooted = inl (inl refl);
+              closed = λ p q h. absurd h;
+              distinct = tt;
+              good = λ p h. absurd h;
+              marked = λ p h. absurd h;
+            };
+        kept =
+            record {
+              todo = todo′;
+              seen = λ p h. absurd h;
+              bytes = λ k h. inl (getD-replicate N k 0 1 (subst (λ x. k < x) (length-replicate N 0) h));
+              uniq = ((λ h. h), tt);
+              apart = λ p h h′. h′;
+              parent = parent′;
+            };
       }
     where
       todo′ : (p : Item Node) → p ∈ (start ∷ []) → InTree G p
       todo′ p (inl h) = top h
       todo′ p (inr h) = absurd h
 
-      parent′ : (p : Item Node) (m : Node) (j : ℕ) (a : List (Node × ℕ)) → (p ∈ (start ∷ [])) ⊎ (p ∈ []) → p .0 ≡ (m, j) ∷ a → ⊥
+      parent′ : (p : Item Node) (m : Node) (j : ℕ) (a : List (Node × ℕ)) → (p ∈ (start ∷ [])) ⊎ (p ∈ [])
+          → p .0 ≡ (m, j) ∷ a → ⊥
       parent′ p m j a (inl (inl h)) e = nil≢cons (ap (λ q. q .0) (sym h) ∙ e)
       parent′ p m j a (inl (inr h)) e = h
       parent′ p m j a (inr h) e = h

@@ -1,5 +1,5 @@
--- The law of a graph, with no walk in it: every reached node passes its tests, and no key is referred to twice. Then what the walk
--- reports when it accepts (`Report`), and what a refusal means (`Why`).
+-- The law of a graph, with no walk in it: every reached node passes its tests, and no key is referred to twice. Then
+-- what the walk reports when it accepts (`Report`), and what a refusal means (`Why`).
 use mathlib.Core.Path.{_≡_}
 use mathlib.Core.Logic.{_≢_, _⊎_}
 use mathlib.Core.List.{List, [], map, foldr}
@@ -26,7 +26,9 @@ module _ {Node : Type 0} (R : References Node) where
 
   -- two references lead to k, or one does and k is the root's key
   abbrev pub Twice : ℕ → Type 0
-  Twice k = (p : Referral k) × ((k ≡ key root) ⊎ ((q : Referral k) × ((key (p .from) ≡ key (q .from)) × (p .nth ≡ q .nth) → ⊥)))
+  Twice k =
+      (p : Referral k) × ((k ≡ key root)
+      ⊎ ((q : Referral k) × ((key (p .from) ≡ key (q .from)) × (p .nth ≡ q .nth) → ⊥)))
 
 -- ---- a graph
 
@@ -37,7 +39,13 @@ module _ {Node S : Type 0} (G : Graph Node S) where
   abbrev pub pruned : Graph Node S
   pruned =
       record {
-        references = record { root = root; key = key; refs = λ n. pick (eqb (first (G .before n) (G .after n)) 0) (refs n) [] };
+        references =
+            record {
+              root = root;
+              key = key;
+              refs = λ n. pick (eqb (first (G .before n) (G .after n)) 0) (refs n)
+                  [];
+            };
         before = G .before;
         taken = G .taken;
         taken-refuses = G .taken-refuses;
@@ -53,10 +61,13 @@ module _ {Node S : Type 0} (G : Graph Node S) where
     pub passes : AllPass
     pub owned : Owned (G .references)
 
-  -- of claims c and counts s, from N keys and counts s₀: c has 1 at the reached keys and 0 elsewhere, and s notes each reached node once
+  -- of claims c and counts s, from N keys and counts s₀: c has 1 at the reached keys and 0 elsewhere, and s notes
+  -- each reached node once
   pub record Report (N : ℕ) (s₀ : S) (c : List ℕ) (s : S) : Type 0 where
     pub size : length c ≡ N
-    pub byte : (k : ℕ) → k < N → ((getD c k 1 ≡ 0) × ((n : Node) → Reached (G .references) n → key n ≢ k)) ⊎ ((getD c k 1 ≡ 1) × ((n : Node) × Reached (G .references) n × (key n ≡ k)))
+    pub byte : (k : ℕ) → k < N
+        → ((getD c k 1 ≡ 0) × ((n : Node) → Reached (G .references) n → key n ≢ k))
+        ⊎ ((getD c k 1 ≡ 1) × ((n : Node) × Reached (G .references) n × (key n ≡ k)))
     -- the reached nodes, no key twice
     pub nodes : List Node
     pub all : (n : Node) → Reached (G .references) n → n ∈ nodes
@@ -65,7 +76,8 @@ module _ {Node S : Type 0} (G : Graph Node S) where
     pub noted : s ≡ foldr (G .note) s₀ nodes
     pub used : free c + length nodes ≡ N
 
-  -- what the refusal v at k says: a reached node with that key fails with v a test of its own, or k is referred to twice
+  -- what the refusal v at k says: a reached node with that key fails with v a test of its own, or k is referred to
+  -- twice
   pub record Why (v k : ℕ) : Type 0 where
     pub node : Node
     pub reached : Reached (G .references) node

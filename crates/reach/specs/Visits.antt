@@ -1,5 +1,5 @@
--- The order of the walk, with no fuel, no claims and no counts: what is seen and what is to do, from the root on (`Visits`), and the
--- first node that fails (`Stops`).
+-- The order of the walk, with no fuel, no claims and no counts: what is seen and what is to do, from the root on
+-- (`Visits`), and the first node that fails (`Stops`).
 use mathlib.Core.Path.{_≡_}
 use mathlib.Core.Logic.{_≢_}
 use mathlib.Core.List.{List, [], _∷_, _++_, map}
@@ -23,7 +23,8 @@ module _ {Node S : Type 0} (G : Graph Node S) where
   pub data Visits : List Node → List Node → Type 0 where
     start : Visits [] (root ∷ [])
     -- the next node passes: what it refers to comes before the rest
-    step : {seen todo : List Node} {n : Node} → Visits seen (n ∷ todo) → Judged seen n 0 → Visits (n ∷ seen) (refs n ++ todo)
+    step : {seen todo : List Node} {n : Node} → Visits seen (n ∷ todo) → Judged seen n 0
+        → Visits (n ∷ seen) (refs n ++ todo)
 
   -- the walk comes to a node that fails with v, which is not 0, and has the key k
   pub record Stops (v k : ℕ) : Type 0 where

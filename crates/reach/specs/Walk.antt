@@ -1,4 +1,5 @@
--- The walk: it goes through a graph of references depth first, tests each node, claims its key, and stops at the first refusal.
+-- The walk: it goes through a graph of references depth first, tests each node, claims its key, and stops at the
+-- first refusal.
 use mathlib.Core.List.{List, [], _∷_, _++_}
 use Prim.Native.Nat.{ℕ, zero, suc, _<_}
 use lib.ListN.{getD, set, replicate}
@@ -49,7 +50,12 @@ module _ {Node S : Type 0} (G : Graph Node S) where
   unfoldable pub walk : ℕ → List ℕ → S → List Node → Outcome S
   walk zero c s ns = refused 0 0
   walk (suc f) c s [] = done c s
-  walk (suc f) c s (n ∷ ns) = elim (verdict c n) [ zero ↦ walk f (set c (key n) 1) (G .note n s) (refs n ++ ns) | suc v ↦ refused (suc v) (key n) ]
+  walk (suc f) c s (n ∷ ns) =
+      elim (verdict c n) [
+        | zero ↦ walk f (set c (key n) 1) (G .note n s) (refs n ++ ns)
+        | suc v ↦ refused (suc v)
+            (key n)
+      ]
 
   -- each step claims a byte that was 0, so this fuel is never spent
   unfoldable pub run : List ℕ → S → List Node → Outcome S

@@ -1,4 +1,5 @@
--- What it says that a read gives bytes: how many, of which file, and what the output holds (`read-exactly`, `read-output`). Assumes nothing.
+-- What it says that a read gives bytes: how many, of which file, and what the output holds (`read-exactly`,
+-- `read-output`). Assumes nothing.
 use Prim.Native.Nat.{ℕ, _+_, _-_, _≤_, _<_, min}
 use mathlib.Core.Path.{_≡_, refl, sym, ap, _∙_}
 use mathlib.Core.Logic.{_↔_}
@@ -52,7 +53,8 @@ module _ (bytes : List ℕ) (o : ℕ) (before : List ℕ) (m : ℕ) (after : Lis
   behind i h =
       let e : length p + (i - m) ≡ i = omega (arith, c .count) in
       let f : m + (i - m) ≡ i = omega arith in
-      rw parts (ap (λ (j : ℕ). getD (p ++ drop m before) j 0) (sym e) ∙ getD-append-add p (drop m before) (i - m) 0 ∙ getD-drop m before (i - m) 0 ∙ ap (λ (j : ℕ). getD before j 0) f)
+      rw parts (ap (λ (j : ℕ). getD (p ++ drop m before) j 0) (sym e) ∙ getD-append-add p (drop m before) (i - m) 0
+      ∙ getD-drop m before (i - m) 0 ∙ ap (λ (j : ℕ). getD before j 0) f)
 
   pub copied-filled : Filled bytes o before m after
   copied-filled =
@@ -99,7 +101,17 @@ module _ (d : Disk) (s path : List ℕ) where
       there (found.File k z c) e q = go (blocksFault d s k) refl q
         where
           go : (t : Tested) → blocksFault d s k ≡ t → tested d s k o n t ≡ Bytes m → Gives d s path o n m
-          go Passed p q = let x : m ≡ length (part (fileBytes d s k) o n) = cc in record { key = k; size = z; compared = c; found = e; whole = tested-exactly d s k .0 p; count = x ∙ count-found k z c e p o n }
+          go Passed p q =
+              let x : m ≡ length (part (fileBytes d s k) o n) = cc in
+              record {
+                key = k;
+                size = z;
+                compared = c;
+                found = e;
+                whole = tested-exactly d s k .0 p;
+                count = x
+                    ∙ count-found k z c e p o n;
+              }
           go (Failed r) p q = impossible cc
 
       back : Gives d s path o n m → readOf d s path o n ≡ Bytes m
@@ -110,11 +122,13 @@ module _ (d : Disk) (s path : List ℕ) where
   -- ---- the output
 
   -- It holds the file's bytes from the offset on, and after them what it held.
-  pub read-output : (o m k z c : ℕ) (output output′ : List ℕ) → Reads d s path o output (Bytes m) output′ → findOf d s path ≡ found.File k z c → Filled (fileBytes d s k) o output m output′
+  pub read-output : (o m k z c : ℕ) (output output′ : List ℕ) → Reads d s path o output (Bytes m) output′
+      → findOf d s path ≡ found.File k z c → Filled (fileBytes d s k) o output m output′
   read-output o m k z c output output′ r e =
       let g = read-exactly o (length output) m .0 (sym (r .answer)) in
       let a : g .key ≡ k = cc in
       let b : g .size ≡ z = cc in
       let p : blocksFault d s k ≡ Passed = rw a at (tested-exactly d s (g .key) .1 (g .whole)) in
-      let l : m ≡ length (part (fileBytes d s k) o (length output)) = g .count ∙ rw b (sym (count-found k z c e p o (length output))) in
+      let l : m ≡ length (part (fileBytes d s k) o (length output)) =
+      g .count ∙ rw b (sym (count-found k z c e p o (length output))) in
       copied-filled (fileBytes d s k) o output m output′ (record { count = l; output = rw e at (r .left) })

@@ -16,7 +16,8 @@ use Rattle.lookup.proofs.AsNumbers as lookup
 use Rattle.reading.specs.declared.read.Reading.{Reading}
 use Rattle.reading.specs.declared.read.Reading.the-variants.{Bytes, Refused}
 use Rattle.reading.specs.Reads.{numbersOf, readRefusals, refuse, readOf, Reads}
-use Rattle.reading.specs.Outcomes.{data-key, data-itself, list-key, list-itself, at-data, at-list, Refuses, of-lookup, of-directory, of-header, of-block}
+use Rattle.reading.specs.Outcomes.{data-key, data-itself, list-key, list-itself, at-data, at-list, Refuses}
+use Rattle.reading.specs.Outcomes.{of-lookup, of-directory, of-header, of-block}
 use Rattle.reading.proofs.Refusing.{refused-exactly}
 
 module _ (d : Disk) (s path : List ℕ) (o n v k : ℕ) where
@@ -29,11 +30,13 @@ module _ (d : Disk) (s path : List ℕ) (o n v k : ℕ) where
       go (of-directory t c f a b) = rw a (listed readRefusals fault.wrongKind tt)
       go (of-header z c f b) = in-part headerRefusals readRefusals v tt (header-number b)
       go (of-block h z c f g (at-data i x a y (data-key q w))) = rw w (listed readRefusals fault.badKey tt)
-      go (of-block h z c f g (at-data i x a y (data-itself q b))) = in-part dataRefusals readRefusals v tt (data-number b)
+      go (of-block h z c f g (at-data i x a y (data-itself q b))) =
+          in-part dataRefusals readRefusals v tt (data-number b)
       go (of-block h z c f g (at-list j a y (list-key q w))) = rw w (listed readRefusals fault.badKey tt)
       go (of-block h z c f g (at-list j a y (list-itself q b))) = in-part listRefusals readRefusals v tt (list-number b)
 
-module _ (d : Disk) (s path : List ℕ) (o : ℕ) (output : List ℕ) (r : Reading) (output′ : List ℕ) (a : Reads d s path o output r output′) where
+module _ (d : Disk) (s path : List ℕ) (o : ℕ) (output : List ℕ) (r : Reading) (output′ : List ℕ)
+    (a : Reads d s path o output r output′) where
   pub number-listed : (x : Refusal) → r ≡ Refused x → numbersOf r .number ∈ readRefusals
   number-listed x e = rw e (refused-number d s path o (length output) (x .number) (x .place) (sym (a .answer) ∙ e))
 
@@ -41,6 +44,7 @@ module _ (d : Disk) (s path : List ℕ) (o : ℕ) (output : List ℕ) (r : Readi
   pub zero-exactly : (numbersOf r .number ≡ 0) ↔ ((n : ℕ) × (r ≡ Bytes n))
   zero-exactly = go r number-listed
     where
-      go : (r : Reading) → ((x : Refusal) → r ≡ Refused x → numbersOf r .number ∈ readRefusals) → (numbersOf r .number ≡ 0) ↔ ((n : ℕ) × (r ≡ Bytes n))
+      go : (r : Reading) → ((x : Refusal) → r ≡ Refused x → numbersOf r .number ∈ readRefusals)
+          → (numbersOf r .number ≡ 0) ↔ ((n : ℕ) × (r ≡ Bytes n))
       go (Bytes n) h = (λ z. (n, refl), λ q. refl)
       go (Refused x) h = (λ z. unlisted readRefusals (x .number) 0 tt (h x refl) z, λ q. impossible cc)

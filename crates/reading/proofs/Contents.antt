@@ -49,15 +49,22 @@ module _ (d : Disk) (s : List ℕ) (long : length s ≡ imageBytes d) where
   unfolding dataIn
   all-long [] f = sym (zero-mul (dataBytes d))
   all-long (k ∷ ks) f =
-      rw (length-append (dataOf d s k) (dataIn d s ks), data-long k (f k (inl refl)), all-long ks (λ j m. f j (inr m)), suc-mul (length ks) (dataBytes d))
+      rw (
+        length-append (dataOf d s k) (dataIn d s ks),
+        data-long k (f k (inl refl)),
+        all-long ks (λ j m. f j (inr m)),
+        suc-mul (length ks) (dataBytes d),
+      )
       (omega arith)
 
-  pub all-drop : (i : ℕ) (ks : List ℕ) → ((k : ℕ) → k ∈ ks → k < d .blocks) → drop (i * dataBytes d) (dataIn d s ks) ≡ dataIn d s (drop i ks)
+  pub all-drop : (i : ℕ) (ks : List ℕ) → ((k : ℕ) → k ∈ ks → k < d .blocks)
+      → drop (i * dataBytes d) (dataIn d s ks) ≡ dataIn d s (drop i ks)
   unfolding dataIn
   all-drop zero ks f = rw (zero-mul (dataBytes d)) refl
   all-drop (suc i) [] f = drop-nil (suc i * dataBytes d)
   all-drop (suc i) (k ∷ ks) f =
-      let e : suc i * dataBytes d ≡ length (dataOf d s k) + i * dataBytes d = suc-mul i (dataBytes d) ∙ add-comm _ _ ∙ rw (data-long k (f k (inl refl))) refl in
+      let e : suc i * dataBytes d ≡ length (dataOf d s k) + i * dataBytes d =
+      suc-mul i (dataBytes d) ∙ add-comm _ _ ∙ rw (data-long k (f k (inl refl))) refl in
       rw e (drop-append-add (dataOf d s k) (dataIn d s ks) (i * dataBytes d) ∙ all-drop i ks (λ j m. f j (inr m)))
 
 -- ---- the bytes of a file that was tested
@@ -66,7 +73,11 @@ module _ (d : Disk) (s : List ℕ) (h : ℕ) (long : length s ≡ imageBytes d) 
   pub file-long : length (fileBytes d s h) ≡ sizeOf s h
   unfolding fileBytes
   file-long =
-      rw (length-take (sizeOf s h) (dataIn d s (keysOf d s h)), all-long d s long (keysOf d s h) (t .keys), keys-long d s h)
+      rw (
+        length-take (sizeOf s h) (dataIn d s (keysOf d s h)),
+        all-long d s long (keysOf d s h) (t .keys),
+        keys-long d s h,
+      )
       (omega (arith, blocks-hold d (sizeOf s h)))
 
   -- how many of them a read copies
@@ -75,14 +86,21 @@ module _ (d : Disk) (s : List ℕ) (h : ℕ) (long : length s ≡ imageBytes d) 
   part-long o n = rw (length-take n (drop o (fileBytes d s h)), length-drop o (fileBytes d s h), file-long) refl
 
   -- and where they begin
-  pub part-there : (o n : ℕ) → part (fileBytes d s h) o n ≡ take (min n (sizeOf s h - o)) (drop (o % dataBytes d) (dataIn d s (drop (o / dataBytes d) (keysOf d s h))))
+  pub part-there : (o n : ℕ)
+      → part (fileBytes d s h) o n ≡ take (min n (sizeOf s h - o))
+      (drop (o % dataBytes d) (dataIn d s (drop (o / dataBytes d) (keysOf d s h))))
   unfolding part fileBytes
   part-there o n =
-      let e : drop o (dataIn d s (keysOf d s h)) ≡ drop (o % dataBytes d) (dataIn d s (drop (o / dataBytes d) (keysOf d s h))) =
+      let e : drop o (dataIn d s (keysOf d s h)) ≡ drop (o % dataBytes d)
+      (dataIn d s (drop (o / dataBytes d) (keysOf d s h))) =
       ap (λ (k : ℕ). drop k (dataIn d s (keysOf d s h))) (sym (div-add-mod' o (dataBytes d)))
       ∙ sym (drop-drop (o % dataBytes d) (o / dataBytes d * dataBytes d) (dataIn d s (keysOf d s h)))
       ∙ ap (drop (o % dataBytes d)) (all-drop d s long (o / dataBytes d) (keysOf d s h) (t .keys)) in
-      rw (drop-take o (sizeOf s h) (dataIn d s (keysOf d s h)), take-least n (sizeOf s h - o) (drop o (dataIn d s (keysOf d s h))), e) refl
+      rw (
+        drop-take o (sizeOf s h) (dataIn d s (keysOf d s h)),
+        take-least n (sizeOf s h - o) (drop o (dataIn d s (keysOf d s h))),
+        e,
+      ) refl
 
   -- ---- w4 leads through its keys
 
@@ -92,8 +110,10 @@ module _ (d : Disk) (s : List ℕ) (h : ℕ) (long : length s ≡ imageBytes d) 
   pub key-first : wordOf s h 4 ≡ getD (keysOf d s h) 0 0
   key-first = leads-first (λ k. wordOf s k 4) (wordOf s h 4) (keysOf d s h) (t .following)
 
-  pub key-next : (i : ℕ) → i < length (keysOf d s h) → wordOf s (getD (keysOf d s h) i 0) 4 ≡ getD (keysOf d s h) (suc i) 0
+  pub key-next : (i : ℕ) → i < length (keysOf d s h)
+      → wordOf s (getD (keysOf d s h) i 0) 4 ≡ getD (keysOf d s h) (suc i) 0
   key-next i l = leads-next (λ k. wordOf s k 4) (wordOf s h 4) (keysOf d s h) i (t .following) l
 
   pub block-there : (o : ℕ) → o < sizeOf s h → o / dataBytes d < length (keysOf d s h)
-  block-there o l = rw (keys-long d s h) (div-lt-iff-lt-mul (data-some d) .1 (omega (arith, blocks-hold d (sizeOf s h))))
+  block-there o l =
+      rw (keys-long d s h) (div-lt-iff-lt-mul (data-some d) .1 (omega (arith, blocks-hold d (sizeOf s h))))

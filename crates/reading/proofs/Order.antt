@@ -1,5 +1,5 @@
--- Where the blocks of a file stand in the order of its tests: data block i after i others and a list block for each 72 of these, list block j after
--- 72 data blocks for each list block up to it and j list blocks. Assumes nothing.
+-- Where the blocks of a file stand in the order of its tests: data block i after i others and a list block for each
+-- 72 of these, list block j after 72 data blocks for each list block up to it and j list blocks. Assumes nothing.
 use Prim.Native.Nat.{ℕ, zero, suc, _+_, _-_, _*_, _/_, _%_, _≤_, _<_}
 use mathlib.Core.Path.{_≡_, refl, ap, _∙_}
 use mathlib.Core.List.{List, [], _∷_, _++_}
@@ -21,11 +21,13 @@ use Rattle.volume.specs.Breaks.{IsData}
 
 module _ (s : List ℕ) (h b : ℕ) where
   module _ (m c : ℕ) where
-    nodes-at : (n i j : ℕ) → j < n → At j (datum (keyWord s b (i + j)) h (suc (m + (i + j))) (before s b c (i + j))) (keyNodes s h b m c i n)
+    nodes-at : (n i j : ℕ) → j < n
+        → At j (datum (keyWord s b (i + j)) h (suc (m + (i + j))) (before s b c (i + j))) (keyNodes s h b m c i n)
     unfolding keyNodes
     nodes-at zero i j l = absurd (omega arith)
     nodes-at (suc n) i zero l = let e : i + 0 ≡ i = omega arith in rw e refl
-    nodes-at (suc n) i (suc j) l = let e : i + suc j ≡ suc i + j = omega arith in rw e (nodes-at n (suc i) j (omega arith))
+    nodes-at (suc n) i (suc j) l =
+        let e : i + suc j ≡ suc i + j = omega arith in rw e (nodes-at n (suc i) j (omega arith))
 
     nodes-long : (n i : ℕ) → length (keyNodes s h b m c i n) ≡ n
     unfolding keyNodes
@@ -35,7 +37,9 @@ module _ (s : List ℕ) (h b : ℕ) where
   -- n keys, and others after them
   module _ (n : ℕ) (rest : List ℕ) where
     key-is : (i k : ℕ) → i < n → At i k (keysDown s b 0 n ++ rest) → k ≡ keyWord s b i
-    key-is i k l a = at-one i (keysDown s b 0 n ++ rest) a (at-left _ i (keysDown s b 0 n) rest (down-at s b 0 n i i (omega arith) l))
+    key-is i k l a =
+        at-one i (keysDown s b 0 n ++ rest) a
+        (at-left _ i (keysDown s b 0 n) rest (down-at s b 0 n i i (omega arith) l))
 
     before-is : (c i e : ℕ) → i ≤ n → At i e (c ∷ (keysDown s b 0 n ++ rest)) → e ≡ before s b c i
     before-is c zero e l a = a
@@ -49,52 +53,76 @@ module _ (s : List ℕ) (h b : ℕ) where
     before-after c zero e a = let z : n + 0 ≡ n = omega arith in before-is c n e (omega arith) (rw z at a)
     before-after c (suc i) e a = let z : n + suc i ≡ suc (n + i) = omega arith in key-after i e (rw z at a)
 
-    first-at : (m c i k e : ℕ) → i < n → At i k (keysDown s b 0 n ++ rest) → At i e (c ∷ (keysDown s b 0 n ++ rest)) → At i (datum k h (suc (m + i)) e) (keyNodes s h b m c 0 n)
-    first-at m c i k e l p q = let z : 0 + i ≡ i = omega arith in rw (key-is i k l p, before-is c i e (omega arith) q) (rw z at (nodes-at m c n 0 i l))
+    first-at : (m c i k e : ℕ) → i < n → At i k (keysDown s b 0 n ++ rest) → At i e (c ∷ (keysDown s b 0 n ++ rest))
+        → At i (datum k h (suc (m + i)) e) (keyNodes s h b m c 0 n)
+    first-at m c i k e l p q =
+        let z : 0 + i ≡ i = omega arith in
+        rw (key-is i k l p, before-is c i e (omega arith) q) (rw z at (nodes-at m c n 0 i l))
 
--- ---- all blocks of a file, from block b on: m data blocks come before, c the last of them, r keys are to come and q list blocks
+-- ---- all blocks of a file, from block b on
+
+-- m data blocks come before, c the last of them; r keys are to come, and q list blocks
 
 module _ (d : Disk) (s : List ℕ) (h : ℕ) where
   abbrev here : ℕ → ℕ
   here m = keysHere (blocksOf d s h - m)
 
-  data-node : (q b m c r : ℕ) → r ≡ blocksOf d s h - m → q ≡ listBlocks r → (i k e : ℕ) → At i k (keysFrom s r (b ∷ listsFrom s b q)) → At i e (c ∷ keysFrom s r (b ∷ listsFrom s b q)) → At (i + i / slots) (datum k h (suc (m + i)) e) (blocksFrom d s h b m c q)
+  data-node : (q b m c r : ℕ) → r ≡ blocksOf d s h - m → q ≡ listBlocks r → (i k e : ℕ)
+      → At i k (keysFrom s r (b ∷ listsFrom s b q)) → At i e (c ∷ keysFrom s r (b ∷ listsFrom s b q))
+      → At (i + i / slots) (datum k h (suc (m + i)) e) (blocksFrom d s h b m c q)
   unfolding blocksFrom keysFrom listsFrom
   data-node zero b m c r x y i k e p g =
-      let l = rw (length-append (keysDown s b 0 (keysHere r)) [], down-long s b 0 (keysHere r)) at (at-below k i (keysDown s b 0 (keysHere r) ++ []) p) in
+      let l =
+      rw (length-append (keysDown s b 0 (keysHere r)) [], down-long s b 0 (keysHere r)) at
+      (at-below k i (keysDown s b 0 (keysHere r) ++ []) p) in
       let u : i < keysHere r = omega (arith, l) in
       let z : i + i / slots ≡ i = omega arith in
       rw (z, ← x) (first-at s h b (keysHere r) [] m c i k e u p g)
-  data-node (suc q) b m c r x y i k e p g = go (decLt i slots) (data-node q (wordOf s b 126) (m + slots) (keyWord s b 71) (r - slots) (omega (arith, x)) (omega (arith, y)))
+  data-node (suc q) b m c r x y i k e p g =
+      go (decLt i slots) (data-node q (wordOf s b 126) (m + slots) (keyWord s b 71) (r - slots) (omega (arith, x))
+      (omega (arith, y)))
     where
       more : List ℕ
       more = keysFrom s (r - slots) (wordOf s b 126 ∷ listsFrom s (wordOf s b 126) q)
 
       next : List Node
-      next = list (wordOf s b 126) h (m + slots) (keyWord s b 71) ∷ blocksFrom d s h (wordOf s b 126) (m + slots) (keyWord s b 71) q
+      next =
+          list (wordOf s b 126) h (m + slots) (keyWord s b 71) ∷ blocksFrom d s h (wordOf s b 126) (m + slots)
+          (keyWord s b 71) q
 
       full : keysHere r ≡ slots
       full = omega (arith, y)
 
-      go : Dec (i < slots) → ((i k e : ℕ) → At i k more → At i e (keyWord s b 71 ∷ more) → At (i + i / slots) (datum k h (suc (m + slots + i)) e) (blocksFrom d s h (wordOf s b 126) (m + slots) (keyWord s b 71) q)) → At (i + i / slots) (datum k h (suc (m + i)) e) (keyNodes s h b m c 0 (here m) ++ next)
+      go : Dec (i < slots)
+          → ((i k e : ℕ) → At i k more → At i e (keyWord s b 71 ∷ more)
+          → At (i + i / slots) (datum k h (suc (m + slots + i)) e)
+          (blocksFrom d s h (wordOf s b 126) (m + slots) (keyWord s b 71) q))
+          → At (i + i / slots) (datum k h (suc (m + i)) e) (keyNodes s h b m c 0 (here m) ++ next)
       go (yes l) ih =
           let z : i + i / slots ≡ i = omega arith in
-          rw (z, ← x) (at-left _ i (keyNodes s h b m c 0 (keysHere r)) next (first-at s h b (keysHere r) more m c i k e (omega (arith, full)) p g))
+          rw (z, ← x) (at-left _ i (keyNodes s h b m c 0 (keysHere r)) next
+          (first-at s h b (keysHere r) more m c i k e (omega (arith, full)) p g))
       go (no l) ih =
           let v : slots + (i - slots) ≡ i = omega arith in
           let p′ = key-after s h b slots more (i - slots) k (rw (full, ← v) at p) in
           let g′ = before-after s h b slots more c (i - slots) e (rw (full, ← v) at g) in
           let w : m + slots + (i - slots) ≡ m + i = omega arith in
           let n : i + i / slots ≡ slots + suc (i - slots + (i - slots) / slots) = omega arith in
-          rw (← x) (at-right _ _ (suc (i - slots + (i - slots) / slots)) (keyNodes s h b m c 0 (keysHere r)) next (rw (nodes-long s h b m c (keysHere r) 0, full) n) (rw w at (ih (i - slots) k e p′ g′)))
+          rw (← x) (at-right _ _ (suc (i - slots + (i - slots) / slots)) (keyNodes s h b m c 0 (keysHere r)) next
+          (rw (nodes-long s h b m c (keysHere r) 0, full) n) (rw w at (ih (i - slots) k e p′ g′)))
 
-  list-node : (q b m c r : ℕ) → r ≡ blocksOf d s h - m → q ≡ listBlocks r → (j k : ℕ) → At j k (listsFrom s b q) → (e : ℕ) × At (slots * suc j + j) (list k h (m + slots * suc j) e) (blocksFrom d s h b m c q)
+  list-node : (q b m c r : ℕ) → r ≡ blocksOf d s h - m → q ≡ listBlocks r → (j k : ℕ) → At j k (listsFrom s b q)
+      → (e : ℕ) × At (slots * suc j + j) (list k h (m + slots * suc j) e) (blocksFrom d s h b m c q)
   unfolding blocksFrom listsFrom
   list-node zero b m c r x y j k p = absurd p
-  list-node (suc q) b m c r x y j k p = go j p (list-node q (wordOf s b 126) (m + slots) (keyWord s b 71) (r - slots) (omega (arith, x)) (omega (arith, y)))
+  list-node (suc q) b m c r x y j k p =
+      go j p (list-node q (wordOf s b 126) (m + slots) (keyWord s b 71) (r - slots) (omega (arith, x))
+      (omega (arith, y)))
     where
       next : List Node
-      next = list (wordOf s b 126) h (m + slots) (keyWord s b 71) ∷ blocksFrom d s h (wordOf s b 126) (m + slots) (keyWord s b 71) q
+      next =
+          list (wordOf s b 126) h (m + slots) (keyWord s b 71) ∷ blocksFrom d s h (wordOf s b 126) (m + slots)
+          (keyWord s b 71) q
 
       nodes : List Node
       nodes = keyNodes s h b m c 0 (here m)
@@ -102,7 +130,11 @@ module _ (d : Disk) (s : List ℕ) (h : ℕ) where
       long : length nodes ≡ slots
       long = nodes-long s h b m c (here m) 0 ∙ omega (arith, x, y)
 
-      go : (j : ℕ) → At j k (wordOf s b 126 ∷ listsFrom s (wordOf s b 126) q) → ((j k : ℕ) → At j k (listsFrom s (wordOf s b 126) q) → (e : ℕ) × At (slots * suc j + j) (list k h (m + slots + slots * suc j) e) (blocksFrom d s h (wordOf s b 126) (m + slots) (keyWord s b 71) q)) → (e : ℕ) × At (slots * suc j + j) (list k h (m + slots * suc j) e) (nodes ++ next)
+      go : (j : ℕ) → At j k (wordOf s b 126 ∷ listsFrom s (wordOf s b 126) q)
+          → ((j k : ℕ) → At j k (listsFrom s (wordOf s b 126) q) → (e : ℕ)
+          × At (slots * suc j + j) (list k h (m + slots + slots * suc j) e)
+          (blocksFrom d s h (wordOf s b 126) (m + slots) (keyWord s b 71) q))
+          → (e : ℕ) × At (slots * suc j + j) (list k h (m + slots * suc j) e) (nodes ++ next)
       go zero a ih =
           let w : m + slots * suc 0 ≡ m + slots = omega arith in
           (keyWord s b 71, at-right _ _ 0 nodes next (omega (arith, long)) (rw (a, w) refl))
@@ -115,7 +147,9 @@ module _ (d : Disk) (s : List ℕ) (h : ℕ) where
   unfolding blocksFrom
   nodes-count zero b m c r x y = nodes-long s h b m c (here m) 0 ∙ omega (arith, x, y)
   nodes-count (suc q) b m c r x y =
-      let e = nodes-count q (wordOf s b 126) (m + slots) (keyWord s b 71) (r - slots) (omega (arith, x)) (omega (arith, y)) in
+      let e =
+      nodes-count q (wordOf s b 126) (m + slots) (keyWord s b 71) (r - slots) (omega (arith, x))
+      (omega (arith, y)) in
       let n = nodes-long s h b m c (here m) 0 in
       length-append (keyNodes s h b m c 0 (here m)) _ ∙ omega (arith, e, n, x, y)
 
@@ -130,7 +164,8 @@ module _ (d : Disk) (s : List ℕ) (h : ℕ) where
       let z : 0 + i ≡ i = omega arith in
       rw z at (data-node (listBlocks (blocksOf d s h)) h 0 h (blocksOf d s h) all refl i k c (p .here) (p .before))
 
-  pub list-position : (j k : ℕ) → At j k (listsOf d s h) → (c : ℕ) × At (slots * suc j + j) (list k h (slots * suc j) c) (fileNodes d s h)
+  pub list-position : (j k : ℕ) → At j k (listsOf d s h)
+      → (c : ℕ) × At (slots * suc j + j) (list k h (slots * suc j) c) (fileNodes d s h)
   list-position j k p =
       let z : 0 + slots * suc j ≡ slots * suc j = omega arith in
       rw z at (list-node (listBlocks (blocksOf d s h)) h 0 h (blocksOf d s h) all refl j k p)
@@ -144,7 +179,9 @@ module _ (d : Disk) (s : List ℕ) (h : ℕ) where
   stands t x a = go (decLt (t % suc slots) slots)
     where
       few : t < blocksOf d s h + listBlocks (blocksOf d s h)
-      few = rw (nodes-count (listBlocks (blocksOf d s h)) h 0 h (blocksOf d s h) all refl) at (at-below x t (fileNodes d s h) a)
+      few =
+          rw (nodes-count (listBlocks (blocksOf d s h)) h 0 h (blocksOf d s h) all refl) at
+          (at-below x t (fileNodes d s h) a)
 
       go : Dec (t % suc slots < slots) → Stands t x
       go (yes l) =

@@ -8,7 +8,8 @@ use native.Mathlib.Omega.{arith}
 use native.Mathlib.Numerals.{add-one}
 use native.Mathlib.Decide.{decLe}
 use lib.ListN.{length, getD, take, drop, set, length-take, length-drop}
-use lib.Seq.{paste, paste-suc, take-nil, take-all, take-take, take-add, take-at, drop-at, drop-drop, length-take-le, getD-drop, drop-append-le, take-append-le}
+use lib.Seq.{paste, paste-suc, take-nil, take-all, take-take, take-add, take-at, drop-at, drop-drop, length-take-le}
+use lib.Seq.{getD-drop, drop-append-le, take-append-le}
 use Rattle.reach.specs.References.{_∈_}
 
 module _ {A : Type 0} where
@@ -33,17 +34,21 @@ module _ {A : Type 0} where
 -- ---- a list filled from its front on
 
 -- the part p is longer by n in the output: what was copied is what p has there
-module _ (p before output more : List ℕ) (done n : ℕ) (e : output ≡ take done p ++ drop done before) (m : take n more ≡ take n (drop done p)) (h : done + n ≤ length p) where
+module _ (p before output more : List ℕ) (done n : ℕ) (e : output ≡ take done p ++ drop done before)
+    (m : take n more ≡ take n (drop done p)) (h : done + n ≤ length p) where
   pub filled-more : paste output done more n ≡ take (done + n) p ++ drop (done + n) before
   filled-more =
       let l : length (take done p) ≡ done = length-take-le done p (omega arith) in
       let a : take done output ≡ take done p = rw e (take-at (take done p) (drop done before) done l) in
-      let b : drop (done + n) output ≡ drop (done + n) before = sym (drop-drop n done output) ∙ rw e (rw (drop-at (take done p) (drop done before) done l) (drop-drop n done before)) in
+      let b : drop (done + n) output ≡ drop (done + n) before =
+      sym (drop-drop n done output)
+      ∙ rw e (rw (drop-at (take done p) (drop done before) done l) (drop-drop n done before)) in
       rw (a, b, m, take-add done n p) refl
 
 -- ---- c elements of y ++ x from position i on: the first n of them end with y, or they are all
 
-module _ (l y x : List ℕ) (i c n : ℕ) (e : l ≡ take c (drop i (y ++ x))) (h : i ≤ length y) (m : n ≡ min (length y - i) c) where
+module _ (l y x : List ℕ) (i c n : ℕ) (e : l ≡ take c (drop i (y ++ x))) (h : i ≤ length y)
+    (m : n ≡ min (length y - i) c) where
   pub turn-front : take n l ≡ take n (drop i y)
   turn-front =
       let a : n ≤ length (drop i y) = rw (length-drop i y) (omega arith) in
@@ -59,7 +64,8 @@ module _ (l y x : List ℕ) (i c n : ℕ) (e : l ≡ take c (drop i (y ++ x))) (
 
 -- ---- one store of a copy
 
-pub copied-one : (d s r : List ℕ) (at from n i : ℕ) → r ≡ paste d at (drop from s) i → i < n → from + n ≤ length s → at + n ≤ length d → set r (at + i) (getD s (from + i) 0) ≡ paste d at (drop from s) (i + 1)
+pub copied-one : (d s r : List ℕ) (at from n i : ℕ) → r ≡ paste d at (drop from s) i → i < n → from + n ≤ length s
+    → at + n ≤ length d → set r (at + i) (getD s (from + i) 0) ≡ paste d at (drop from s) (i + 1)
 copied-one d s r at from n i e p l g =
     let h : at + i < length d = omega arith in
     let j : i < length (drop from s) = rw (length-drop from s) (omega arith) in
@@ -72,7 +78,8 @@ module _ (f : ℕ → ℕ) where
   leads-first a [] e = cc
   leads-first a (x ∷ l) e = cc
 
-  pub leads-next : (a : ℕ) (l : List ℕ) (i : ℕ) → (a ∷ map f l) ≡ l ++ (0 ∷ []) → i < length l → f (getD l i 0) ≡ getD l (suc i) 0
+  pub leads-next : (a : ℕ) (l : List ℕ) (i : ℕ) → (a ∷ map f l) ≡ l ++ (0 ∷ []) → i < length l
+      → f (getD l i 0) ≡ getD l (suc i) 0
   leads-next a [] i e h = absurd (omega arith)
   leads-next a (x ∷ l) zero e h = leads-first (f x) l (cc)
   leads-next a (x ∷ l) (suc i) e h = leads-next (f x) l i (cc) (omega arith)

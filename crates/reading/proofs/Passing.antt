@@ -1,5 +1,5 @@
--- A file that is as the law says, its blocks in range with sum 0, passes its tests (`passes-tested`), and no other does (`tested-exactly`).
--- Assumes nothing.
+-- A file that is as the law says, its blocks in range with sum 0, passes its tests (`passes-tested`), and no other
+-- does (`tested-exactly`). Assumes nothing.
 use Prim.Native.Nat.{ℕ, zero, suc, _+_, _-_}
 use mathlib.Core.Path.{_≡_, refl, sym, ap, subst}
 use mathlib.Core.Logic.{_⊎_, inl, inr, _↔_}
@@ -39,11 +39,15 @@ module _ (d : Disk) (s : List ℕ) where
 
     datum-passes : (k n c : ℕ) → Intact d s k → Follows d s h n c k → nodeFault d s (datum k h n c) ≡ 0
     unfolding faultOf
-    datum-passes k n c i f = key-passes d k (i .inside .low, i .inside .high) & data-passes d s k h n (wordOf s c 4) (i .sum, f .0, (f .1, f .2))
+    datum-passes k n c i f =
+        key-passes d k (i .inside .low, i .inside .high) & data-passes d s k h n (wordOf s c 4)
+        (i .sum, f .0, (f .1, f .2))
 
-    list-there : (k m c : ℕ) → Intact d s k → ListBlock s h k → KeyCount s k (blocksOf d s h - m) → nodeFault d s (list k h m c) ≡ 0
+    list-there : (k m c : ℕ) → Intact d s k → ListBlock s h k → KeyCount s k (blocksOf d s h - m)
+        → nodeFault d s (list k h m c) ≡ 0
     unfolding faultOf
-    list-there k m c i f l = key-passes d k (i .inside .low, i .inside .high) & list-passes s k h (blocksOf d s h - m) (i .sum, f, l)
+    list-there k m c i f l =
+        key-passes d k (i .inside .low, i .inside .high) & list-passes s k h (blocksOf d s h - m) (i .sum, f, l)
 
     -- ---- the data blocks of one block
 
@@ -53,11 +57,14 @@ module _ (d : Disk) (s : List ℕ) where
     key-down b m c i (suc n) x (inl e) = inl (ap (keyOf d) e)
     key-down b m c i (suc n) x (inr a) = inr (key-down b m c (suc i) n x a)
 
-    keys-pass : (b m c : ℕ) → Run d s h m c (keysDown s b 0 (here d s h m)) → ((k : ℕ) → k ∈ keysDown s b 0 (here d s h m) → Intact d s k) → Pass d s (keyNodes s h b m c 0 (here d s h m))
+    keys-pass : (b m c : ℕ) → Run d s h m c (keysDown s b 0 (here d s h m))
+        → ((k : ℕ) → k ∈ keysDown s b 0 (here d s h m) → Intact d s k)
+        → Pass d s (keyNodes s h b m c 0 (here d s h m))
     keys-pass b m c r f x a =
         let w = in-keys s h b m c 0 (here d s h m) x a in
         let i = subst (λ y. Intact d s (keyOf d y)) (w .3) (f (keyOf d x) (key-down b m c 0 (here d s h m) x a)) in
-        subst (λ y. nodeFault d s y ≡ 0) (sym (w .3)) (datum-passes (w .0) (w .1) (w .2) i (subst (DataSound d s) (w .3) (run-nodes d s h b m c .0 r x a)))
+        subst (λ y. nodeFault d s y ≡ 0) (sym (w .3))
+        (datum-passes (w .0) (w .1) (w .2) i (subst (DataSound d s) (w .3) (run-nodes d s h b m c .0 r x a)))
 
     -- ---- and of those after it, r keys still to come
 
@@ -70,22 +77,38 @@ module _ (d : Disk) (s : List ℕ) where
       unfolding keysFrom
       other-keys k a = f k (in-right k (keysDown s b 0 (keysHere r)) (keysFrom s (r - slots) bs) a)
 
-    spread-passes : (q b m c r : ℕ) → q ≡ listBlocks (blocksOf d s h - m) → r ≡ blocksOf d s h - m → Spread d s h q b m c → ((k : ℕ) → k ∈ listsFrom s b q → Intact d s k) → ((k : ℕ) → k ∈ keysFrom s r (b ∷ listsFrom s b q) → Intact d s k) → Pass d s (blocksFrom d s h b m c q)
+    spread-passes : (q b m c r : ℕ) → q ≡ listBlocks (blocksOf d s h - m) → r ≡ blocksOf d s h - m
+        → Spread d s h q b m c → ((k : ℕ) → k ∈ listsFrom s b q → Intact d s k)
+        → ((k : ℕ) → k ∈ keysFrom s r (b ∷ listsFrom s b q) → Intact d s k) → Pass d s (blocksFrom d s h b m c q)
     unfolding blocksFrom listsFrom
     spread-passes zero b m c r e g p l f = keys-pass b m c (p .1) (first-keys b m c r g [] f)
     spread-passes (suc q) b m c r e g p l f =
         let n : here d s h m ≡ slots = omega (arith, e) in
-        go (rw n at (p .3)) (λ t. spread-passes q (wordOf s b 126) (m + slots) (keyWord s b 71) (r - slots) (omega (arith, e)) (omega (arith, g)) t (λ k a. l k (inr a)) (other-keys b m c r g (wordOf s b 126 ∷ listsFrom s (wordOf s b 126) q) f))
+        go (rw n at (p .3)) (λ t. spread-passes q (wordOf s b 126) (m + slots) (keyWord s b 71) (r - slots)
+        (omega (arith, e)) (omega (arith, g)) t (λ k a. l k (inr a))
+        (other-keys b m c r g (wordOf s b 126 ∷ listsFrom s (wordOf s b 126) q) f))
       where
         next : Node
         next = list (wordOf s b 126) h (m + slots) (keyWord s b 71)
 
-        go : Spread d s h q (wordOf s b 126) (m + slots) (keyWord s b 71) → (Spread d s h q (wordOf s b 126) (m + slots) (keyWord s b 71) → Pass d s (blocksFrom d s h (wordOf s b 126) (m + slots) (keyWord s b 71) q)) → (x : Node) → x ∈ (keyNodes s h b m c 0 (keysHere (blocksOf d s h - m)) ++ (next ∷ blocksFrom d s h (wordOf s b 126) (m + slots) (keyWord s b 71) q)) → nodeFault d s x ≡ 0
+        go : Spread d s h q (wordOf s b 126) (m + slots) (keyWord s b 71)
+            → (Spread d s h q (wordOf s b 126) (m + slots) (keyWord s b 71)
+            → Pass d s (blocksFrom d s h (wordOf s b 126) (m + slots) (keyWord s b 71) q))
+            → (x : Node)
+            → x ∈ (keyNodes s h b m c 0 (keysHere (blocksOf d s h - m))
+            ++ (next ∷ blocksFrom d s h (wordOf s b 126) (m + slots) (keyWord s b 71) q))
+            → nodeFault d s x ≡ 0
         go t later x a = each (in-either x (keyNodes s h b m c 0 (keysHere (blocksOf d s h - m))) _ a)
           where
-            each : (x ∈ keyNodes s h b m c 0 (keysHere (blocksOf d s h - m))) ⊎ (x ∈ (next ∷ blocksFrom d s h (wordOf s b 126) (m + slots) (keyWord s b 71) q)) → nodeFault d s x ≡ 0
-            each (inl a) = keys-pass b m c (p .1) (first-keys b m c r g (wordOf s b 126 ∷ listsFrom s (wordOf s b 126) q) f) x a
-            each (inr (inl a)) = subst (λ y. nodeFault d s y ≡ 0) (sym a) (list-there (wordOf s b 126) (m + slots) (keyWord s b 71) (l _ (inl refl)) (p .2) (spread-first d s h q (wordOf s b 126) (m + slots) (keyWord s b 71) t .0))
+            each : (x ∈ keyNodes s h b m c 0 (keysHere (blocksOf d s h - m)))
+                ⊎ (x ∈ (next ∷ blocksFrom d s h (wordOf s b 126) (m + slots) (keyWord s b 71) q))
+                → nodeFault d s x ≡ 0
+            each (inl a) =
+                keys-pass b m c (p .1) (first-keys b m c r g (wordOf s b 126 ∷ listsFrom s (wordOf s b 126) q) f) x a
+            each (inr (inl a)) =
+                subst (λ y. nodeFault d s y ≡ 0) (sym a)
+                (list-there (wordOf s b 126) (m + slots) (keyWord s b 71) (l _ (inl refl)) (p .2)
+                (spread-first d s h q (wordOf s b 126) (m + slots) (keyWord s b 71) t .0))
             each (inr (inr a)) = later t x a
 
     -- ---- the whole file
@@ -97,7 +120,8 @@ module _ (d : Disk) (s : List ℕ) where
         let q = listBlocks (blocksOf d s h) in
         let z : blocksOf d s h ≡ blocksOf d s h - 0 = omega arith in
         let e = file-passes d s h (p .0, rw sub-zero at (spread-first d s h q h 0 h (p .2) .0), p .1) in
-        rw (eq-eqb _ 0 e) (pass-all (fileNodes d s h) (spread-passes q h 0 h (blocksOf d s h) (ap listBlocks z) z (p .2) (w .lists) (w .keys)))
+        rw (eq-eqb _ 0 e) (pass-all (fileNodes d s h)
+        (spread-passes q h 0 h (blocksOf d s h) (ap listBlocks z) z (p .2) (w .lists) (w .keys)))
 
     -- The blocks of a file pass if and only if it is whole.
     pub tested-exactly : (blocksFault d s h ≡ Passed) ↔ FileWhole d s h

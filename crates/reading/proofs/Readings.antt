@@ -50,7 +50,8 @@ unfolding split slashes pick
 split-long [] = refl
 split-long (b ∷ bs) = go (eqb b slash) (split-long bs)
   where
-    go : (t : Bool) → length (split bs) ≡ suc (slashes bs) → length (pick t ([] ∷ split bs) (onto b (split bs))) ≡ suc (pick t (suc (slashes bs)) (slashes bs))
+    go : (t : Bool) → length (split bs) ≡ suc (slashes bs)
+        → length (pick t ([] ∷ split bs) (onto b (split bs))) ≡ suc (pick t (suc (slashes bs)) (slashes bs))
     go true e = ap suc e
     go false e = onto-long b (split bs) (slashes bs) e
 
@@ -70,7 +71,8 @@ module _ (path : List ℕ) where
 
   module _ (n i : ℕ) (v : SlashInv n i) where
     module _ (h : i < length path) where
-      one-more : slashes (drop i path) ≡ pick (eqb (getD path i 0) slash) (suc (slashes (drop (suc i) path))) (slashes (drop (suc i) path))
+      one-more : slashes (drop i path) ≡ pick (eqb (getD path i 0) slash) (suc (slashes (drop (suc i) path)))
+          (slashes (drop (suc i) path))
       unfolding slashes
       one-more = rw (drop-cons path i 0 h) refl
 
@@ -78,9 +80,13 @@ module _ (path : List ℕ) where
       unfolding pick
       slash-again m q = let k : i + 1 ≡ suc i = omega arith in go (eqb (getD path i 0) slash) q one-more k
         where
-          go : (t : Bool) → m ≡ pick t (n + 1) n → slashes (drop i path) ≡ pick t (suc (slashes (drop (suc i) path))) (slashes (drop (suc i) path)) → i + 1 ≡ suc i → SlashInv m (i + 1)
-          go true q y k = record { upto = omega arith; few = omega (arith, v .few); left = rw k (omega (arith, y, v .left)) }
-          go false q y k = record { upto = omega arith; few = omega (arith, v .few); left = rw k (omega (arith, y, v .left)) }
+          go : (t : Bool) → m ≡ pick t (n + 1) n
+              → slashes (drop i path) ≡ pick t (suc (slashes (drop (suc i) path))) (slashes (drop (suc i) path))
+              → i + 1 ≡ suc i → SlashInv m (i + 1)
+          go true q y k =
+              record { upto = omega arith; few = omega (arith, v .few); left = rw k (omega (arith, y, v .left)) }
+          go false q y k =
+              record { upto = omega arith; few = omega (arith, v .few); left = rw k (omega (arith, y, v .left)) }
 
     pub slash-end : length path ≤ i → n ≡ lastComponent path
     unfolding slashes
@@ -123,39 +129,48 @@ module _ (d : Disk) (s path : List ℕ) (f : Found) (e : f ≡ findOf d s path) 
 
 module _ (d : Disk) (s path : List ℕ) (o : ℕ) (output : List ℕ) (f : Found) (e : f ≡ findOf d s path) where
   -- the answer's numbers are those of the answer
-  promised : (r : Reading) (output′ : List ℕ) → r ≡ readOf d s path o (length output) → output′ ≡ outputAfter d s path o output r → Reads d s path o output r output′
+  promised : (r : Reading) (output′ : List ℕ) → r ≡ readOf d s path o (length output)
+      → output′ ≡ outputAfter d s path o output r → Reads d s path o output r output′
   promised r output′ a l = record { answer = a; numbers = ap numbersOf a; left = l }
 
   module _ (k z c : ℕ) (g : f ≡ found.File k z c) where
-    pub read-failed : (t : Tested) (x : Refusal) → t ≡ blocksFault d s k → t ≡ Failed x → Reads d s path o output (Refused x) output
+    pub read-failed : (t : Tested) (x : Refusal) → t ≡ blocksFault d s k → t ≡ Failed x
+        → Reads d s path o output (Refused x) output
     unfolding readOf
     read-failed t x h q = promised (Refused x) output (rw (← e, g, ← h, q) refl) refl
 
-    pub read-copied : (t : Tested) (n : ℕ) (output′ : List ℕ) → t ≡ blocksFault d s k → t ≡ Passed → Copied (fileBytes d s k) o output n output′ → Reads d s path o output (Bytes n) output′
+    pub read-copied : (t : Tested) (n : ℕ) (output′ : List ℕ) → t ≡ blocksFault d s k → t ≡ Passed
+        → Copied (fileBytes d s k) o output n output′ → Reads d s path o output (Bytes n) output′
     unfolding readOf
-    read-copied t n output′ h q w = promised (Bytes n) output′ (rw (← e, g, ← h, q, w .count) refl) (rw (← e, g) (w .output))
+    read-copied t n output′ h q w =
+        promised (Bytes n) output′ (rw (← e, g, ← h, q, w .count) refl) (rw (← e, g) (w .output))
 
   -- where it is no file, what is handed back is what a read answers
-  pub read-handed : (r : Reading) → OneOf (0 ∷ 2 ∷ []) (tagOf the-type f) → r ≡ handed path f → Reads d s path o output r output
+  pub read-handed : (r : Reading) → OneOf (0 ∷ 2 ∷ []) (tagOf the-type f) → r ≡ handed path f
+      → Reads d s path o output r output
   unfolding readOf
   read-handed r h q = go f e h q
     where
-      go : (f : Found) → f ≡ findOf d s path → OneOf (0 ∷ 2 ∷ []) (tagOf the-type f) → r ≡ handed path f → Reads d s path o output r output
+      go : (f : Found) → f ≡ findOf d s path → OneOf (0 ∷ 2 ∷ []) (tagOf the-type f) → r ≡ handed path f
+          → Reads d s path o output r output
       go (found.File k z c) e h q = absurd (⊎-elim (λ e. omega arith) (λ e. omega arith) h)
       go (found.Directory k c) e h q = promised r output (q ∙ rw (← e) refl) (rw q refl)
       go (found.Refused x) e h q = promised r output (q ∙ rw (← e) refl) (rw q refl)
 
-pub on-floppy : (d : Disk) (s path : List ℕ) (o : ℕ) (output : List ℕ) (r : Reading) (a : List ℕ) → d ≡ floppy → Reads d s path o output r a → Reads floppy s path o output r a
+pub on-floppy : (d : Disk) (s path : List ℕ) (o : ℕ) (output : List ℕ) (r : Reading) (a : List ℕ) → d ≡ floppy
+    → Reads d s path o output r a → Reads floppy s path o output r a
 on-floppy d s path o output r a e h = rw e at h
 
 -- one input has one outcome
-pub read-determined : (d : Disk) (s path : List ℕ) (o : ℕ) (output : List ℕ) (r r′ : Reading) (a a′ : List ℕ) → Reads d s path o output r a → Reads d s path o output r′ a′ → (numbersOf r ≡ numbersOf r′) × (r ≡ r′) × (a ≡ a′)
+pub read-determined : (d : Disk) (s path : List ℕ) (o : ℕ) (output : List ℕ) (r r′ : Reading) (a a′ : List ℕ)
+    → Reads d s path o output r a → Reads d s path o output r′ a′ → (numbersOf r ≡ numbersOf r′) × (r ≡ r′) × (a ≡ a′)
 read-determined d s path o output r r′ a a′ h h′ =
     let e = h .answer ∙ sym (h′ .answer) in
     (ap numbersOf e, e, h .left ∙ ap (outputAfter d s path o output) e ∙ sym (h′ .left))
 
 -- a directory is no file
-pub handed-directory : (path : List ℕ) (f : Found) (n : ℕ) → OneOf (0 ∷ 1 ∷ []) (tagOf the-type f) → n ≡ lastComponent path → refuse fault.wrongKind n ≡ handed path f
+pub handed-directory : (path : List ℕ) (f : Found) (n : ℕ) → OneOf (0 ∷ 1 ∷ []) (tagOf the-type f)
+    → n ≡ lastComponent path → refuse fault.wrongKind n ≡ handed path f
 handed-directory path (found.Directory k c) n h e = ap (refuse fault.wrongKind) e
 handed-directory path (found.File k z c) n h e = ap (refuse fault.wrongKind) e
 handed-directory path (found.Refused x) n h e = absurd (⊎-elim (λ e. omega arith) (λ e. omega arith) h)

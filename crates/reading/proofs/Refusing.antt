@@ -22,7 +22,8 @@ use Rattle.volume.specs.Files.{sizeOf, blocksOf}
 use Rattle.volume.specs.Rules.{fileFault, listFault, dataFault}
 use Rattle.volume.specs.Breaks.{Inside}
 use Rattle.volume.proofs.Passes.{_&_}
-use Rattle.volume.proofs.Breaks.{header-breaks, header-sound, list-breaks, list-sound, data-breaks, data-sound, key-inside, key-outside}
+use Rattle.volume.proofs.Breaks.{header-breaks, header-sound, list-breaks, list-sound, data-breaks, data-sound}
+use Rattle.volume.proofs.Breaks.{key-inside, key-outside}
 use Rattle.walk.specs.Nodes.{Node, list, datum, keyOf, keyFault, faultOf}
 use Rattle.walk.proofs.Passes.{key-passed, key-passes}
 use Rattle.lookup.specs.declared.find.Found.{Found}
@@ -31,7 +32,9 @@ use Rattle.lookup.specs.Lookup.{findOf}
 use Rattle.lookup.proofs.Deciding.{number-is, place-is}
 use Rattle.reading.specs.FileTests.{nodeFault, firstFault, fileNodes, blocksFault}
 use Rattle.reading.specs.Reads.{refuse, lastComponent, tested, reads, readOf}
-use Rattle.reading.specs.Outcomes.{GoodData, BadData, data-key, data-itself, GoodList, BadList, list-key, list-itself, BlocksGood, Fails, at-data, at-list, Refuses, of-lookup, of-directory, of-header, of-block}
+use Rattle.reading.specs.Outcomes.{GoodData, BadData, data-key, data-itself, GoodList, BadList, list-key}
+use Rattle.reading.specs.Outcomes.{list-itself, BlocksGood, Fails, at-data, at-list, Refuses, of-lookup}
+use Rattle.reading.specs.Outcomes.{of-directory, of-header, of-block}
 use Rattle.reading.proofs.Order.{data-position, list-position, Stands, is-data, is-list, stands}
 
 -- ---- a block's tests begin with its key's
@@ -60,7 +63,11 @@ module _ (d : Disk) (s : List ℕ) (h : ℕ) where
   module _ (i k c : ℕ) where
     data-good : (nodeFault d s (datum k h (suc i) c) ≡ 0) ↔ GoodData d s h i k c
     unfolding faultOf
-    data-good = (to, λ g. key-passes d k (g .inside .low, g .inside .high) & data-sound d s k h (suc i) (wordOf s c 4) .1 (g .sum, g .ties))
+    data-good = (
+      to,
+      λ g. key-passes d k (g .inside .low, g .inside .high) & data-sound d s k h (suc i) (wordOf s c 4) .1
+          (g .sum, g .ties),
+    )
       where
         to : nodeFault d s (datum k h (suc i) c) ≡ 0 → GoodData d s h i k c
         to e =
@@ -79,7 +86,9 @@ module _ (d : Disk) (s : List ℕ) (h : ℕ) where
 
         from : BadData d s h i k c v → (nodeFault d s (datum k h (suc i) c) ≡ v) × (v ≢ 0)
         from (data-key p e) = (first-key d k _ v (out p e), λ z. omega arith)
-        from (data-itself p b) = let e = data-breaks d s k h (suc i) (wordOf s c 4) v .1 b in (first-key d k _ v (own p (e .0) (e .1)), e .1)
+        from (data-itself p b) =
+            let e = data-breaks d s k h (suc i) (wordOf s c 4) v .1 b in
+            (first-key d k _ v (own p (e .0) (e .1)), e .1)
 
   module _ (j k c : ℕ) where
     abbrev left : ℕ
@@ -105,7 +114,8 @@ module _ (d : Disk) (s : List ℕ) (h : ℕ) where
 
         from : BadList d s h j k v → (nodeFault d s (list k h (slots * suc j) c) ≡ v) × (v ≢ 0)
         from (list-key p e) = (first-key d k _ v (out p e), λ z. omega arith)
-        from (list-itself p b) = let e = list-breaks s k h left v .1 b in (first-key d k _ v (own p (e .0) (e .1)), e .1)
+        from (list-itself p b) =
+            let e = list-breaks s k h left v .1 b in (first-key d k _ v (own p (e .0) (e .1)), e .1)
 
 -- ---- blocks in order: the first that fails, by its position
 
@@ -123,38 +133,61 @@ module _ (d : Disk) (s : List ℕ) (v k : ℕ) where
   fails-there [] e = impossible cc
   fails-there (n ∷ ns) e = go (eqb (nodeFault d s n) 0) refl e (fails-there ns)
     where
-      go : (b : Bool) → eqb (nodeFault d s n) 0 ≡ b → pick b (firstFault d s ns) (Failed (refusal (nodeFault d s n) (keyOf d n))) ≡ Failed (refusal v k) → (firstFault d s ns ≡ Failed (refusal v k) → FailsAt d s ns v k) → FailsAt d s (n ∷ ns) v k
+      go : (b : Bool) → eqb (nodeFault d s n) 0 ≡ b
+          → pick b (firstFault d s ns) (Failed (refusal (nodeFault d s n) (keyOf d n))) ≡ Failed (refusal v k)
+          → (firstFault d s ns ≡ Failed (refusal v k) → FailsAt d s ns v k) → FailsAt d s (n ∷ ns) v k
       go true q e later = further (later e)
         where
           further : FailsAt d s ns v k → FailsAt d s (n ∷ ns) v k
-          further w = record { position = suc (w .position); node = w .node; there = w .there; before = before′; fault = w .fault; key = w .key }
+          further w =
+              record {
+                position = suc (w .position);
+                node = w .node;
+                there = w .there;
+                before = before′;
+                fault = w .fault;
+                key = w .key;
+              }
             where
               before′ : (u : ℕ) (x : Node) → u < suc (w .position) → At u x (n ∷ ns) → nodeFault d s x ≡ 0
               before′ zero x l a = rw a (eqb-true _ 0 q)
               before′ (suc u) x l a = w .before u x (omega arith) a
       go false q e later =
           let x : refusal (nodeFault d s n) (keyOf d n) ≡ refusal v k = cc in
-          record { position = 0; node = n; there = refl; before = λ u x l a. absurd (omega arith); fault = (number-is x, λ z. eqb-false _ 0 q (number-is x ∙ z)); key = place-is x }
+          record {
+            position = 0;
+            node = n;
+            there = refl;
+            before = λ u x l a. absurd (omega arith);
+            fault = (number-is x, λ z. eqb-false _ 0 q (number-is x ∙ z));
+            key = place-is x;
+          }
 
-  fails-back : (ns : List Node) (t : ℕ) (x : Node) → At t x ns → ((u : ℕ) (y : Node) → u < t → At u y ns → nodeFault d s y ≡ 0) → nodeFault d s x ≡ v → v ≢ 0 → keyOf d x ≡ k → firstFault d s ns ≡ Failed (refusal v k)
+  fails-back : (ns : List Node) (t : ℕ) (x : Node) → At t x ns
+      → ((u : ℕ) (y : Node) → u < t → At u y ns → nodeFault d s y ≡ 0) → nodeFault d s x ≡ v → v ≢ 0 → keyOf d x ≡ k
+      → firstFault d s ns ≡ Failed (refusal v k)
   unfolding firstFault pick
   fails-back [] t x a b f z e = absurd a
   fails-back (n ∷ ns) zero x a b f z e =
       let y : nodeFault d s n ≡ v = sym (ap (nodeFault d s) a) ∙ f in
       let w : keyOf d n ≡ k = sym (ap (keyOf d) a) ∙ e in
       rw (y, ne-eqb v 0 z, w) refl
-  fails-back (n ∷ ns) (suc t) x a b f z e = rw (eq-eqb _ 0 (b 0 n (omega arith) refl)) (fails-back ns t x a (λ u y l p. b (suc u) y (omega arith) p) f z e)
+  fails-back (n ∷ ns) (suc t) x a b f z e =
+      rw (eq-eqb _ 0 (b 0 n (omega arith) refl)) (fails-back ns t x a (λ u y l p. b (suc u) y (omega arith) p) f z e)
 
   -- of a file's blocks
   module _ (h : ℕ) where
     to-fails : FailsAt d s (fileNodes d s h) v k → Fails d s h v k
     to-fails w = go (stands d s h (w .position) (w .node) (w .there))
       where
-        good : (n m : ℕ) → ((i : ℕ) → i < n → i + i / slots < w .position) → ((j : ℕ) → j < m → slots * suc j + j < w .position) → BlocksGood d s h n m
+        good : (n m : ℕ) → ((i : ℕ) → i < n → i + i / slots < w .position)
+            → ((j : ℕ) → j < m → slots * suc j + j < w .position) → BlocksGood d s h n m
         good n m f g =
             record {
               keys = λ i b c l p. data-good d s h i b c .0 (w .before _ _ (f i l) (data-position d s h i b c p));
-              lists = λ j b l p. let q = list-position d s h j b p in list-good d s h j b (q .0) .0 (w .before _ _ (g j l) (q .1));
+              lists =
+                  λ j b l p. let q = list-position d s h j b p in list-good d s h j b (q .0) .0
+                  (w .before _ _ (g j l) (q .1));
             }
 
         go : Stands d s h (w .position) (w .node) → Fails d s h v k
@@ -168,7 +201,9 @@ module _ (d : Disk) (s : List ℕ) (v k : ℕ) where
             rw y at (at-list j p (good (slots * suc j) j (λ u l. omega (arith, e)) (λ u l. omega (arith, e))) f)
 
     -- what stands before a position is good
-    passes : (n m t : ℕ) → BlocksGood d s h n m → ((i : ℕ) → i + i / slots < t → i < n) → ((j : ℕ) → slots * suc j + j < t → j < m) → (u : ℕ) (y : Node) → u < t → At u y (fileNodes d s h) → nodeFault d s y ≡ 0
+    passes : (n m t : ℕ) → BlocksGood d s h n m → ((i : ℕ) → i + i / slots < t → i < n)
+        → ((j : ℕ) → slots * suc j + j < t → j < m) → (u : ℕ) (y : Node) → u < t → At u y (fileNodes d s h)
+        → nodeFault d s y ≡ 0
     passes n m t g f f′ u y l a = go (stands d s h u y a)
       where
         go : Stands d s h u y → nodeFault d s y ≡ 0
@@ -178,11 +213,14 @@ module _ (d : Disk) (s : List ℕ) (v k : ℕ) where
     from-fails : Fails d s h v k → firstFault d s (fileNodes d s h) ≡ Failed (refusal v k)
     from-fails (at-data i c p g b) =
         let e = data-bad d s h i k c v .1 b in
-        fails-back (fileNodes d s h) (i + i / slots) _ (data-position d s h i k c p) (passes i (i / slots) (i + i / slots) g (λ u l. omega arith) (λ u l. omega arith)) (e .0) (e .1) refl
+        fails-back (fileNodes d s h) (i + i / slots) _ (data-position d s h i k c p)
+        (passes i (i / slots) (i + i / slots) g (λ u l. omega arith) (λ u l. omega arith)) (e .0) (e .1) refl
     from-fails (at-list j p g b) =
         let q = list-position d s h j k p in
         let e = list-bad d s h j k (q .0) v .1 b in
-        fails-back (fileNodes d s h) (slots * suc j + j) _ (q .1) (passes (slots * suc j) j (slots * suc j + j) g (λ u l. omega arith) (λ u l. omega arith)) (e .0) (e .1) refl
+        fails-back (fileNodes d s h) (slots * suc j + j) _ (q .1)
+        (passes (slots * suc j) j (slots * suc j + j) g (λ u l. omega arith) (λ u l. omega arith)) (e .0) (e .1)
+        refl
 
     -- A refusal is that of the first block that fails.
     pub first-exactly : (firstFault d s (fileNodes d s h) ≡ Failed (refusal v k)) ↔ Fails d s h v k
@@ -192,19 +230,25 @@ module _ (d : Disk) (s : List ℕ) (v k : ℕ) where
 
 module _ (d : Disk) (s path : List ℕ) (o n v k : ℕ) where
   -- of the file that was found
-  blocks-why : (h z c : ℕ) → findOf d s path ≡ found.File h z c → blocksFault d s h ≡ Failed (refusal v k) → Refuses d s path v k
+  blocks-why : (h z c : ℕ) → findOf d s path ≡ found.File h z c → blocksFault d s h ≡ Failed (refusal v k)
+      → Refuses d s path v k
   unfolding blocksFault pick
   blocks-why h z c e q = go (eqb (fileFault d s h) 0) refl q
     where
-      go : (b : Bool) → eqb (fileFault d s h) 0 ≡ b → pick b (firstFault d s (fileNodes d s h)) (Failed (refusal (fileFault d s h) h)) ≡ Failed (refusal v k) → Refuses d s path v k
+      go : (b : Bool) → eqb (fileFault d s h) 0 ≡ b
+          → pick b (firstFault d s (fileNodes d s h)) (Failed (refusal (fileFault d s h) h)) ≡ Failed (refusal v k)
+          → Refuses d s path v k
       go true p q = of-block h z c e (header-sound d s h .0 (eqb-true _ 0 p)) (first-exactly d s v k h .0 q)
       go false p q =
           let x : refusal (fileFault d s h) h ≡ refusal v k = cc in
           let y : h ≡ k = place-is x in
-          of-header z c (rw y at e) (header-breaks d s k v .0 (rw y at (number-is x), λ u. eqb-false _ 0 p (number-is x ∙ u)))
+          of-header z c (rw y at e) (header-breaks d s k v .0
+          (rw y at (number-is x), λ u. eqb-false _ 0 p (number-is x ∙ u)))
 
   read-why : (f : Found) → findOf d s path ≡ f → reads d s path o n f ≡ refuse v k → Refuses d s path v k
-  read-why (found.Directory t c) e q = let x : refusal fault.wrongKind (lastComponent path) ≡ refusal v k = cc in of-directory t c e (sym (number-is x)) (sym (place-is x))
+  read-why (found.Directory t c) e q =
+      let x : refusal fault.wrongKind (lastComponent path) ≡ refusal v k = cc in
+      of-directory t c e (sym (number-is x)) (sym (place-is x))
   read-why (found.Refused r) e q = let x : r ≡ refusal v k = cc in of-lookup (e ∙ ap found.Refused x)
   read-why (found.File h z c) e q = go (blocksFault d s h) refl q
     where

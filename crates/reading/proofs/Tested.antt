@@ -1,5 +1,5 @@
--- What it says of a file that its blocks pass their tests: it is as the law says, and its blocks are in range with sum 0 (`tested-file`,
--- `tested-whole`). Assumes nothing.
+-- What it says of a file that its blocks pass their tests: it is as the law says, and its blocks are in range with
+-- sum 0 (`tested-file`, `tested-whole`). Assumes nothing.
 use Prim.Native.Nat.{ℕ, zero, suc, _+_, _-_}
 use mathlib.Core.Path.{_≡_, refl, ap, subst}
 use mathlib.Core.Logic.{inl, inr, _⊎_}
@@ -37,7 +37,9 @@ module _ (d : Disk) (s : List ℕ) where
   all-pass [] e x h = absurd h
   all-pass (n ∷ ns) e x h = go (eqb (nodeFault d s n) 0) refl e h (all-pass ns)
     where
-      go : (b : Bool) → eqb (nodeFault d s n) 0 ≡ b → pick b (firstFault d s ns) (Failed (refusal (nodeFault d s n) (keyOf d n))) ≡ Passed → x ∈ (n ∷ ns) → (firstFault d s ns ≡ Passed → Pass ns) → nodeFault d s x ≡ 0
+      go : (b : Bool) → eqb (nodeFault d s n) 0 ≡ b
+          → pick b (firstFault d s ns) (Failed (refusal (nodeFault d s n) (keyOf d n))) ≡ Passed → x ∈ (n ∷ ns)
+          → (firstFault d s ns ≡ Passed → Pass ns) → nodeFault d s x ≡ 0
       go true q e (inl a) f = rw a (eqb-true _ 0 q)
       go true q e (inr a) f = f e x a
       go false q e a f = impossible cc
@@ -63,26 +65,33 @@ module _ (d : Disk) (s : List ℕ) where
     abbrev next : ℕ → ℕ → Node
     next b m = list (wordOf s b 126) h (m + slots) (keyWord s b 71)
 
-    keysPart : (q b m c : ℕ) → Pass (blocksFrom d s h b m c q) → Pass (keyNodes s h b m c 0 (keysHere (blocksOf d s h - m)))
+    keysPart : (q b m c : ℕ) → Pass (blocksFrom d s h b m c q)
+        → Pass (keyNodes s h b m c 0 (keysHere (blocksOf d s h - m)))
     unfolding blocksFrom
     keysPart zero b m c f = f
-    keysPart (suc q) b m c f = λ x a. f x (in-left x (keyNodes s h b m c 0 (keysHere (blocksOf d s h - m))) (next b m ∷ blocksFrom d s h (wordOf s b 126) (m + slots) (keyWord s b 71) q) a)
+    keysPart (suc q) b m c f =
+        λ x a. f x (in-left x (keyNodes s h b m c 0 (keysHere (blocksOf d s h - m)))
+        (next b m ∷ blocksFrom d s h (wordOf s b 126) (m + slots) (keyWord s b 71) q) a)
 
     runs : (q b m c : ℕ) → Pass (blocksFrom d s h b m c q) → Run d s h m c (keysDown s b 0 (here d s h m))
     runs q b m c f = run-nodes d s h b m c .1 (λ x a. sound x (own x (keysPart q b m c f x a)))
 
-    rest : (q b m c : ℕ) → Pass (blocksFrom d s h b m c (suc q)) → Pass (next b m ∷ blocksFrom d s h (wordOf s b 126) (m + slots) (keyWord s b 71) q)
+    rest : (q b m c : ℕ) → Pass (blocksFrom d s h b m c (suc q))
+        → Pass (next b m ∷ blocksFrom d s h (wordOf s b 126) (m + slots) (keyWord s b 71) q)
     unfolding blocksFrom
     rest q b m c f x a = f x (in-right x (keyNodes s h b m c 0 (keysHere (blocksOf d s h - m))) _ a)
 
-    spread-tested : (q b m c : ℕ) → q ≡ listBlocks (blocksOf d s h - m) → KeyCount s b (blocksOf d s h - m) → Pass (blocksFrom d s h b m c q) → Spread d s h q b m c
+    spread-tested : (q b m c : ℕ) → q ≡ listBlocks (blocksOf d s h - m) → KeyCount s b (blocksOf d s h - m)
+        → Pass (blocksFrom d s h b m c q) → Spread d s h q b m c
     unfolding faultOf
     spread-tested zero b m c e l f = (l, runs zero b m c f)
     spread-tested (suc q) b m c e l f =
         let g = rest q b m c f in
         let p = list-passed s (wordOf s b 126) h _ (own (next b m) (g (next b m) (inl refl))) in
         let n : here d s h m ≡ slots = omega (arith, e) in
-        let t = spread-tested q (wordOf s b 126) (m + slots) (keyWord s b 71) (omega (arith, e)) (p .2) (λ x a. g x (inr a)) in
+        let t =
+        spread-tested q (wordOf s b 126) (m + slots) (keyWord s b 71) (omega (arith, e)) (p .2)
+        (λ x a. g x (inr a)) in
         (l, runs (suc q) b m c f, p .1, rw n t)
 
     -- ---- the keys of its data blocks, and of its list blocks
@@ -90,11 +99,14 @@ module _ (d : Disk) (s : List ℕ) where
     down-intact : (b m c i n : ℕ) → Pass (keyNodes s h b m c i n) → (k : ℕ) → k ∈ keysDown s b i n → Intact d s k
     unfolding keyNodes keysDown
     down-intact b m c i zero f k a = absurd a
-    down-intact b m c i (suc n) f k (inl a) = rw a (intact (datum (keyWord s b i) h (suc (m + i)) (before s b c i)) (f _ (inl refl)))
+    down-intact b m c i (suc n) f k (inl a) =
+        rw a (intact (datum (keyWord s b i) h (suc (m + i)) (before s b c i)) (f _ (inl refl)))
     down-intact b m c i (suc n) f k (inr a) = down-intact b m c (suc i) n (λ x p. f x (inr p)) k a
 
     -- those of one block, and those after
-    keys-split : (q b m c r k : ℕ) → r ≡ blocksOf d s h - m → Pass (blocksFrom d s h b m c q) → (k ∈ keysFrom s (r - slots) (listsFrom s b q) → Intact d s k) → k ∈ keysFrom s r (b ∷ listsFrom s b q) → Intact d s k
+    keys-split : (q b m c r k : ℕ) → r ≡ blocksOf d s h - m → Pass (blocksFrom d s h b m c q)
+        → (k ∈ keysFrom s (r - slots) (listsFrom s b q) → Intact d s k) → k ∈ keysFrom s r (b ∷ listsFrom s b q)
+        → Intact d s k
     unfolding keysFrom
     keys-split q b m c r k e f g a = go (in-either k (keysDown s b 0 (keysHere r)) _ a)
       where
@@ -102,16 +114,21 @@ module _ (d : Disk) (s : List ℕ) where
         go (inl p) = down-intact b m c 0 (keysHere (blocksOf d s h - m)) (keysPart q b m c f) k (rw e at p)
         go (inr p) = g p
 
-    keys-intact : (q b m c r k : ℕ) → r ≡ blocksOf d s h - m → Pass (blocksFrom d s h b m c q) → k ∈ keysFrom s r (b ∷ listsFrom s b q) → Intact d s k
+    keys-intact : (q b m c r k : ℕ) → r ≡ blocksOf d s h - m → Pass (blocksFrom d s h b m c q)
+        → k ∈ keysFrom s r (b ∷ listsFrom s b q) → Intact d s k
     unfolding keysFrom listsFrom
     keys-intact zero b m c r k e f a = keys-split zero b m c r k e f (λ p. absurd p) a
-    keys-intact (suc q) b m c r k e f a = keys-split (suc q) b m c r k e f (λ p. keys-intact q (wordOf s b 126) (m + slots) (keyWord s b 71) (r - slots) k (omega arith) (λ x y. rest q b m c f x (inr y)) p) a
+    keys-intact (suc q) b m c r k e f a =
+        keys-split (suc q) b m c r k e f
+        (λ p. keys-intact q (wordOf s b 126) (m + slots) (keyWord s b 71) (r - slots) k (omega arith)
+        (λ x y. rest q b m c f x (inr y)) p) a
 
     lists-intact : (q b m c k : ℕ) → Pass (blocksFrom d s h b m c q) → k ∈ listsFrom s b q → Intact d s k
     unfolding listsFrom
     lists-intact zero b m c k f a = absurd a
     lists-intact (suc q) b m c k f (inl a) = rw a (intact (next b m) (rest q b m c f (next b m) (inl refl)))
-    lists-intact (suc q) b m c k f (inr a) = lists-intact q (wordOf s b 126) (m + slots) (keyWord s b 71) k (λ x y. rest q b m c f x (inr y)) a
+    lists-intact (suc q) b m c k f (inr a) =
+        lists-intact q (wordOf s b 126) (m + slots) (keyWord s b 71) k (λ x y. rest q b m c f x (inr y)) a
 
     -- ---- the whole file
 
@@ -120,7 +137,9 @@ module _ (d : Disk) (s : List ℕ) where
       unfolding blocksFault pick
       header-passes = go (eqb (fileFault d s h) 0) refl e
         where
-          go : (b : Bool) → eqb (fileFault d s h) 0 ≡ b → pick b (firstFault d s (fileNodes d s h)) (Failed (refusal (fileFault d s h) h)) ≡ Passed → fileFault d s h ≡ 0
+          go : (b : Bool) → eqb (fileFault d s h) 0 ≡ b
+              → pick b (firstFault d s (fileNodes d s h)) (Failed (refusal (fileFault d s h) h)) ≡ Passed
+              → fileFault d s h ≡ 0
           go true q x = eqb-true _ 0 q
           go false q x = impossible cc
 
@@ -135,10 +154,19 @@ module _ (d : Disk) (s : List ℕ) where
       pub tested-file : File d s h
       tested-file =
           let p = file-passed d s h header-passes in
-          file-spreads d s h .1 (p .0, p .2, spread-tested (listBlocks (blocksOf d s h)) h 0 h (ap listBlocks nothing-done) (subst (KeyCount s h) nothing-done (p .1)) blocks-pass)
+          file-spreads d s h .1 (
+            p .0,
+            p .2,
+            spread-tested (listBlocks (blocksOf d s h)) h 0 h
+                (ap listBlocks nothing-done) (subst (KeyCount s h) nothing-done (p .1)) blocks-pass,
+          )
 
       -- and whole
       pub tested-whole : FileWhole d s h
       tested-whole =
           let q = listBlocks (blocksOf d s h) in
-          record { file = tested-file; lists = λ k a. lists-intact q h 0 h k blocks-pass a; keys = λ k a. keys-intact q h 0 h (blocksOf d s h) k nothing-done blocks-pass a }
+          record {
+            file = tested-file;
+            lists = λ k a. lists-intact q h 0 h k blocks-pass a;
+            keys = λ k a. keys-intact q h 0 h (blocksOf d s h) k nothing-done blocks-pass a;
+          }

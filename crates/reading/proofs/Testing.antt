@@ -31,7 +31,8 @@ use Rattle.reading.specs.Parts.{KeysTested, ListTested}
 
 -- ---- one block
 
-pub range-holds : (d : Disk) (s : List ℕ) (k : ℕ) (b : Bool) → b ≡ inRange d k → b ≡ true → length s ≡ imageBytes d → Holds s k
+pub range-holds : (d : Disk) (s : List ℕ) (k : ℕ) (b : Bool) → b ≡ inRange d k → b ≡ true → length s ≡ imageBytes d
+    → Holds s k
 range-holds d s k b e h l = omega (arith, range-is d k (sym e ∙ h))
 
 module _ (d : Disk) (s : List ℕ) (n : Node) (b : Bool) (e : b ≡ inRange d (keyOf d n)) where
@@ -69,7 +70,8 @@ module _ (d : Disk) (s : List ℕ) where
   fault-append (x ∷ xs) ys = go (eqb (nodeFault d s x) 0) (fault-append xs ys)
     where
       go : (b : Bool) → firstFault d s (xs ++ ys) ≡ and (firstFault d s xs) (firstFault d s ys)
-          → pick b (firstFault d s (xs ++ ys)) (Failed (refusal (nodeFault d s x) (keyOf d x))) ≡ and (pick b (firstFault d s xs) (Failed (refusal (nodeFault d s x) (keyOf d x)))) (firstFault d s ys)
+          → pick b (firstFault d s (xs ++ ys)) (Failed (refusal (nodeFault d s x) (keyOf d x))) ≡ and
+          (pick b (firstFault d s xs) (Failed (refusal (nodeFault d s x) (keyOf d x)))) (firstFault d s ys)
       go true e = e
       go false e = refl
 
@@ -84,24 +86,30 @@ module _ (d : Disk) (s : List ℕ) (b : KeyBlock) where
   keys-start count v = let y : count - 0 ≡ count = omega arith in record { turn = v; tested = rw y refl }
 
   module _ (count last i : ℕ) (v : KeysInv count last i) where
-    module _ (k f : ℕ) (h : i < count) (e : k ≡ keyWord s (b .key) i) (g : f ≡ nodeFault d s (datum k (b .header) (b .done + i + 1) last)) where
+    module _ (k f : ℕ) (h : i < count) (e : k ≡ keyWord s (b .key) i)
+        (g : f ≡ nodeFault d s (datum k (b .header) (b .done + i + 1) last)) where
       abbrev found : f ≡ nodeFault d s (next d s b i last)
       found = rw e at g
 
-      on : firstFault d s (nodes d s b 0 count) ≡ firstFault d s (next d s b i last ∷ nodes d s b (i + 1) (count - (i + 1)))
+      on : firstFault d s (nodes d s b 0 count) ≡ firstFault d s
+          (next d s b i last ∷ nodes d s b (i + 1) (count - (i + 1)))
       on = v .tested ∙ ap (firstFault d s) (turn-next d s b count last i (v .turn) h)
 
       pub keys-out : (r : Tested) → (f ≡ 0 → ⊥) → r ≡ Failed (refusal f k) → KeysTested d s b r
       keys-out r t q =
           record {
-            told = q ∙ rw e (fault-stops d s (next d s b i last) _ f found t) ∙ sym on ∙ ap (λ (j : ℕ). firstFault d s (nodes d s b 0 j)) (v .turn .counted);
+            told =
+                q ∙ rw e (fault-stops d s (next d s b i last) _ f found t) ∙ sym on
+                ∙ ap (λ (j : ℕ). firstFault d s (nodes d s b 0 j)) (v .turn .counted);
             next = λ p. impossible cc;
           }
 
       pub keys-step : f ≡ 0 → KeysInv count k (i + 1)
       keys-step z =
           record {
-            turn = turn-again d s b count last i (v .turn) h k e (rw e (node-inside d s (next d s b i last) (sym found ∙ z)));
+            turn =
+                turn-again d s b count last i (v .turn) h k e
+                (rw e (node-inside d s (next d s b i last) (sym found ∙ z)));
             tested = on ∙ fault-goes d s (next d s b i last) (nodes d s b (i + 1) (count - (i + 1))) f found z;
           }
 
@@ -109,13 +117,17 @@ module _ (d : Disk) (s : List ℕ) (b : KeyBlock) where
     unfolding keyNodes firstFault
     keys-end h =
         let e : count - i ≡ 0 = omega arith in
-        record { told = sym (rw (v .turn .counted) at (rw e at (v .tested))); next = λ p. turn-end d s b count last i (v .turn) h }
+        record {
+          told = sym (rw (v .turn .counted) at (rw e at (v .tested)));
+          next = λ p. turn-end d s b count last i (v .turn) h;
+        }
 
 -- ---- a list block and its data blocks
 
 module _ (d : Disk) (s : List ℕ) (b : KeyBlock) (f : ℕ) (g : f ≡ nodeFault d s (listNode b)) where
   pub list-stops : (r : Tested) → (f ≡ 0 → ⊥) → r ≡ Failed (refusal f (b .key)) → ListTested d s b r
-  list-stops r t q = record { told = q ∙ fault-stops d s _ _ f g t; image = λ p. impossible cc; next = λ p. impossible cc }
+  list-stops r t q =
+      record { told = q ∙ fault-stops d s _ _ f g t; image = λ p. impossible cc; next = λ p. impossible cc }
 
   module _ (z : f ≡ 0) (i : InFile d s b) where
     pub list-asks : KeysReady d s b
@@ -143,7 +155,8 @@ module _ (d : Disk) (s : List ℕ) where
   lists b zero = []
   lists b (suc q) = listNode b ∷ blocksFrom d s (b .header) (b .key) (b .done) (b .last) q
 
-  keys-then : (b : KeyBlock) (q : ℕ) → blocksFrom d s (b .header) (b .key) (b .done) (b .last) q ≡ dataNodes d s b ++ lists (nextOf s b) q
+  keys-then : (b : KeyBlock) (q : ℕ)
+      → blocksFrom d s (b .header) (b .key) (b .done) (b .last) q ≡ dataNodes d s b ++ lists (nextOf s b) q
   unfolding blocksFrom
   keys-then b zero = sym (append-nil _)
   keys-then b (suc q) = refl
@@ -158,16 +171,20 @@ module _ (d : Disk) (s : List ℕ) where
 
     -- a block's data blocks, and then the list blocks after it
     keys-part : (t : Tested) → KeysTested d s b t
-        → firstFault d s (blocksFrom d s (b .header) (b .key) (b .done) (b .last) (listBlocks (blocks - b .done))) ≡ and t (firstFault d s (left (nextOf s b)))
+        → firstFault d s (blocksFrom d s (b .header) (b .key) (b .done) (b .last) (listBlocks (blocks - b .done)))
+        ≡ and t (firstFault d s (left (nextOf s b)))
     keys-part t k =
         let e : listBlocks (blocks - b .done) ≡ listBlocks (blocks - (b .done + slots) + slots) = omega arith in
         ap (firstFault d s) (keys-then b (listBlocks (blocks - b .done))) ∙ fault-append d s (dataNodes d s b) _
-        ∙ ap (λ (x : Tested). and x (firstFault d s (lists (nextOf s b) (listBlocks (blocks - b .done))))) (sym (k .told))
+        ∙ ap (λ (x : Tested). and x (firstFault d s (lists (nextOf s b) (listBlocks (blocks - b .done)))))
+        (sym (k .told))
         ∙ ap (λ (q : ℕ). and t (firstFault d s (lists (nextOf s b) q))) e
 
-    list-part : (t : Tested) → ListTested d s b t → b .done < blocks → firstFault d s (left b) ≡ and t (firstFault d s (left (nextOf s b)))
+    list-part : (t : Tested) → ListTested d s b t → b .done < blocks
+        → firstFault d s (left b) ≡ and t (firstFault d s (left (nextOf s b)))
     list-part t k l =
-        let e : listBlocks (blocks - b .done + slots) ≡ suc (listBlocks (blocks - (b .done + slots) + slots)) = omega arith in
+        let e : listBlocks (blocks - b .done + slots) ≡ suc (listBlocks (blocks - (b .done + slots) + slots)) =
+        omega arith in
         ap (λ (q : ℕ). firstFault d s (lists b q)) e
         ∙ ap (λ (x : List Node). firstFault d s (listNode b ∷ x)) (keys-then b _)
         ∙ fault-append d s (listNode b ∷ dataNodes d s b) _
@@ -182,7 +199,8 @@ module _ (d : Disk) (s : List ℕ) where
       first-part : firstFault d s (fileNodes d s h) ≡ and t (firstFault d s (left (nextOf s (headerOf s h))))
       first-part =
           let n : blocksOf d s h ≡ blocksOf d s h - 0 = omega arith in
-          ap (λ (j : ℕ). firstFault d s (blocksFrom d s h h 0 h (listBlocks j))) n ∙ keys-part (headerOf s h) t (rw g at k)
+          ap (λ (j : ℕ). firstFault d s (blocksFrom d s h h 0 h (listBlocks j))) n
+          ∙ keys-part (headerOf s h) t (rw g at k)
 
       pub blocks-first : (x : Refusal) → t ≡ Failed x → t ≡ firstFault d s (fileNodes d s h)
       blocks-first x q = q ∙ sym (first-part ∙ rw q refl)
@@ -202,7 +220,8 @@ module _ (d : Disk) (s : List ℕ) where
         pub blocks-file : InFile d s b
         blocks-file = v .next .file t
 
-        pub blocks-less : (b′ : KeyBlock) → b′ ≡ nextOf s b → blocksOf d s (b′ .header) - b′ .done < blocksOf d s (b .header) - b .done
+        pub blocks-less : (b′ : KeyBlock) → b′ ≡ nextOf s b
+            → blocksOf d s (b′ .header) - b′ .done < blocksOf d s (b .header) - b .done
         blocks-less b′ e = rw e (omega (arith, v .next .left t))
 
         module _ (u : Tested) (w : ListTested d s b u) where

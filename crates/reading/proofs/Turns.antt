@@ -16,7 +16,8 @@ use Rattle.volume.proofs.Sizes.{limit-most}
 use Rattle.reading.specs.Bytes.{dataByte, dataOf, dataIn, fileBytes, part, filledBy}
 use Rattle.reading.specs.Parts.{Copied, Followed}
 use Rattle.reading.proofs.Parts.{drop-take, filled-more, turn-front, turn-rest}
-use Rattle.reading.proofs.Contents.{data-inside, data-some, data-long, all-none, all-first, part-long, part-there, key-inside, key-first, key-next, block-there}
+use Rattle.reading.proofs.Contents.{data-inside, data-some, data-long, all-none, all-first, part-long}
+use Rattle.reading.proofs.Contents.{part-there, key-inside, key-first, key-next, block-there}
 
 -- ---- the way to the block of an offset
 
@@ -25,7 +26,8 @@ unfoldable pub behind : List ℕ → ℕ → ℕ → ℕ
 behind s h zero = wordOf s h 4
 behind s h (suc n) = wordOf s (behind s h n) 4
 
-module _ (d : Disk) (s : List ℕ) (h o b n : ℕ) (long : length s ≡ imageBytes d) (t : Followed d s h) (l : o < sizeOf s h) (f : b ≡ dataBytes d) (e : n ≡ o / b) where
+module _ (d : Disk) (s : List ℕ) (h o b n : ℕ) (long : length s ≡ imageBytes d) (t : Followed d s h)
+    (l : o < sizeOf s h) (f : b ≡ dataBytes d) (e : n ≡ o / b) where
   few : n < length (keysOf d s h)
   few = rw (e, f) (block-there d s h long t o l)
 
@@ -81,7 +83,8 @@ module _ (d : Disk) (s : List ℕ) (h o : ℕ) (before : List ℕ) where
     pub rest : drop done whole ≡ take (count - done) (drop within (dataIn d s (drop block (keysOf d s h))))
 
   -- an offset at or past the end, or no room
-  pub none : (z left count : ℕ) → length s ≡ imageBytes d → Followed d s h → z ≡ sizeOf s h → left ≡ z - o → count ≡ min (length before) left → count ≡ 0 → Copied (fileBytes d s h) o before 0 before
+  pub none : (z left count : ℕ) → length s ≡ imageBytes d → Followed d s h → z ≡ sizeOf s h → left ≡ z - o
+      → count ≡ min (length before) left → count ≡ 0 → Copied (fileBytes d s h) o before 0 before
   unfolding filledBy
   none z left count g t q y e n =
       let l : length whole ≡ 0 = part-long d s h g t o (length before) ∙ rw (← q) (omega arith) in
@@ -91,14 +94,17 @@ module _ (d : Disk) (s : List ℕ) (h o : ℕ) (before : List ℕ) where
       empty [] e = refl
       empty (x ∷ p) e = absurd (omega arith)
 
-  pub some : (z left count : ℕ) → z ≡ sizeOf s h → left ≡ z - o → count ≡ min (length before) left → (count ≡ 0 → ⊥) → o < sizeOf s h
+  pub some : (z left count : ℕ) → z ≡ sizeOf s h → left ≡ z - o → count ≡ min (length before) left → (count ≡ 0 → ⊥)
+      → o < sizeOf s h
   some z left count q y e n = go (decLt o (sizeOf s h))
     where
       go : Dec (o < sizeOf s h) → o < sizeOf s h
       go (yes p) = p
       go (no p) = absurd (n (omega arith))
 
-  pub starts : (z left count b k : ℕ) → Sized d → length s ≡ imageBytes d → Followed d s h → z ≡ sizeOf s h → left ≡ z - o → count ≡ min (length before) left → b ≡ dataBytes d → k ≡ getD (keysOf d s h) (o / dataBytes d) 0 → Going count b before k (o % b) 0
+  pub starts : (z left count b k : ℕ) → Sized d → length s ≡ imageBytes d → Followed d s h → z ≡ sizeOf s h
+      → left ≡ z - o → count ≡ min (length before) left → b ≡ dataBytes d
+      → k ≡ getD (keysOf d s h) (o / dataBytes d) 0 → Going count b before k (o % b) 0
   starts z left count b k i g t q y e f r =
       let c : count ≡ min (length before) (sizeOf s h - o) = rw (← q, ← y) e in
       record {
@@ -124,7 +130,12 @@ module _ (d : Disk) (s : List ℕ) (h o : ℕ) (before : List ℕ) where
     unfolding filledBy
     ends q =
         let e : done ≡ length whole = omega (arith, v .upto, whole-long) in
-        record { count = sym whole-long; output = v .filled ∙ rw e (ap (λ (p : List ℕ). p ++ drop (length whole) before) (take-all (length whole) whole (omega arith))) }
+        record {
+          count = sym whole-long;
+          output = v .filled
+              ∙ rw e (ap (λ (p : List ℕ). p ++ drop (length whole) before)
+              (take-all (length whole) whole (omega arith)));
+        }
 
     module _ (p : done < count) where
       there : v .block < length (keysOf d s h)
@@ -135,7 +146,13 @@ module _ (d : Disk) (s : List ℕ) (h o : ℕ) (before : List ℕ) where
 
           go : Dec (v .block < length (keysOf d s h)) → v .block < length (keysOf d s h)
           go (yes q) = q
-          go (no q) = absurd (omega (arith, length-drop done whole, whole-long, ap length (nothing (drop-of-length-le (keysOf d s h) {i = v .block} (omega arith)))))
+          go (no q) =
+              absurd (omega (
+                arith,
+                length-drop done whole,
+                whole-long,
+                ap length (nothing (drop-of-length-le (keysOf d s h) {i = v .block} (omega arith))),
+              ))
 
       pub inside : key < d .blocks
       inside = rw (v .here) (key-inside d s h (v .long) (v .tested) (v .block) there)
@@ -176,7 +193,9 @@ module _ (d : Disk) (s : List ℕ) (h o : ℕ) (before : List ℕ) where
         to-inside = omega (arith, v .counted, v .kept)
 
         pub done-fits : done + n < 2 ^ 64
-        done-fits = small (done + n) count (sizeOf s h) (fileLimit d) upto (omega (arith, v .counted)) (v .tested .size) (limit-most d (v .sized))
+        done-fits =
+            small (done + n) count (sizeOf s h) (fileLimit d) upto (omega (arith, v .counted)) (v .tested .size)
+            (limit-most d (v .sized))
 
         module _ (byte : ℕ) (q : byte ≡ dataByte d key) where
           pub byte-fits : byte + within < 2 ^ 64
@@ -190,10 +209,16 @@ module _ (d : Disk) (s : List ℕ) (h o : ℕ) (before : List ℕ) where
           copied =
               let g : n ≤ dataBytes d - within = omega (arith, v .each) in
               let e : take n (drop within mine) ≡ take n (drop (byte + within) s) =
-              rw (drop-take within (dataBytes d) (drop (dataByte d key) s), take-take n (dataBytes d - within) (drop within (drop (dataByte d key) s)) g, drop-drop within (dataByte d key) s, q) refl in
+              rw (
+                drop-take within (dataBytes d) (drop (dataByte d key) s),
+                take-take n (dataBytes d - within) (drop within (drop (dataByte d key) s)) g,
+                drop-drop within (dataByte d key) s,
+                q,
+              ) refl in
               sym (turn-front (drop done whole) mine others within (count - done) n opened within-mine taken ∙ e)
 
-          pub goes : (out′ : List ℕ) (key′ : ℕ) → out′ ≡ paste out done (drop (byte + within) s) n → key′ ≡ wordOf s key 4 → Going count bytes out′ key′ 0 (done + n)
+          pub goes : (out′ : List ℕ) (key′ : ℕ) → out′ ≡ paste out done (drop (byte + within) s) n
+              → key′ ≡ wordOf s key 4 → Going count bytes out′ key′ 0 (done + n)
           goes out′ key′ e f =
               record {
                 sized = v .sized;
@@ -205,7 +230,14 @@ module _ (d : Disk) (s : List ℕ) (h o : ℕ) (before : List ℕ) where
                 here = f ∙ rw (v .here) (key-next d s h (v .long) (v .tested) (v .block) there);
                 near = rw (v .each) (data-some d);
                 upto = upto;
-                filled = e ∙ filled-more whole before out (drop (byte + within) s) done n (v .filled) copied (rw whole-long upto);
-                kept = ap length e ∙ length-paste out done (drop (byte + within) s) n to-inside (rw (length-drop (byte + within) s) (room (length s) (byte + within) n from-inside)) ∙ v .kept;
-                rest = sym (drop-drop n done whole) ∙ turn-rest (drop done whole) mine others within (count - done) n opened within-mine taken ∙ ap (λ (j : ℕ). take j others) ahead;
+                filled =
+                    e ∙ filled-more whole before out (drop (byte + within) s) done n (v .filled) copied
+                    (rw whole-long upto);
+                kept =
+                    ap length e ∙ length-paste out done (drop (byte + within) s) n to-inside
+                    (rw (length-drop (byte + within) s) (room (length s) (byte + within) n from-inside))
+                    ∙ v .kept;
+                rest =
+                    sym (drop-drop n done whole) ∙ turn-rest (drop done whole) mine others within (count - done) n
+                    opened within-mine taken ∙ ap (λ (j : ℕ). take j others) ahead;
               }

@@ -1,4 +1,5 @@
--- The tests of a block give a number if and only if the block breaks the law as `specs/Breaks.antt` says, and pass if and only if it does not. Assumes nothing.
+-- The tests of a block give a number if and only if the block breaks the law as `specs/Breaks.antt` says, and pass if
+-- and only if it does not. Assumes nothing.
 use Prim.Native.Nat.{ℕ, _+_, _≤_}
 use mathlib.Core.Path.{_≡_, refl, sym, ap, _∙_}
 use mathlib.Core.Logic.{_≢_, _⊎_, inl, inr, _↔_}
@@ -18,10 +19,17 @@ use Rattle.volume.specs.Blocks.{slots, wordOf, sumOf, directory}
 use Rattle.volume.specs.Names.{nameOf, nameGood, slotOf}
 use Rattle.volume.specs.Files.{heldOf, sizeOf, blocksOf}
 use Rattle.volume.specs.Law.{RootKind, RootFixed, OneBitmap, Valid, EntryKind, KeyCount, ListKind}
-use Rattle.volume.specs.Rules.{rootWords, rootFault, allZero, mapFault, bitmapFault, entryWords, entryName, entryFault, countRules, emptyRules, fileFault, listFault, dataLinks, dataFault}
-use Rattle.volume.specs.Breaks.{Inside, RootSound, RootBreaks, root-7, root-8, root-4, root-11, MapBreaks, map-16, BitmapBreaks, bitmap-7, EntryTies, EntrySound, EntryBreaks, entry-7, entry-8, entry-9, entry-10, entry-11, entry-12, HeaderSound, HeaderBreaks, header-14, ListSound, ListBreaks, list-7, list-8, list-10, list-14, DataTies, DataBreaks, data-7, data-8, data-15}
+use Rattle.volume.specs.Rules.{rootWords, rootFault, allZero, mapFault, bitmapFault, entryWords, entryName}
+use Rattle.volume.specs.Rules.{entryFault, countRules, emptyRules, fileFault, listFault, dataLinks, dataFault}
+use Rattle.volume.specs.Breaks.{Inside, RootSound, RootBreaks, root-7, root-8, root-4, root-11, MapBreaks}
+use Rattle.volume.specs.Breaks.{map-16, BitmapBreaks, bitmap-7, EntryTies, EntrySound, EntryBreaks, entry-7}
+use Rattle.volume.specs.Breaks.{entry-8, entry-9, entry-10, entry-11, entry-12, HeaderSound, HeaderBreaks}
+use Rattle.volume.specs.Breaks.{header-14, ListSound, ListBreaks, list-7, list-8, list-10, list-14, DataTies}
+use Rattle.volume.specs.Breaks.{DataBreaks, data-7, data-8, data-15}
 use Rattle.volume.proofs.Sizes.{range-is}
-use Rattle.volume.proofs.Checks.{is, be, is-not, be-not, test-at, _&_, zeros-there, zeros-found, Test, broken, breaks, down, fall, on, last, word-test, sum-test, name-test, bad-name, not-good, some, among}
+use Rattle.volume.proofs.Checks.{is, be, is-not, be-not, test-at, _&_, zeros-there, zeros-found, Test, broken}
+use Rattle.volume.proofs.Checks.{breaks, down, fall, on, last, word-test, sum-test, name-test, bad-name}
+use Rattle.volume.proofs.Checks.{not-good, some, among}
 
 -- ---- the root
 
@@ -38,7 +46,12 @@ module _ (s : List ℕ) (r : ℕ) where
       }
 
   fixed-test : Test 4 (tests (rootWords s r)) (RootFixed s r)
-  fixed-test = record { gives = search given depth 16; passed = λ e. record { zeros = zeros′ e; table = is _ _ 3 (test-at 2 (rootWords s r) e refl) }; passes = passes′ }
+  fixed-test =
+      record {
+        gives = search given depth 16;
+        passed = λ e. record { zeros = zeros′ e; table = is _ _ 3 (test-at 2 (rootWords s r) e refl) };
+        passes = passes′;
+      }
     where
       zeros′ : tests (rootWords s r) ≡ 0 → (i : ℕ) → i ∈ (1 ∷ 2 ∷ 4 ∷ 124 ∷ 125 ∷ 126 ∷ []) → wordOf s r i ≡ 0
       zeros′ e i (inl q) = rw q (is _ _ 3 (test-at 0 (rootWords s r) e refl))
@@ -50,7 +63,10 @@ module _ (s : List ℕ) (r : ℕ) where
       zeros′ e i (inr (inr (inr (inr (inr (inr q)))))) = absurd q
 
       passes′ : RootFixed s r → tests (rootWords s r) ≡ 0
-      passes′ h = fixed 1 (inl refl) & fixed 2 (inr (inl refl)) & be _ _ 4 (h .table) & fixed 4 (inr (inr (inl refl))) & fixed 124 (inr (inr (inr (inl refl)))) & fixed 125 (inr (inr (inr (inr (inl refl))))) & fixed 126 (inr (inr (inr (inr (inr (inl refl)))))) & refl
+      passes′ h =
+          fixed 1 (inl refl) & fixed 2 (inr (inl refl)) & be _ _ 4 (h .table) & fixed 4 (inr (inr (inl refl))) & fixed
+          124 (inr (inr (inr (inl refl)))) & fixed 125 (inr (inr (inr (inr (inl refl))))) & fixed 126
+          (inr (inr (inr (inr (inr (inl refl)))))) & refl
         where
           fixed : (i : ℕ) → i ∈ (1 ∷ 2 ∷ 4 ∷ 124 ∷ 125 ∷ 126 ∷ []) → must (eqb (wordOf s r i) 0) 4 ≡ 0
           fixed i m = be _ _ 4 (h .zeros i m)
@@ -59,9 +75,14 @@ module _ (d : Disk) (s : List ℕ) where
   abbrev r : ℕ
   r = rootOf d
 
-  root-order : rootFault d s ≡ first (must (eqb (sumOf s r) 0) 7) (first (tests (kinds s r)) (first (tests (rootWords s r)) (must (nameGood s r) 11)))
+  root-order : rootFault d s ≡ first (must (eqb (sumOf s r) 0) 7)
+      (first (tests (kinds s r)) (first (tests (rootWords s r)) (must (nameGood s r) 11)))
   unfolding rootFault
-  root-order = ap (first (must (eqb (sumOf s r) 0) 7)) (tests-append (kinds s r) (rootWords s r ++ (must (nameGood s r) 11 ∷ [])) ∙ ap (first (tests (kinds s r))) (tests-append (rootWords s r) (must (nameGood s r) 11 ∷ []) ∙ ap (first (tests (rootWords s r))) (last _)))
+  root-order =
+      ap (first (must (eqb (sumOf s r) 0) 7))
+      (tests-append (kinds s r) (rootWords s r ++ (must (nameGood s r) 11 ∷ []))
+      ∙ ap (first (tests (kinds s r))) (tests-append (rootWords s r) (must (nameGood s r) 11 ∷ [])
+      ∙ ap (first (tests (rootWords s r))) (last _)))
 
   root-broken : (v : ℕ) → v ≢ 0 → rootFault d s ≡ v → RootBreaks s r v
   root-broken v z e =
@@ -74,8 +95,13 @@ module _ (d : Disk) (s : List ℕ) where
   root-fault : (v : ℕ) → RootBreaks s r v → (rootFault d s ≡ v) × (v ≢ 0)
   root-fault v (root-7 a e) = (root-order ∙ fall (sum-test s r) _ (some 6 e) a e, some 6 e)
   root-fault v (root-8 a b e) = (root-order ∙ on (sum-test s r) _ a (fall (kind-test s r) _ (some 7 e) b e), some 7 e)
-  root-fault v (root-4 a b c e) = (root-order ∙ on (sum-test s r) _ a (on (kind-test s r) _ b (fall (fixed-test s r) _ (some 3 e) c e)), some 3 e)
-  root-fault v (root-11 a b c n e) = (root-order ∙ on (sum-test s r) _ a (on (kind-test s r) _ b (on (fixed-test s r) _ c (breaks (name-test s r) (not-good s r n) e))), some 10 e)
+  root-fault v (root-4 a b c e) =
+      (root-order ∙ on (sum-test s r) _ a (on (kind-test s r) _ b (fall (fixed-test s r) _ (some 3 e) c e)), some 3 e)
+  root-fault v (root-11 a b c n e) = (
+    root-order ∙ on (sum-test s r) _ a
+        (on (kind-test s r) _ b (on (fixed-test s r) _ c (breaks (name-test s r) (not-good s r n) e))),
+    some 10 e,
+  )
 
   -- the root up to its name: 7, 8, 4 and 11
   pub root-breaks : (v : ℕ) → ((rootFault d s ≡ v) × (v ≢ 0)) ↔ RootBreaks s r v
@@ -83,14 +109,24 @@ module _ (d : Disk) (s : List ℕ) where
 
   -- and it passes if and only if it is as the law says
   pub root-sound : (rootFault d s ≡ 0) ↔ RootSound s r
-  root-sound = (passed′, λ h. root-order ∙ on (sum-test s r) _ (h .sum) (on (kind-test s r) _ (h .kind) (on (fixed-test s r) _ (h .fixed) (must-passes (nameGood s r) 11 (h .name)))))
+  root-sound = (
+    passed′,
+    λ h. root-order ∙ on (sum-test s r) _ (h .sum)
+        (on (kind-test s r) _ (h .kind)
+        (on (fixed-test s r) _ (h .fixed) (must-passes (nameGood s r) 11 (h .name)))),
+  )
     where
       passed′ : rootFault d s ≡ 0 → RootSound s r
       passed′ e =
           let a = first-zero _ _ (sym root-order ∙ e) in
           let b = first-zero _ _ (a .1) in
           let c = first-zero _ _ (b .1) in
-          record { sum = sum-test s r .passed (a .0); kind = kind-test s r .passed (b .0); fixed = fixed-test s r .passed (c .0); name = name-test s r .passed (c .1) }
+          record {
+            sum = sum-test s r .passed (a .0);
+            kind = kind-test s r .passed (b .0);
+            fixed = fixed-test s r .passed (c .0);
+            name = name-test s r .passed (c .1);
+          }
 
   -- ---- the root's words beside the bitmap key
 
@@ -117,7 +153,9 @@ module _ (d : Disk) (s : List ℕ) where
   map-breaks v = (to, from)
     where
       to : (mapFault d s ≡ v) × (v ≢ 0) → MapBreaks d s v
-      to h = down valid-test _ (h .1) (λ a. map-16 (inl a)) (λ a q. let w = broken zeros-test (h .1) q in map-16 (inr (w .0)) (w .1)) (sym map-order ∙ h .0)
+      to h =
+          down valid-test _ (h .1) (λ a. map-16 (inl a))
+          (λ a q. let w = broken zeros-test (h .1) q in map-16 (inr (w .0)) (w .1)) (sym map-order ∙ h .0)
 
       rest : (OneBitmap s r → ⊥) → v ≡ 16 → (t : Bool) → eqb (wordOf s r 78) 0xFFFFFFFF ≡ t → mapFault d s ≡ v
       rest b e true q = map-order ∙ on valid-test _ (eqb-true _ _ q) (breaks zeros-test b e)
@@ -160,7 +198,13 @@ module _ (d : Disk) (s : List ℕ) (k t i : ℕ) where
   type-test = word-test _ _ 7 (search given depth 8)
 
   link-test : Test 9 (tests links) (Linked → ⊥)
-  link-test = record { gives = search given depth 8; passed = passed′; passes = λ h. be-not _ _ 9 (λ e. h (inl e)) & be-not _ _ 9 (λ e. h (inr (inl e))) & be-not _ _ 9 (λ e. h (inr (inr (inl e)))) & refl }
+  link-test =
+      record {
+        gives = search given depth 8;
+        passed = passed′;
+        passes = λ h. be-not _ _ 9 (λ e. h (inl e)) & be-not _
+            _ 9 (λ e. h (inr (inl e))) & be-not _ _ 9 (λ e. h (inr (inr (inl e)))) & refl;
+      }
     where
       passed′ : tests links ≡ 0 → Linked → ⊥
       passed′ e (inl q) = is-not _ _ 8 (test-at 0 links e refl) q
@@ -196,20 +240,34 @@ module _ (d : Disk) (s : List ℕ) (k t i : ℕ) where
   ties-test =
       record {
         gives = search given depth 8;
-        passed = λ e. record { own = is _ _ 9 (test-at 0 (entryWords s k t) e refl); parent = is _ _ 9 (test-at 1 (entryWords s k t) e refl); link = λ h. is _ _ 9 (sym (pick-true (directory s k) _ _ _ h refl) ∙ test-at 2 (entryWords s k t) e refl) };
+        passed =
+            λ e. record {
+              own = is _ _ 9 (test-at 0 (entryWords s k t) e refl);
+              parent = is _ _ 9 (test-at 1 (entryWords s k t) e refl);
+              link = λ h. is _ _ 9 (sym (pick-true (directory s k) _ _ _ h refl)
+                  ∙ test-at 2 (entryWords s k t) e refl);
+            };
         passes = λ h. be _ _ 10 (h .own) & be _ _ 10 (h .parent) & link′ h (directory s k) refl & refl;
       }
     where
-      link′ : EntryTies s k t → (b : Bool) → directory s k ≡ b → pick (directory s k) (must (eqb (wordOf s k 126) 0) 10) 0 ≡ 0
+      link′ : EntryTies s k t → (b : Bool) → directory s k ≡ b
+          → pick (directory s k) (must (eqb (wordOf s k 126) 0) 10) 0 ≡ 0
       link′ h true e = pick-true (directory s k) _ _ _ e refl ∙ be _ _ 10 (h .link e)
       link′ h false e = pick-false (directory s k) _ _ _ e refl
 
   slot-test : Test 12 (must (eqb (slotOf d (nameOf s k)) i) 12) (slotOf d (nameOf s k) ≡ i)
   slot-test = word-test _ _ 11 (search given depth 8)
 
-  entry-order : entryFault d s k t i ≡ first (must (eqb (sumOf s k) 0) 7) (first (must (eqb (wordOf s k 0) 2) 8) (first (tests links) (first known (first (tests (entryWords s k t)) (first (must (nameGood s k) 11) (must (eqb (slotOf d (nameOf s k)) i) 12))))))
+  entry-order : entryFault d s k t i ≡ first (must (eqb (sumOf s k) 0) 7)
+      (first (must (eqb (wordOf s k 0) 2) 8)
+      (first (tests links) (first known
+      (first (tests (entryWords s k t)) (first (must (nameGood s k) 11) (must (eqb (slotOf d (nameOf s k)) i) 12))))))
   unfolding entryFault
-  entry-order = ap (λ x. first (must (eqb (sumOf s k) 0) 7) (first (must (eqb (wordOf s k 0) 2) 8) x)) (tests-append links (known ∷ (entryWords s k t ++ entryName d s k i)) ∙ ap (λ x. first (tests links) (first known x)) (tests-append (entryWords s k t) (entryName d s k i) ∙ ap (λ x. first (tests (entryWords s k t)) (first (must (nameGood s k) 11) x)) (last _)))
+  entry-order =
+      ap (λ x. first (must (eqb (sumOf s k) 0) 7) (first (must (eqb (wordOf s k 0) 2) 8) x))
+      (tests-append links (known ∷ (entryWords s k t ++ entryName d s k i))
+      ∙ ap (λ x. first (tests links) (first known x)) (tests-append (entryWords s k t) (entryName d s k i)
+      ∙ ap (λ x. first (tests (entryWords s k t)) (first (must (nameGood s k) 11) x)) (last _)))
 
   -- a directory's or a file's w127 is no link's
   apart : Known → Linked → ⊥
@@ -230,26 +288,43 @@ module _ (d : Disk) (s : List ℕ) (k t i : ℕ) where
       (λ c. down known-test _ z (λ n. entry-8 a (λ x. n (x .kind)) (λ x. c (x .kind)))
       (λ n. down ties-test _ z (entry-10 a (record { type = b; kind = n }))
       (λ o. down (name-test s k) _ z (λ g. entry-11 a (record { type = b; kind = n }) o (bad-name s k g))
-      (λ g q. let w = broken slot-test z q in entry-12 a (record { kind = record { type = b; kind = n }; own = o .own; name = g }) o (w .0) (w .1)))))))
+      (λ g q. let w = broken slot-test z q in entry-12 a
+      (record { kind = record { type = b; kind = n }; own = o .own; name = g }) o (w .0) (w .1)))))))
       (sym entry-order ∙ e)
 
   -- past the sum and the types
-  past : {v : ℕ} → sumOf s k ≡ 0 → EntryKind s k → first (tests (entryWords s k t)) (first (must (nameGood s k) 11) (must (eqb (slotOf d (nameOf s k)) i) 12)) ≡ v → entryFault d s k t i ≡ v
-  past a b q = entry-order ∙ on (sum-test s k) _ a (on type-test _ (b .type) (on link-test _ (apart (b .kind)) (on known-test _ (b .kind) q)))
+  past : {v : ℕ} → sumOf s k ≡ 0 → EntryKind s k
+      → first (tests (entryWords s k t)) (first (must (nameGood s k) 11) (must (eqb (slotOf d (nameOf s k)) i) 12))
+      ≡ v
+      → entryFault d s k t i ≡ v
+  past a b q =
+      entry-order ∙ on (sum-test s k) _ a
+      (on type-test _ (b .type) (on link-test _ (apart (b .kind)) (on known-test _ (b .kind) q)))
 
   entry-fault : (v : ℕ) → EntryBreaks d s k t i v → (entryFault d s k t i ≡ v) × (v ≢ 0)
   entry-fault v (entry-7 a e) = (entry-order ∙ fall (sum-test s k) _ (some 6 e) a e, some 6 e)
   entry-fault v (entry-8 a b c e) = (entry-order ∙ on (sum-test s k) _ a (go (eqb (wordOf s k 0) 2) refl), some 7 e)
     where
-      go : (u : Bool) → eqb (wordOf s k 0) 2 ≡ u → first (must (eqb (wordOf s k 0) 2) 8) (first (tests links) (first known (first (tests (entryWords s k t)) (first (must (nameGood s k) 11) (must (eqb (slotOf d (nameOf s k)) i) 12))))) ≡ v
+      go : (u : Bool) → eqb (wordOf s k 0) 2 ≡ u
+          → first (must (eqb (wordOf s k 0) 2) 8)
+          (first (tests links) (first known
+          (first (tests (entryWords s k t))
+          (first (must (nameGood s k) 11) (must (eqb (slotOf d (nameOf s k)) i) 12))))) ≡ v
       go true q =
           let y : wordOf s k 0 ≡ 2 = eqb-true _ _ q in
-          on type-test _ y (on link-test _ (λ x. c (record { type = y; kind = x })) (fall known-test _ (some 7 e) (λ x. b (record { type = y; kind = x })) e))
+          on type-test _ y (on link-test _ (λ x. c (record { type = y; kind = x }))
+          (fall known-test _ (some 7 e) (λ x. b (record { type = y; kind = x })) e))
       go false q = fall type-test _ (some 7 e) (eqb-false _ _ q) e
-  entry-fault v (entry-9 a b e) = (entry-order ∙ on (sum-test s k) _ a (on type-test _ (b .type) (fall link-test _ (some 8 e) (λ h. h (b .kind)) e)), some 8 e)
+  entry-fault v (entry-9 a b e) = (
+    entry-order ∙ on (sum-test s k) _ a
+        (on type-test _ (b .type) (fall link-test _ (some 8 e) (λ h. h (b .kind)) e)),
+    some 8 e,
+  )
   entry-fault v (entry-10 a b c e) = (past a b (fall ties-test _ (some 9 e) c e), some 9 e)
-  entry-fault v (entry-11 a b c n e) = (past a b (on ties-test _ c (fall (name-test s k) _ (some 10 e) (not-good s k n) e)), some 10 e)
-  entry-fault v (entry-12 a b c n e) = (past a (b .kind) (on ties-test _ c (on (name-test s k) _ (b .name) (breaks slot-test n e))), some 11 e)
+  entry-fault v (entry-11 a b c n e) =
+      (past a b (on ties-test _ c (fall (name-test s k) _ (some 10 e) (not-good s k n) e)), some 10 e)
+  entry-fault v (entry-12 a b c n e) =
+      (past a (b .kind) (on ties-test _ c (on (name-test s k) _ (b .name) (breaks slot-test n e))), some 11 e)
 
   -- 7 to 12
   pub entry-breaks : (v : ℕ) → ((entryFault d s k t i ≡ v) × (v ≢ 0)) ↔ EntryBreaks d s k t i v
@@ -257,7 +332,12 @@ module _ (d : Disk) (s : List ℕ) (k t i : ℕ) where
 
   -- and it passes if and only if it is as the law says
   pub entry-sound : (entryFault d s k t i ≡ 0) ↔ EntrySound d s k t i
-  entry-sound = (passed′, λ h. past (h .sum) (h .entry .kind) (on ties-test _ (record { own = h .entry .own; parent = h .parent; link = h .link }) (on (name-test s k) _ (h .entry .name) (slot-test .passes (h .slot)))))
+  entry-sound = (
+    passed′,
+    λ h. past (h .sum) (h .entry .kind)
+        (on ties-test _ (record { own = h .entry .own; parent = h .parent; link = h .link })
+        (on (name-test s k) _ (h .entry .name) (slot-test .passes (h .slot)))),
+  )
     where
       passed′ : entryFault d s k t i ≡ 0 → EntrySound d s k t i
       passed′ e =
@@ -269,7 +349,12 @@ module _ (d : Disk) (s : List ℕ) (k t i : ℕ) where
           let o = ties-test .passed (f .0) in
           record {
             sum = sum-test s k .passed (a .0);
-            entry = record { kind = record { type = type-test .passed (b .0); kind = known-test .passed (c .0) }; own = o .own; name = name-test s k .passed (g .0) };
+            entry =
+                record {
+                  kind = record { type = type-test .passed (b .0); kind = known-test .passed (c .0) };
+                  own = o .own;
+                  name = name-test s k .passed (g .0);
+                };
             parent = o .parent;
             link = o .link;
             slot = slot-test .passed (g .1);
@@ -286,20 +371,28 @@ module _ (s : List ℕ) (k n : ℕ) where
     where
       go : (b : Bool) → leb n slots ≡ b → (wordOf s k 126 ≡ 0) ↔ (n ≤ slots)
       go true h = ((λ _. leb-true n slots h), (λ _. is _ _ 13 (sym (pick-true (leb n slots) _ _ _ h refl) ∙ e)))
-      go false h = ((λ z. absurd (is-not _ _ 13 (sym (pick-false (leb n slots) _ _ _ h refl) ∙ e) z)), (λ l. absurd (omega (arith, leb-false n slots h))))
+      go false h = (
+        (λ z. absurd (is-not _ _ 13 (sym (pick-false (leb n slots) _ _ _ h refl) ∙ e) z)),
+        (λ l. absurd (omega (arith, leb-false n slots h))),
+      )
 
   more-passes : (wordOf s k 126 ≡ 0) ↔ (n ≤ slots) → more ≡ 0
   more-passes f = go (leb n slots) refl
     where
       go : (b : Bool) → leb n slots ≡ b → more ≡ 0
       go true h = pick-true (leb n slots) _ _ _ h refl ∙ be _ _ 14 (f .1 (leb-true n slots h))
-      go false h = pick-false (leb n slots) _ _ _ h refl ∙ be-not _ _ 14 (λ z. omega (arith, leb-false n slots h, f .0 z))
+      go false h =
+          pick-false (leb n slots) _ _ _ h refl ∙ be-not _ _ 14 (λ z. omega (arith, leb-false n slots h, f .0 z))
 
   lists-test : Test 14 (tests (countRules s k n)) (KeyCount s k n)
   lists-test =
       record {
         gives = search given depth 8;
-        passed = λ e. record { count = is _ _ 13 (test-at 0 (countRules s k n) e refl); more = more-passed (test-at 1 (countRules s k n) e refl) };
+        passed =
+            λ e. record {
+              count = is _ _ 13 (test-at 0 (countRules s k n) e refl);
+              more = more-passed (test-at 1 (countRules s k n) e refl);
+            };
         passes = λ p. be _ _ 14 (p .count) & more-passes (p .more) & refl;
       }
 
@@ -309,34 +402,52 @@ module _ (d : Disk) (s : List ℕ) (h : ℕ) where
   abbrev n : ℕ
   n = blocksOf d s h
 
-  header-order : fileFault d s h ≡ first (must (leb (sizeOf s h) (fileLimit d)) 14) (first (tests (countRules s h n)) (tests (emptyRules d s h n)))
+  header-order : fileFault d s h ≡ first (must (leb (sizeOf s h) (fileLimit d)) 14)
+      (first (tests (countRules s h n)) (tests (emptyRules d s h n)))
   unfolding fileFault
-  header-order = ap (first (must (leb (sizeOf s h) (fileLimit d)) 14)) (tests-append (countRules s h n) (emptyRules d s h n))
+  header-order =
+      ap (first (must (leb (sizeOf s h) (fileLimit d)) 14)) (tests-append (countRules s h n) (emptyRules d s h n))
 
   size-test : Test 14 (must (leb (sizeOf s h) (fileLimit d)) 14) (sizeOf s h ≤ fileLimit d)
-  size-test = record { gives = search given depth 8; passed = λ e. leb-true _ _ (must-passed _ 13 e); passes = λ p. must-passes _ 14 (le-leb _ _ p) }
+  size-test =
+      record {
+        gives = search given depth 8;
+        passed = λ e. leb-true _ _ (must-passed _ 13 e);
+        passes = λ p. must-passes _ 14 (le-leb _ _ p);
+      }
 
   empty-test : Test 14 (tests (emptyRules d s h n)) (n ≡ 0 → wordOf s h 4 ≡ 0)
   empty-test =
       record {
         gives = search given depth 8;
-        passed = λ e z. is _ _ 13 (sym (pick-true (eqb n 0) _ _ _ (eq-eqb n 0 z) refl) ∙ test-at 0 (emptyRules d s h n) e refl);
+        passed =
+            λ e z. is _ _ 13 (sym (pick-true (eqb n 0) _ _ _ (eq-eqb n 0 z) refl)
+            ∙ test-at 0 (emptyRules d s h n) e refl);
         passes = λ p. empty p (eqb n 0) refl & refl;
       }
     where
-      empty : (n ≡ 0 → wordOf s h 4 ≡ 0) → (b : Bool) → eqb n 0 ≡ b → pick (eqb n 0) (must (eqb (wordOf s h 4) 0) 14) 0 ≡ 0
+      empty : (n ≡ 0 → wordOf s h 4 ≡ 0) → (b : Bool) → eqb n 0 ≡ b
+          → pick (eqb n 0) (must (eqb (wordOf s h 4) 0) 14) 0 ≡ 0
       empty p true e = pick-true (eqb n 0) _ _ _ e refl ∙ be _ _ 14 (p (eqb-true n 0 e))
       empty p false e = pick-false (eqb n 0) _ _ _ e refl
 
   -- it passes if and only if it is as the law says
   pub header-sound : (fileFault d s h ≡ 0) ↔ HeaderSound d s h
-  header-sound = (passed′, λ p. header-order ∙ on size-test _ (p .size) (on (lists-test s h n) _ (p .lists) (empty-test .passes (p .empty))))
+  header-sound = (
+    passed′,
+    λ p. header-order ∙ on size-test _ (p .size)
+        (on (lists-test s h n) _ (p .lists) (empty-test .passes (p .empty))),
+  )
     where
       passed′ : fileFault d s h ≡ 0 → HeaderSound d s h
       passed′ e =
           let a = first-zero _ _ (sym header-order ∙ e) in
           let b = first-zero _ _ (a .1) in
-          record { size = size-test .passed (a .0); lists = lists-test s h n .passed (b .0); empty = empty-test .passed (b .1) }
+          record {
+            size = size-test .passed (a .0);
+            lists = lists-test s h n .passed (b .0);
+            empty = empty-test .passed (b .1);
+          }
 
   header-test : Test 14 (fileFault d s h) (HeaderSound d s h)
   unfolding fileFault
@@ -367,25 +478,43 @@ module _ (s : List ℕ) (k h n : ℕ) where
       }
 
   owns-test : Test 10 (tests owns) ((wordOf s k 1 ≡ k) × (wordOf s k 125 ≡ h))
-  owns-test = record { gives = search given depth 8; passed = λ e. (is _ _ 9 (test-at 0 owns e refl), is _ _ 9 (test-at 1 owns e refl)); passes = λ p. be _ _ 10 (p .0) & be _ _ 10 (p .1) & refl }
+  owns-test =
+      record {
+        gives = search given depth 8;
+        passed = λ e. (is _ _ 9 (test-at 0 owns e refl), is _ _ 9 (test-at 1 owns e refl));
+        passes = λ p. be _ _ 10 (p .0) & be _ _ 10 (p .1) & refl;
+      }
 
-  list-order : listFault s k h n ≡ first (must (eqb (sumOf s k) 0) 7) (first (tests types) (first (tests owns) (tests (countRules s k n))))
+  list-order : listFault s k h n ≡ first (must (eqb (sumOf s k) 0) 7)
+      (first (tests types) (first (tests owns) (tests (countRules s k n))))
   unfolding listFault
-  list-order = ap (first (must (eqb (sumOf s k) 0) 7)) (tests-append types (owns ++ countRules s k n) ∙ ap (first (tests types)) (tests-append owns (countRules s k n)))
+  list-order =
+      ap (first (must (eqb (sumOf s k) 0) 7)) (tests-append types (owns ++ countRules s k n)
+      ∙ ap (first (tests types)) (tests-append owns (countRules s k n)))
 
   list-broken : (v : ℕ) → v ≢ 0 → listFault s k h n ≡ v → ListBreaks s k h n v
   list-broken v z e =
       down (sum-test s k) _ z list-7
       (λ a. down types-test _ z (list-8 a)
       (λ b. down owns-test _ z (λ c. list-10 a b (λ x. c (x .own, x .parent)))
-      (λ c q. let w = broken (lists-test s k n) z q in list-14 a (record { kind = b; own = c .0; parent = c .1 }) (w .0) (w .1))))
+      (λ c q. let w = broken (lists-test s k n) z q in list-14 a (record { kind = b; own = c .0; parent = c .1 })
+      (w .0) (w .1))))
       (sym list-order ∙ e)
 
   list-fault : (v : ℕ) → ListBreaks s k h n v → (listFault s k h n ≡ v) × (v ≢ 0)
   list-fault v (list-7 a e) = (list-order ∙ fall (sum-test s k) _ (some 6 e) a e, some 6 e)
   list-fault v (list-8 a b e) = (list-order ∙ on (sum-test s k) _ a (fall types-test _ (some 7 e) b e), some 7 e)
-  list-fault v (list-10 a b c e) = (list-order ∙ on (sum-test s k) _ a (on types-test _ b (fall owns-test _ (some 9 e) (λ x. c (record { kind = b; own = x .0; parent = x .1 })) e)), some 9 e)
-  list-fault v (list-14 a b c e) = (list-order ∙ on (sum-test s k) _ a (on types-test _ (b .kind) (on owns-test _ (b .own, b .parent) (breaks (lists-test s k n) c e))), some 13 e)
+  list-fault v (list-10 a b c e) = (
+    list-order ∙ on (sum-test s k) _ a
+        (on types-test _ b (fall owns-test _ (some 9 e) (λ x. c (record { kind = b; own = x .0; parent = x .1 }))
+        e)),
+    some 9 e,
+  )
+  list-fault v (list-14 a b c e) = (
+    list-order ∙ on (sum-test s k) _ a
+        (on types-test _ (b .kind) (on owns-test _ (b .own, b .parent) (breaks (lists-test s k n) c e))),
+    some 13 e,
+  )
 
   -- 7, 8, 10 and 14
   pub list-breaks : (v : ℕ) → ((listFault s k h n ≡ v) × (v ≢ 0)) ↔ ListBreaks s k h n v
@@ -393,7 +522,12 @@ module _ (s : List ℕ) (k h n : ℕ) where
 
   -- and it passes if and only if it is as the law says
   pub list-sound : (listFault s k h n ≡ 0) ↔ ListSound s k h n
-  list-sound = (passed′, λ p. list-order ∙ on (sum-test s k) _ (p .sum) (on types-test _ (p .block .kind) (on owns-test _ (p .block .own, p .block .parent) (lists-test s k n .passes (p .lists)))))
+  list-sound = (
+    passed′,
+    λ p. list-order ∙ on (sum-test s k) _ (p .sum)
+        (on types-test _ (p .block .kind)
+        (on owns-test _ (p .block .own, p .block .parent) (lists-test s k n .passes (p .lists)))),
+  )
     where
       passed′ : listFault s k h n ≡ 0 → ListSound s k h n
       passed′ e =
@@ -402,7 +536,11 @@ module _ (s : List ℕ) (k h n : ℕ) where
           let c = first-zero _ _ (b .1) in
           let y = types-test .passed (b .0) in
           let o = owns-test .passed (c .0) in
-          record { sum = sum-test s k .passed (a .0); block = record { kind = y; own = o .0; parent = o .1 }; lists = lists-test s k n .passed (c .1) }
+          record {
+            sum = sum-test s k .passed (a .0);
+            block = record { kind = y; own = o .0; parent = o .1 };
+            lists = lists-test s k n .passed (c .1);
+          }
 
 -- ---- a data block
 
@@ -411,28 +549,47 @@ module _ (d : Disk) (s : List ℕ) (k h n named : ℕ) where
   z = sizeOf s h
 
   abbrev rest : List ℕ
-  rest = must (eqb (wordOf s k 1) h) 15 ∷ must (eqb (wordOf s k 2) n) 15 ∷ must (eqb (wordOf s k 3) (heldOf d z n)) 15 ∷ dataLinks d s k z n named
+  rest =
+      must (eqb (wordOf s k 1) h) 15 ∷ must (eqb (wordOf s k 2) n) 15 ∷ must (eqb (wordOf s k 3) (heldOf d z n)) 15
+      ∷ dataLinks d s k z n named
 
   data-type-test : Test 8 (must (eqb (wordOf s k 0) 8) 8) (wordOf s k 0 ≡ 8)
   data-type-test = word-test _ _ 7 (search given depth 8)
 
-  data-order : dataFault d s k h z n named ≡ first (must (eqb (sumOf s k) 0) 7) (first (must (eqb (wordOf s k 0) 8) 8) (tests rest))
+  data-order : dataFault d s k h z n named ≡ first (must (eqb (sumOf s k) 0) 7)
+      (first (must (eqb (wordOf s k 0) 8) 8) (tests rest))
   unfolding dataFault
   data-order = refl
 
   -- past the type
   datum-test : wordOf s k 0 ≡ 8 → Test 15 (tests rest) (DataTies d s k h n named)
-  datum-test b = record { gives = search given depth 12; passed = passed′; passes = λ p. be _ _ 15 (p .block .parent) & be _ _ 15 (p .block .number) & be _ _ 15 (p .block .held) & be _ _ 15 (p .here) & end p (eqb n (blocksOf d s h)) refl & refl }
+  datum-test b =
+      record {
+        gives = search given depth 12;
+        passed = passed′;
+        passes = λ p. be _ _ 15 (p .block .parent) & be _ _ 15
+            (p .block .number) & be _ _ 15 (p .block .held) & be _ _ 15 (p .here) & end p (eqb n (blocksOf d s h)) refl
+            & refl;
+      }
     where
       passed′ : tests rest ≡ 0 → DataTies d s k h n named
       passed′ e =
           record {
-            block = record { type = b; parent = is _ _ 14 (test-at 0 rest e refl); number = is _ _ 14 (test-at 1 rest e refl); held = is _ _ 14 (test-at 2 rest e refl) };
+            block =
+                record {
+                  type = b;
+                  parent = is _ _ 14 (test-at 0 rest e refl);
+                  number = is _ _ 14 (test-at 1 rest e refl);
+                  held = is _ _ 14 (test-at 2 rest e refl);
+                };
             here = is _ _ 14 (test-at 3 rest e refl);
-            last = λ y. is _ _ 14 (sym (pick-true (eqb n (blocksOf d s h)) _ _ _ (eq-eqb _ _ y) refl) ∙ test-at 4 rest e refl);
+            last =
+                λ y. is _ _ 14 (sym (pick-true (eqb n (blocksOf d s h)) _ _ _ (eq-eqb _ _ y) refl)
+                ∙ test-at 4 rest e refl);
           }
 
-      end : DataTies d s k h n named → (t : Bool) → eqb n (blocksOf d s h) ≡ t → pick (eqb n (blocksOf d s h)) (must (eqb (wordOf s k 4) 0) 15) 0 ≡ 0
+      end : DataTies d s k h n named → (t : Bool) → eqb n (blocksOf d s h) ≡ t
+          → pick (eqb n (blocksOf d s h)) (must (eqb (wordOf s k 4) 0) 15) 0 ≡ 0
       end p true e = pick-true (eqb n (blocksOf d s h)) _ _ _ e refl ∙ be _ _ 15 (p .last (eqb-true _ _ e))
       end p false e = pick-false (eqb n (blocksOf d s h)) _ _ _ e refl
 
@@ -446,7 +603,8 @@ module _ (d : Disk) (s : List ℕ) (k h n named : ℕ) where
   data-fault : (v : ℕ) → DataBreaks d s k h n named v → (dataFault d s k h z n named ≡ v) × (v ≢ 0)
   data-fault v (data-7 a e) = (data-order ∙ fall (sum-test s k) _ (some 6 e) a e, some 6 e)
   data-fault v (data-8 a b e) = (data-order ∙ on (sum-test s k) _ a (fall data-type-test _ (some 7 e) b e), some 7 e)
-  data-fault v (data-15 a b c e) = (data-order ∙ on (sum-test s k) _ a (on data-type-test _ b (breaks (datum-test b) c e)), some 14 e)
+  data-fault v (data-15 a b c e) =
+      (data-order ∙ on (sum-test s k) _ a (on data-type-test _ b (breaks (datum-test b) c e)), some 14 e)
 
   -- 7, 8 and 15
   pub data-breaks : (v : ℕ) → ((dataFault d s k h (sizeOf s h) n named ≡ v) × (v ≢ 0)) ↔ DataBreaks d s k h n named v
@@ -454,7 +612,11 @@ module _ (d : Disk) (s : List ℕ) (k h n named : ℕ) where
 
   -- and it passes if and only if it is as the law says
   pub data-sound : (dataFault d s k h (sizeOf s h) n named ≡ 0) ↔ ((sumOf s k ≡ 0) × DataTies d s k h n named)
-  data-sound = (passed′, λ p. data-order ∙ on (sum-test s k) _ (p .0) (on data-type-test _ (p .1 .block .type) (datum-test (p .1 .block .type) .passes (p .1))))
+  data-sound = (
+    passed′,
+    λ p. data-order ∙ on (sum-test s k) _ (p .0)
+        (on data-type-test _ (p .1 .block .type) (datum-test (p .1 .block .type) .passes (p .1))),
+  )
     where
       passed′ : dataFault d s k h (sizeOf s h) n named ≡ 0 → (sumOf s k ≡ 0) × DataTies d s k h n named
       passed′ e =
@@ -468,7 +630,10 @@ module _ (d : Disk) (k : ℕ) where
   -- 5 is for every other key
   pub key-inside : (inRange d k ≡ true) ↔ Inside d k
   unfolding inRange pick
-  key-inside = ((λ e. let h = range-is d k e in record { low = h .0; high = h .1 }), (λ h. rw (le-ltb k firstKey (h .low), lt-ltb k (d .blocks) (h .high))))
+  key-inside = (
+    (λ e. let h = range-is d k e in record { low = h .0; high = h .1 }),
+    (λ h. rw (le-ltb k firstKey (h .low), lt-ltb k (d .blocks) (h .high))),
+  )
 
   pub key-outside : (inRange d k ≡ false) ↔ (Inside d k → ⊥)
   key-outside = ((λ e h. let q : inRange d k ≡ true = key-inside .1 h in impossible cc), λ h. go (inRange d k) refl h)

@@ -1,4 +1,5 @@
--- What a test that passes says and what makes it pass; and tests in order, each with its number and what it asks. Assumes nothing.
+-- What a test that passes says and what makes it pass; and tests in order, each with its number and what it asks.
+-- Assumes nothing.
 use Prim.Native.Nat.{ℕ, zero, suc, _+_, _≤_, _<_}
 use mathlib.Core.Path.{_≡_, refl, sym, _∙_}
 use mathlib.Core.Logic.{_≢_, inl, inr}
@@ -51,7 +52,9 @@ unfolding allZero pick
 zeros-there s k i zero e j l h = absurd (omega arith)
 zeros-there s k i (suc n) e j l h = go (eqb (wordOf s k i) 0) refl e (zeros-there s k (suc i) n) (decLt i j)
   where
-    go : (t : Bool) → eqb (wordOf s k i) 0 ≡ t → pick t (allZero s k (suc i) n) false ≡ true → (allZero s k (suc i) n ≡ true → (j : ℕ) → suc i ≤ j → j < suc i + n → wordOf s k j ≡ 0) → Dec (i < j) → wordOf s k j ≡ 0
+    go : (t : Bool) → eqb (wordOf s k i) 0 ≡ t → pick t (allZero s k (suc i) n) false ≡ true
+        → (allZero s k (suc i) n ≡ true → (j : ℕ) → suc i ≤ j → j < suc i + n → wordOf s k j ≡ 0) → Dec (i < j)
+        → wordOf s k j ≡ 0
     go true p e ih (yes q) = ih e j q (omega arith)
     go true p e ih (no q) = let g : j ≡ i = omega arith in rw g (eqb-true (wordOf s k i) 0 p)
     go false p e ih q = impossible cc
@@ -60,7 +63,8 @@ pub zeros-found : (s : List ℕ) (k i n : ℕ) → ((j : ℕ) → i ≤ j → j 
 unfolding allZero pick
 zeros-found s k i zero f = refl
 zeros-found s k i (suc n) f =
-    rw (eq-eqb (wordOf s k i) 0 (f i (omega arith) (omega arith))) (zeros-found s k (suc i) n (λ j l h. f j (omega arith) (omega arith)))
+    rw (eq-eqb (wordOf s k i) 0 (f i (omega arith) (omega arith)))
+    (zeros-found s k (suc i) n (λ j l h. f j (omega arith) (omega arith)))
 
 -- ---- tests in order: x is 0 if and only if P holds, else its number n
 
@@ -113,14 +117,20 @@ last (suc x) = refl
 
 -- ---- tests of one word, or of a Bool
 
-pub word-test : (a b v : ℕ) → Given (suc v ∷ []) (must (eqb a b) (suc v)) → Test (suc v) (must (eqb a b) (suc v)) (a ≡ b)
+pub word-test : (a b v : ℕ) → Given (suc v ∷ []) (must (eqb a b) (suc v))
+    → Test (suc v) (must (eqb a b) (suc v)) (a ≡ b)
 word-test a b v g = record { gives = g; passed = is a b v; passes = be a b (suc v) }
 
 pub sum-test : (s : List ℕ) (k : ℕ) → Test 7 (must (eqb (sumOf s k) 0) 7) (sumOf s k ≡ 0)
 sum-test s k = word-test (sumOf s k) 0 6 (search given depth 8)
 
 pub name-test : (s : List ℕ) (k : ℕ) → Test 11 (must (nameGood s k) 11) (nameGood s k ≡ true)
-name-test s k = record { gives = search given depth 8; passed = must-passed (nameGood s k) 10; passes = must-passes (nameGood s k) 11 }
+name-test s k =
+    record {
+      gives = search given depth 8;
+      passed = must-passed (nameGood s k) 10;
+      passes = must-passes (nameGood s k) 11;
+    }
 
 -- a name that is not good
 pub bad-name : (s : List ℕ) (k : ℕ) → (nameGood s k ≡ true → ⊥) → nameGood s k ≡ false

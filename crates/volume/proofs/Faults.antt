@@ -11,8 +11,11 @@ use Rattle.volume.specs.Disks.{rootOf, fileLimit}
 use Rattle.volume.specs.Blocks.{wordOf, sumOf}
 use Rattle.volume.specs.Names.{nameOf, nameGood, slotOf}
 use Rattle.volume.specs.Files.{dataBlocks}
-use Rattle.volume.specs.Rules.{rootTypes, rootWords, rootFault, allZero, mapFault, bitmapFault, entryTypes, entryWords, entryName, entryFault, countRules, emptyRules, fileFault, listWords, listFault, dataWords, dataLinks, dataFault}
-use Rattle.answers.proofs.Tests.{go, stop, must-le, must-gt, must-true, must-false, must-eq, must-ne, then-go, then-stop}
+use Rattle.volume.specs.Rules.{rootTypes, rootWords, rootFault, allZero, mapFault, bitmapFault, entryTypes}
+use Rattle.volume.specs.Rules.{entryWords, entryName, entryFault, countRules, emptyRules, fileFault, listWords}
+use Rattle.volume.specs.Rules.{listFault, dataWords, dataLinks, dataFault}
+use Rattle.answers.proofs.Tests.{go, stop, must-le, must-gt, must-true, must-false, must-eq, must-ne, then-go}
+use Rattle.answers.proofs.Tests.{then-stop}
 
 -- ---- the root: r is its key, f and g answer the first two parts
 
@@ -24,11 +27,15 @@ module _ (d : Disk) (s : List ℕ) (r f : ℕ) (e : r ≡ rootOf d) (p : f ≡ t
   module _ (z : f ≡ 0) (g : ℕ) (h : g ≡ tests (rootWords s r)) where
     pub root-words : (g ≡ 0 → ⊥) → g ≡ rootFault d s
     unfolding rootFault
-    root-words q = rw (← e) (then-go g f (rootTypes s r) (rootWords s r ++ (must (nameGood s r) 11 ∷ [])) p z (then-stop g (rootWords s r) (must (nameGood s r) 11 ∷ []) h q))
+    root-words q =
+        rw (← e) (then-go g f (rootTypes s r) (rootWords s r ++ (must (nameGood s r) 11 ∷ [])) p z
+        (then-stop g (rootWords s r) (must (nameGood s r) 11 ∷ []) h q))
 
     pub root-name : (v : ℕ) → g ≡ 0 → v ≡ tests (must (nameGood s r) 11 ∷ []) → v ≡ rootFault d s
     unfolding rootFault
-    root-name v q n = rw (← e) (then-go v f (rootTypes s r) (rootWords s r ++ (must (nameGood s r) 11 ∷ [])) p z (then-go v g (rootWords s r) (must (nameGood s r) 11 ∷ []) h q n))
+    root-name v q n =
+        rw (← e) (then-go v f (rootTypes s r) (rootWords s r ++ (must (nameGood s r) 11 ∷ [])) p z
+        (then-go v g (rootWords s r) (must (nameGood s r) 11 ∷ []) h q n))
 
 -- a name alone
 module _ (s : List ℕ) (k : ℕ) (t : Bool) (h : t ≡ nameGood s k) where
@@ -66,11 +73,15 @@ module _ (d : Disk) (s : List ℕ) (r w : ℕ) (e : r ≡ rootOf d) (h : w ≡ w
   module _ (v : w ≡ 0xFFFFFFFF) (t : Bool) (u : t ≡ allZero s r 80 25) where
     pub map-good : t ≡ true → 0 ≡ mapFault d s
     unfolding mapFault
-    map-good q = rw (← e) (go 0 _ _ (must-eq 16 w (wordOf s r 78) 0xFFFFFFFF h v) (go 0 _ _ (must-true 16 t (allZero s r 80 25) u q) refl))
+    map-good q =
+        rw (← e) (go 0 _ _ (must-eq 16 w (wordOf s r 78) 0xFFFFFFFF h v)
+        (go 0 _ _ (must-true 16 t (allZero s r 80 25) u q) refl))
 
     pub map-rest : t ≡ false → 16 ≡ mapFault d s
     unfolding mapFault
-    map-rest q = rw (← e) (go 16 _ _ (must-eq 16 w (wordOf s r 78) 0xFFFFFFFF h v) (stop 16 _ _ tt (must-false 16 t (allZero s r 80 25) u q)))
+    map-rest q =
+        rw (← e) (go 16 _ _ (must-eq 16 w (wordOf s r 78) 0xFFFFFFFF h v)
+        (stop 16 _ _ tt (must-false 16 t (allZero s r 80 25) u q)))
 
 -- ---- the bitmap block
 
@@ -93,11 +104,15 @@ module _ (d : Disk) (s : List ℕ) (k t slot f : ℕ) (p : f ≡ tests (entryTyp
   module _ (z : f ≡ 0) (g : ℕ) (e : g ≡ tests (entryWords s k t)) where
     pub entry-words : (g ≡ 0 → ⊥) → g ≡ entryFault d s k t slot
     unfolding entryFault
-    entry-words q = then-go g f (entryTypes s k) (entryWords s k t ++ entryName d s k slot) p z (then-stop g (entryWords s k t) (entryName d s k slot) e q)
+    entry-words q =
+        then-go g f (entryTypes s k) (entryWords s k t ++ entryName d s k slot) p z
+        (then-stop g (entryWords s k t) (entryName d s k slot) e q)
 
     pub entry-name : (v : ℕ) → g ≡ 0 → v ≡ tests (entryName d s k slot) → v ≡ entryFault d s k t slot
     unfolding entryFault
-    entry-name v q n = then-go v f (entryTypes s k) (entryWords s k t ++ entryName d s k slot) p z (then-go v g (entryWords s k t) (entryName d s k slot) e q n)
+    entry-name v q n =
+        then-go v f (entryTypes s k) (entryWords s k t ++ entryName d s k slot) p z
+        (then-go v g (entryWords s k t) (entryName d s k slot) e q n)
 
 -- its name and slot: t whether the name is good, w its slot
 module _ (d : Disk) (s : List ℕ) (k slot : ℕ) (t : Bool) (h : t ≡ nameGood s k) where
@@ -106,10 +121,12 @@ module _ (d : Disk) (s : List ℕ) (k slot : ℕ) (t : Bool) (h : t ≡ nameGood
 
   module _ (v : t ≡ true) (w : ℕ) (e : w ≡ slotOf d (nameOf s k)) where
     pub entry-strays : (w ≡ slot → ⊥) → 12 ≡ tests (entryName d s k slot)
-    entry-strays q = go 12 _ _ (must-true 11 t (nameGood s k) h v) (stop 12 _ _ tt (must-ne 12 w (slotOf d (nameOf s k)) slot e q))
+    entry-strays q =
+        go 12 _ _ (must-true 11 t (nameGood s k) h v) (stop 12 _ _ tt (must-ne 12 w (slotOf d (nameOf s k)) slot e q))
 
     pub entry-hangs : w ≡ slot → 0 ≡ tests (entryName d s k slot)
-    entry-hangs q = go 0 _ _ (must-true 11 t (nameGood s k) h v) (go 0 _ _ (must-eq 12 w (slotOf d (nameOf s k)) slot e q) refl)
+    entry-hangs q =
+        go 0 _ _ (must-true 11 t (nameGood s k) h v) (go 0 _ _ (must-eq 12 w (slotOf d (nameOf s k)) slot e q) refl)
 
 -- ---- a file: its size z, its number of data blocks n, f the answer of its count and link
 
@@ -121,11 +138,15 @@ module _ (d : Disk) (s : List ℕ) (k z limit : ℕ) (h : z ≡ wordOf s k 81) (
   module _ (q : z ≤ limit) (n f : ℕ) (e : n ≡ dataBlocks d z) (p : f ≡ tests (countRules s k n)) where
     pub file-count : (f ≡ 0 → ⊥) → f ≡ fileFault d s k
     unfolding fileFault
-    file-count u = rw (← h, ← e) (go f _ _ (rw h (must-le 14 z limit (wordOf s k 81) (fileLimit d) h l q)) (then-stop f (countRules s k n) (emptyRules d s k n) p u))
+    file-count u =
+        rw (← h, ← e) (go f _ _ (rw h (must-le 14 z limit (wordOf s k 81) (fileLimit d) h l q))
+        (then-stop f (countRules s k n) (emptyRules d s k n) p u))
 
     pub file-empty : (v : ℕ) → f ≡ 0 → v ≡ tests (emptyRules d s k n) → v ≡ fileFault d s k
     unfolding fileFault
-    file-empty v u g = rw (← h, ← e) (go v _ _ (rw h (must-le 14 z limit (wordOf s k 81) (fileLimit d) h l q)) (then-go v f (countRules s k n) (emptyRules d s k n) p u g))
+    file-empty v u g =
+        rw (← h, ← e) (go v _ _ (rw h (must-le 14 z limit (wordOf s k 81) (fileLimit d) h l q))
+        (then-go v f (countRules s k n) (emptyRules d s k n) p u g))
 
 -- ---- a list block: f and v answer its two parts
 

@@ -16,4 +16,17 @@ key-range k = (
 
 pub floppy-numerals : Numerals floppy
 unfolding dataBytes dataStart
-floppy-numerals = record { blocks = refl; image = refl; claim = refl; tag = refl; root = refl; keys = key-range; span = refl; chain = refl; data-bytes = refl; data-start = refl; file = refl }
+floppy-numerals =
+    record {
+      blocks = refl;
+      image = refl;
+      claim = refl;
+      tag = refl;
+      root = refl;
+      keys = key-range;
+      span = refl;
+      chain = refl;
+      data-bytes = refl;
+      data-start = refl;
+      file = refl;
+    }

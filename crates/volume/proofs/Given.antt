@@ -5,7 +5,9 @@ use mathlib.Core.List.{List, [], _∷_}
 use Rattle.answers.specs.Members.{_∈_}
 use Rattle.answers.proofs.Members.{listed}
 use Rattle.volume.specs.declared.disk.Disk.{Disk}
-use Rattle.volume.specs.Breaks.{RootBreaks, root-7, root-8, root-4, root-11, EntryBreaks, entry-7, entry-8, entry-9, entry-10, entry-11, entry-12, HeaderBreaks, header-14, ListBreaks, list-7, list-8, list-10, list-14, DataBreaks, data-7, data-8, data-15}
+use Rattle.volume.specs.Breaks.{RootBreaks, root-7, root-8, root-4, root-11, EntryBreaks, entry-7, entry-8}
+use Rattle.volume.specs.Breaks.{entry-9, entry-10, entry-11, entry-12, HeaderBreaks, header-14, ListBreaks}
+use Rattle.volume.specs.Breaks.{list-7, list-8, list-10, list-14, DataBreaks, data-7, data-8, data-15}
 
 abbrev pub rootRefusals : List ℕ
 rootRefusals = 4 ∷ 7 ∷ 8 ∷ 11 ∷ []

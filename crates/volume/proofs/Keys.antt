@@ -32,12 +32,18 @@ module _ (s : List ℕ) where
   unfolding keysFrom
   from-long n [] = omega arith
   from-long n (b ∷ bs) =
-      rw (length-append (keysDown s b 0 (min n slots)) (keysFrom s (n - slots) bs), down-long b 0 (min n slots), from-long (n - slots) bs)
+      rw (
+        length-append (keysDown s b 0 (min n slots)) (keysFrom s (n - slots) bs),
+        down-long b 0 (min n slots),
+        from-long (n - slots) bs,
+      )
       (omega arith)
 
 -- all of them
 pub keys-long : (d : Disk) (s : List ℕ) (h : ℕ) → length (keysOf d s h) ≡ blocksOf d s h
-keys-long d s h = from-long s (blocksOf d s h) (h ∷ listsOf d s h) ∙ rw (lists-long s h (listBlocks (blocksOf d s h))) (few (blocksOf d s h))
+keys-long d s h =
+    from-long s (blocksOf d s h) (h ∷ listsOf d s h) ∙ rw (lists-long s h (listBlocks (blocksOf d s h)))
+    (few (blocksOf d s h))
   where
     few : (n : ℕ) → min n (slots * suc (listBlocks n)) ≡ n
     few n = omega arith

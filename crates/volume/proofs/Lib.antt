@@ -9,7 +9,8 @@ pub mod Names
 pub mod Faults
 -- tests that pass, and tests in order
 pub mod Checks
--- a block passes its tests if and only if it is as the law says, and gives a number if and only if it breaks the law as that number says
+-- a block passes its tests if and only if it is as the law says, and gives a number if and only if it breaks the law
+-- as that number says
 pub mod Breaks
 -- what a block that passes is, part by part
 pub mod Passes

@@ -14,7 +14,8 @@ use Rattle.volume.specs.declared.disk.Disk.{Disk}
 use Rattle.answers.specs.Tests.{pick}
 use Rattle.answers.proofs.Clashes.{impossible}
 use Rattle.volume.specs.Blocks.{Holds, slots}
-use Rattle.volume.specs.Names.{foldPlain, foldOf, folded, hashFrom, slotOf, allowed, same, longest, nameLength, nameFrom, nameOf, nameGood}
+use Rattle.volume.specs.Names.{foldPlain, foldOf, folded, hashFrom, slotOf, allowed, same, longest, nameLength}
+use Rattle.volume.specs.Names.{nameFrom, nameOf, nameGood}
 
 -- ---- folding twice is folding once
 
@@ -75,7 +76,8 @@ same-map d [] (y ∷ ys) e = cc
 same-map d (x ∷ xs) [] e = cc
 same-map d (x ∷ xs) (y ∷ ys) e = go (eqb (foldOf d x) (foldOf d y)) refl e (same-map d xs ys)
   where
-    go : (t : Bool) → eqb (foldOf d x) (foldOf d y) ≡ t → pick t (same d xs ys) false ≡ true → (same d xs ys ≡ true → folded d xs ≡ folded d ys) → folded d (x ∷ xs) ≡ folded d (y ∷ ys)
+    go : (t : Bool) → eqb (foldOf d x) (foldOf d y) ≡ t → pick t (same d xs ys) false ≡ true
+        → (same d xs ys ≡ true → folded d xs ≡ folded d ys) → folded d (x ∷ xs) ≡ folded d (y ∷ ys)
     go true p q ih = let f = eqb-true (foldOf d x) (foldOf d y) p in let g = ih q in cc
     go false p q ih = cc
 
@@ -92,7 +94,8 @@ map-same d (x ∷ xs) (y ∷ ys) e =
 -- ---- a range of bytes, the first of which is taken off
 
 module _ (s : List ℕ) (f t : ℕ) (p : f < t) (q : t ≤ length s) where
-  pub hash-step : (d : Disk) (h : ℕ) → hashFrom d ((13 * h + foldOf d (getD s f 0)) % 2048) (slice (f + 1) t s) ≡ hashFrom d h (slice f t s)
+  pub hash-step : (d : Disk) (h : ℕ)
+      → hashFrom d ((13 * h + foldOf d (getD s f 0)) % 2048) (slice (f + 1) t s) ≡ hashFrom d h (slice f t s)
   unfolding hashFrom
   hash-step d h = rw (add-one, slice-cons f t s 0 p q)
 
@@ -109,7 +112,8 @@ module _ (s : List ℕ) (f t : ℕ) (p : f < t) (q : t ≤ length s) where
   allowed-colon m n = rw (slice-cons f t s 0 p q, ne-eqb _ _ m, eq-eqb _ _ n)
 
   module _ (d : Disk) (s′ : List ℕ) (f′ t′ : ℕ) (p′ : f′ < t′) (q′ : t′ ≤ length s′) where
-    pub same-step : foldOf d (getD s f 0) ≡ foldOf d (getD s′ f′ 0) → same d (slice (f + 1) t s) (slice (f′ + 1) t′ s′) ≡ same d (slice f t s) (slice f′ t′ s′)
+    pub same-step : foldOf d (getD s f 0) ≡ foldOf d (getD s′ f′ 0)
+        → same d (slice (f + 1) t s) (slice (f′ + 1) t′ s′) ≡ same d (slice f t s) (slice f′ t′ s′)
     unfolding same pick
     same-step e = rw (add-one, add-one, slice-cons f t s 0 p q, slice-cons f′ t′ s′ 0 p′ q′, eq-eqb _ _ e)
 
@@ -151,7 +155,8 @@ module _ (s : List ℕ) (k n : ℕ) (h : n ≡ nameLength s k) where
   unfolding nameGood pick
   name-long p q = rw (← h, le-leb 1 n p, lt-leb n longest q)
 
-  pub name-is : (f : ℕ) (r : Bool) → 1 ≤ n → n ≤ longest → f ≡ nameFrom k → r ≡ allowed (slice f (f + n) s) → r ≡ nameGood s k
+  pub name-is : (f : ℕ) (r : Bool) → 1 ≤ n → n ≤ longest → f ≡ nameFrom k → r ≡ allowed (slice f (f + n) s)
+      → r ≡ nameGood s k
   unfolding nameGood pick
   name-is f r p q g e = rw (← h, ← g, le-leb 1 n p, le-leb n longest q) e
 
@@ -168,15 +173,24 @@ name-short s k r e q = go (leb 1 n) (leb n longest) (allowed (nameOf s k)) refl 
     go false b c p q = impossible cc
 
 -- a block's name, of n bytes, and another: of different lengths, or of one
-module _ (d : Disk) (s : List ℕ) (k n : ℕ) (i : Holds s k) (p : nameLength s k ≤ longest) (h : n ≡ nameLength s k) (t : List ℕ) (at len : ℕ) (q : at + len ≤ length t) where
+module _ (d : Disk) (s : List ℕ) (k n : ℕ) (i : Holds s k) (p : nameLength s k ≤ longest) (h : n ≡ nameLength s k)
+    (t : List ℕ) (at len : ℕ) (q : at + len ≤ length t) where
   pub named-long : (n ≡ len → ⊥) → false ≡ same d (nameOf s k) (slice at (at + len) t)
-  named-long e = same-long d (nameOf s k) (slice at (at + len) t) (λ l. e (omega (arith, sym (length-slice (nameFrom k) (nameFrom k + nameLength s k) s (omega arith)) ∙ l ∙ length-slice at (at + len) t q)))
+  named-long e =
+      same-long d (nameOf s k) (slice at (at + len) t)
+      (λ l. e (omega (
+        arith,
+        sym (length-slice (nameFrom k) (nameFrom k + nameLength s k) s (omega arith)) ∙ l
+            ∙ length-slice at (at + len) t q,
+      )))
 
-  pub named-is : (f : ℕ) (r : Bool) → n ≡ len → f ≡ nameFrom k → r ≡ same d (slice f (f + n) s) (slice at (at + n) t) → r ≡ same d (nameOf s k) (slice at (at + len) t)
+  pub named-is : (f : ℕ) (r : Bool) → n ≡ len → f ≡ nameFrom k → r ≡ same d (slice f (f + n) s) (slice at (at + n) t)
+      → r ≡ same d (nameOf s k) (slice at (at + len) t)
   named-is f r e g u = rw (← h, ← g, ← e) u
 
 -- the slot of a part, from the hash that its loop ends with
-pub slot-is : (d : Disk) (s : List ℕ) (at n h : ℕ) → at + n ≤ length s → h ≡ hashFrom d n (slice at (at + n) s) → h % slots ≡ slotOf d (slice at (at + n) s)
+pub slot-is : (d : Disk) (s : List ℕ) (at n h : ℕ) → at + n ≤ length s → h ≡ hashFrom d n (slice at (at + n) s)
+    → h % slots ≡ slotOf d (slice at (at + n) s)
 unfolding slotOf
 slot-is d s at n h q e =
     let k : at + n - at ≡ n = omega arith in

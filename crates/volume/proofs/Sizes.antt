@@ -42,7 +42,8 @@ module _ (d : Disk) where
   -- ---- a key in range lies between the boot blocks and the end
 
   module _ (k : ℕ) where
-    range-go : (t : Bool) → ltb k firstKey ≡ t → pick t false (ltb k (d .blocks)) ≡ true → (firstKey ≤ k) × (k < d .blocks)
+    range-go : (t : Bool) → ltb k firstKey ≡ t → pick t false (ltb k (d .blocks)) ≡ true
+        → (firstKey ≤ k) × (k < d .blocks)
     unfolding pick
     range-go true e p = impossible cc
     range-go false e p = (ltb-false k firstKey e, ltb-true k (d .blocks) p)

@@ -1,5 +1,5 @@
--- The bitmap block has a bit for each block from 2 on, 32 to a word from w1 on, the lowest first; 1 is free (docs/FORMAT.md, "Blocks of a
--- volume", Bitmap block).
+-- The bitmap block has a bit for each block from 2 on, 32 to a word from w1 on, the lowest first; 1 is free
+-- (docs/FORMAT.md, "Blocks of a volume", Bitmap block).
 use Prim.Native.Nat.{ℕ, _+_, _-_, _/_, _%_, _^_}
 use mathlib.Core.Bool.{Bool}
 use mathlib.Core.List.{List}

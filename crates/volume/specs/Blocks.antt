@@ -1,4 +1,5 @@
--- A block is 128 words, w0 to w127; 72 of them are hash slots, or keys of data blocks (docs/FORMAT.md, "What is built", "Blocks of a volume").
+-- A block is 128 words, w0 to w127; 72 of them are hash slots, or keys of data blocks (docs/FORMAT.md, "What is
+-- built", "Blocks of a volume").
 use Prim.Native.Nat.{ℕ, _+_, _-_, _*_, _≤_}
 use mathlib.Core.Bool.{Bool}
 use mathlib.Core.List.{List}

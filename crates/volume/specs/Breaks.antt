@@ -1,5 +1,6 @@
--- What each number says of a block, in the words of the law (docs/FORMAT.md, "Numbers"): for each kind of block a constructor for each number. It
--- names the rule that is broken, and those that hold because they are tested before it.
+-- What each number says of a block, in the words of the law (docs/FORMAT.md, "Numbers"): for each kind of block a
+-- constructor for each number. It names the rule that is broken, and those that hold because they are tested before
+-- it.
 use Prim.Native.Nat.{ℕ, _≤_, _<_}
 use mathlib.Core.Path.{_≡_}
 use mathlib.Core.Logic.{_≢_, _⊎_}
@@ -9,10 +10,12 @@ use Rattle.answers.specs.Numbers as fault
 use Rattle.reach.specs.References.{At, _∈_}
 use Rattle.volume.specs.declared.disk.Disk.{Disk}
 use Rattle.volume.specs.Disks.{firstKey, rootOf, fileLimit}
-use Rattle.volume.specs.Blocks.{slots, wordOf, sumOf, directory, headerType, dataType, softLink, directoryLink, fileLink}
+use Rattle.volume.specs.Blocks.{slots, wordOf, sumOf, directory, headerType, dataType, softLink, directoryLink}
+use Rattle.volume.specs.Blocks.{fileLink}
 use Rattle.volume.specs.Names.{nameOf, nameGood, slotOf}
 use Rattle.volume.specs.Files.{sizeOf, blocksOf, keysOf}
-use Rattle.volume.specs.Law.{RootKind, RootFixed, OneBitmap, Valid, EntryKind, Entry, KeyCount, ListKind, ListBlock, DataBlock}
+use Rattle.volume.specs.Law.{RootKind, RootFixed, OneBitmap, Valid, EntryKind, Entry, KeyCount, ListKind}
+use Rattle.volume.specs.Law.{ListBlock, DataBlock}
 
 -- ---- a key: 5 if it lies outside the volume
 
@@ -72,8 +75,10 @@ pub data EntryBreaks (d : Disk) (s : List ℕ) (k t i v : ℕ) : Type 0 where
   entry-8 : sumOf s k ≡ 0 → (EntryKind s k → ⊥) → (Link s k → ⊥) → v ≡ fault.blockType → EntryBreaks d s k t i v
   entry-9 : sumOf s k ≡ 0 → Link s k → v ≡ fault.link → EntryBreaks d s k t i v
   entry-10 : sumOf s k ≡ 0 → EntryKind s k → (EntryTies s k t → ⊥) → v ≡ fault.wrongTies → EntryBreaks d s k t i v
-  entry-11 : sumOf s k ≡ 0 → EntryKind s k → EntryTies s k t → nameGood s k ≡ false → v ≡ fault.badName → EntryBreaks d s k t i v
-  entry-12 : sumOf s k ≡ 0 → Entry s k → EntryTies s k t → slotOf d (nameOf s k) ≢ i → v ≡ fault.wrongSlot → EntryBreaks d s k t i v
+  entry-11 : sumOf s k ≡ 0 → EntryKind s k → EntryTies s k t → nameGood s k ≡ false → v ≡ fault.badName
+      → EntryBreaks d s k t i v
+  entry-12 : sumOf s k ≡ 0 → Entry s k → EntryTies s k t → slotOf d (nameOf s k) ≢ i → v ≡ fault.wrongSlot
+      → EntryBreaks d s k t i v
 
 -- ---- a file, by its header h: 14
 
@@ -116,4 +121,5 @@ pub record DataTies (d : Disk) (s : List ℕ) (k h n named : ℕ) : Type 0 where
 pub data DataBreaks (d : Disk) (s : List ℕ) (k h n named v : ℕ) : Type 0 where
   data-7 : sumOf s k ≢ 0 → v ≡ fault.blockSum → DataBreaks d s k h n named v
   data-8 : sumOf s k ≡ 0 → wordOf s k 0 ≢ dataType → v ≡ fault.blockType → DataBreaks d s k h n named v
-  data-15 : sumOf s k ≡ 0 → wordOf s k 0 ≡ dataType → (DataTies d s k h n named → ⊥) → v ≡ fault.dataLayout → DataBreaks d s k h n named v
+  data-15 : sumOf s k ≡ 0 → wordOf s k 0 ≡ dataType → (DataTies d s k h n named → ⊥) → v ≡ fault.dataLayout
+      → DataBreaks d s k h n named v

@@ -1,5 +1,6 @@
--- A disk has a number of blocks and a kind, the last byte of its boot tag. All its other numbers follow from these two (docs/FORMAT.md,
--- "What is built"): nothing above this file knows them as numbers, but `Floppy` and what is said of the exported calls.
+-- A disk has a number of blocks and a kind, the last byte of its boot tag. All its other numbers follow from these
+-- two (docs/FORMAT.md, "What is built"): nothing above this file knows them as numbers, but `Floppy` and what is said
+-- of the exported calls.
 use Prim.Native.Nat.{ℕ, _+_, _-_, _*_, _/_, _≤_}
 use mathlib.Core.Path.{_≡_}
 use mathlib.Core.Bool.{Bool, false}
@@ -21,7 +22,8 @@ firstKey = 2
 abbrev pub mostBlocks : ℕ
 mostBlocks = firstKey + 32 * 127
 
--- the disks that the definitions are meant for: boot blocks, root, bitmap block and a file fit, one bitmap block serves them, and their kind exists
+-- the disks that the definitions are meant for: boot blocks, root, bitmap block and a file fit, one bitmap block
+-- serves them, and their kind exists
 pub record Sized (d : Disk) : Type 0 where
   pub least : 8 ≤ d .blocks
   pub most : d .blocks ≤ mostBlocks

@@ -1,5 +1,5 @@
--- A file's size gives its number of data blocks. Its header lists the keys of the first 72, and list blocks those of the rest, each 72 but the
--- last (docs/FORMAT.md, "Blocks of a volume", File and List block).
+-- A file's size gives its number of data blocks. Its header lists the keys of the first 72, and list blocks those of
+-- the rest, each 72 but the last (docs/FORMAT.md, "Blocks of a volume", File and List block).
 use Prim.Native.Nat.{ℕ, zero, suc, _+_, _-_, _*_, _/_, min}
 use mathlib.Core.List.{List, [], _∷_, _++_}
 use Rattle.volume.specs.declared.disk.Disk.{Disk}

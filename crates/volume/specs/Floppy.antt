@@ -4,7 +4,8 @@ use mathlib.Core.Path.{_≡_}
 use mathlib.Core.Logic.{_↔_}
 use mathlib.Core.Bool.{true}
 use Rattle.volume.specs.declared.disk.Disk.{Disk}
-use Rattle.volume.specs.Disks.{imageBytes, claimBytes, tagOf, rootOf, inRange, bitSpan, chainLimit, dataBytes, dataStart, fileLimit}
+use Rattle.volume.specs.Disks.{imageBytes, claimBytes, tagOf, rootOf, inRange, bitSpan, chainLimit, dataBytes}
+use Rattle.volume.specs.Disks.{dataStart, fileLimit}
 
 pub record Numerals (d : Disk) : Type 0 where
   pub blocks : d .blocks ≡ 1760

@@ -1,6 +1,6 @@
--- The law of a volume: one field for each rule of docs/FORMAT.md, "Blocks of a volume". It mentions no walk. What is reached, and that
--- each block is owned once, is said of `references` by crate `reach`. `Tree` is all of the law but w78 and the bits; `Volume` is `Tree`, w78
--- and the bits.
+-- The law of a volume: one field for each rule of docs/FORMAT.md, "Blocks of a volume". It mentions no walk. What is
+-- reached, and that each block is owned once, is said of `references` by crate `reach`. `Tree` is all of the law but
+-- w78 and the bits; `Volume` is `Tree`, w78 and the bits.
 use Prim.Native.Nat.{ℕ, zero, suc, _+_, _-_, _*_, _≤_, _<_}
 use mathlib.Core.Path.{_≡_}
 use mathlib.Core.Logic.{_≢_, _⊎_, _↔_}
@@ -11,7 +11,8 @@ use Rattle.words.specs.Word.{wordAt}
 use Rattle.reach.specs.References.{At, _∈_, Reached, Owned}
 use Rattle.volume.specs.declared.disk.Disk.{Disk}
 use Rattle.volume.specs.Disks.{firstKey, imageBytes, tagOf, rootOf, fileLimit}
-use Rattle.volume.specs.Blocks.{slots, wordOf, sumOf, slotWord, directory, headerType, listType, dataType, rootKind, directoryKind, fileKind}
+use Rattle.volume.specs.Blocks.{slots, wordOf, sumOf, slotWord, directory, headerType, listType, dataType}
+use Rattle.volume.specs.Blocks.{rootKind, directoryKind, fileKind}
 use Rattle.volume.specs.Names.{folded, slotOf, nameOf, nameGood}
 use Rattle.volume.specs.Files.{heldOf, keysHere, sizeOf, blocksOf, listsOf, keysOf}
 use Rattle.volume.specs.Bitmap.{isFree}
@@ -66,7 +67,9 @@ pub record Hangs (s : List ℕ) (t i k : ℕ) : Type 0 where
   pub there : chainKey s (slotWord s t i) position ≡ k
   pub some : k ≢ 0
 
--- ---- a directory, block t, the root too: its entries know it, hang in their own names' slots, and no two have equal folded names
+-- ---- a directory, block t, the root too
+
+-- its entries know it, hang in their own names' slots, and no two have equal folded names
 
 pub record Directory (d : Disk) (s : List ℕ) (t : ℕ) : Type 0 where
   pub parent : (i k : ℕ) → Hangs s t i k → wordOf s k 125 ≡ t
@@ -115,7 +118,8 @@ pub record Tree (d : Disk) (s : List ℕ) : Type 0 where
   pub top : Root s (rootOf d)
   pub entries : (k : ℕ) → Reached (references d s) (to entry k) → Entry s k
   pub holds : Directory d s (rootOf d)
-  pub directories : (k : ℕ) → Reached (references d s) (to entry k) → directory s k ≡ true → (wordOf s k 126 ≡ 0) × Directory d s k
+  pub directories : (k : ℕ) → Reached (references d s) (to entry k) → directory s k ≡ true
+      → (wordOf s k 126 ≡ 0) × Directory d s k
   pub files : (k : ℕ) → Reached (references d s) (to entry k) → directory s k ≡ false → File d s k
   pub owned : Owned (references d s)
 

@@ -1,5 +1,5 @@
--- What the contracts of `volume` cite, and the law of a volume. To read the law: Disks, Blocks, Names, Files, Bitmap, References, Law.
--- a disk's own numbers
+-- What the contracts of `volume` cite, and the law of a volume. To read the law: Disks, Blocks, Names, Files, Bitmap,
+-- References, Law. a disk's own numbers
 pub mod Disks
 -- a block and its words
 pub mod Blocks

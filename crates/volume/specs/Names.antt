@@ -1,4 +1,5 @@
--- A name is 1 to 30 bytes without '/' and ':'; names are compared and hashed folded (docs/FORMAT.md, "Blocks of a volume", Name and Hash).
+-- A name is 1 to 30 bytes without '/' and ':'; names are compared and hashed folded (docs/FORMAT.md, "Blocks of a
+-- volume", Name and Hash).
 use Prim.Native.Nat.{ℕ, _+_, _-_, _*_, _%_}
 use mathlib.Core.Bool.{Bool, true, false}
 use mathlib.Core.List.{List, [], _∷_, map}

@@ -1,5 +1,6 @@
--- What a block refers to. That depends on the kind in which it is asked for: a directory has slots and a link, a file data keys and links, a
--- list block data keys and a link, and the root the key of the bitmap block (docs/FORMAT.md, "Blocks of a volume", Reached).
+-- What a block refers to. That depends on the kind in which it is asked for: a directory has slots and a link, a file
+-- data keys and links, a list block data keys and a link, and the root the key of the bitmap block (docs/FORMAT.md,
+-- "Blocks of a volume", Reached).
 use Prim.Native.Nat.{ℕ, zero, suc, _+_}
 use mathlib.Core.List.{List, [], _∷_, _++_, map}
 use Rattle.reach.specs.References.{References}

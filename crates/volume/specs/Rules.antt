@@ -1,5 +1,6 @@
--- The tests of one block of each kind, in the order in which they are made, each with its number (docs/FORMAT.md, "Order of the walk" and
--- "Numbers"). What a block is asked as, and by whom, comes as arguments; 5, 6 and 13 belong to the walk.
+-- The tests of one block of each kind, in the order in which they are made, each with its number (docs/FORMAT.md,
+-- "Order of the walk" and "Numbers"). What a block is asked as, and by whom, comes as arguments; 5, 6 and 13 belong
+-- to the walk.
 use Prim.Native.Nat.{ℕ, zero, suc, _+_}
 use mathlib.Core.Bool.{Bool, true, false}
 use mathlib.Core.List.{List, [], _∷_, _++_}
@@ -8,7 +9,8 @@ use Rattle.volume.specs.declared.disk.Disk.{Disk}
 use Rattle.answers.specs.Numbers as fault
 use Rattle.answers.specs.Tests.{pick, must, never, tests}
 use Rattle.volume.specs.Disks.{rootOf, fileLimit}
-use Rattle.volume.specs.Blocks.{slots, wordOf, sumOf, directory, headerType, listType, dataType, rootKind, fileKind, softLink, directoryLink, fileLink}
+use Rattle.volume.specs.Blocks.{slots, wordOf, sumOf, directory, headerType, listType, dataType, rootKind}
+use Rattle.volume.specs.Blocks.{fileKind, softLink, directoryLink, fileLink}
 use Rattle.volume.specs.Names.{nameOf, nameGood, slotOf}
 use Rattle.volume.specs.Files.{dataBlocks, heldOf, keysHere, sizeOf, blocksOf}
 
@@ -92,7 +94,8 @@ entryFault d s k t slot = tests (entryTypes s k ++ (entryWords s k t ++ entryNam
 abbrev pub countRules : List ℕ → ℕ → ℕ → List ℕ
 countRules s k n =
     must (eqb (wordOf s k 2) (keysHere n)) fault.fileLayout
-    ∷ pick (leb n slots) (must (eqb (wordOf s k 126) 0) fault.fileLayout) (never (eqb (wordOf s k 126) 0) fault.fileLayout)
+    ∷ pick (leb n slots) (must (eqb (wordOf s k 126) 0) fault.fileLayout)
+    (never (eqb (wordOf s k 126) 0) fault.fileLayout)
     ∷ []
 
 -- ---- a file's own tests, of its header k

@@ -13,11 +13,13 @@ pub data Star : Type 0 where
   bit : ℕ → Star
   size : ℕ → Star
 
--- a slot; a word of the bitmap and a bit; data blocks, keys in the header, list blocks, and keys in the last block that lists any
+-- a slot; a word of the bitmap and a bit; data blocks, keys in the header, list blocks, and keys in the last block
+-- that lists any
 unfoldable pub answer : Disk → Star → List ℕ
 answer d (slot name) = slotOf d name ∷ []
 answer d (bit k) = bitWord k ∷ bitNumber k ∷ []
-answer d (size z) = dataBlocks d z ∷ keysHere (dataBlocks d z) ∷ listBlocks (dataBlocks d z) ∷ lastKeys (dataBlocks d z) ∷ []
+answer d (size z) =
+    dataBlocks d z ∷ keysHere (dataBlocks d z) ∷ listBlocks (dataBlocks d z) ∷ lastKeys (dataBlocks d z) ∷ []
 
 pub record Case : Type 0 where
   pub of : Star

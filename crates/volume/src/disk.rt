@@ -5,7 +5,8 @@ ghost use Prim.Native.Nat.{_+_, _-_, _*_, _/_, _<_, _≤_};
 ghost use lib.ListN.{length};
 ghost use lib.Dec.{eqb};
 ghost use Rattle.words.specs.Word.{wordAt};
-ghost use Rattle.volume.specs.Disks.{Sized, mostBlocks, floppy, imageBytes, claimBytes, tagOf, rootOf, inRange, bitSpan, chainLimit, dataBytes, fileLimit};
+ghost use Rattle.volume.specs.Disks.{Sized, mostBlocks, floppy, imageBytes, claimBytes, tagOf, rootOf, inRange};
+ghost use Rattle.volume.specs.Disks.{bitSpan, chainLimit, dataBytes, fileLimit};
 ghost use Rattle.volume.specs.Files.{dataBlocks, heldOf};
 
 // The number of its blocks, and the last byte of its boot tag.

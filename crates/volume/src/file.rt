@@ -10,7 +10,8 @@ ghost use Rattle.answers.specs.Tests.{tests};
 ghost use Rattle.volume.specs.Disks.{Sized, mostBlocks, fileLimit};
 ghost use Rattle.volume.specs.Blocks.{slots, Holds, keyWord};
 ghost use Rattle.volume.specs.Files.{keysHere, listBlocks, lastKeys};
-ghost use Rattle.volume.specs.Rules.{countRules, emptyRules, fileFault, listWords, listFault, dataWords, dataLinks, dataFault};
+ghost use Rattle.volume.specs.Rules.{countRules, emptyRules, fileFault, listWords, listFault, dataWords};
+ghost use Rattle.volume.specs.Rules.{dataLinks, dataFault};
 
 const SLOTS: u32 = Block::SLOTS as u32;
 

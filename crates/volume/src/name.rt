@@ -6,7 +6,8 @@ ghost use Prim.Native.Nat.{_+_, _*_, _<_, _≤_};
 ghost use lib.ListN.{length};
 ghost use lib.Seq.{slice};
 ghost use Rattle.volume.specs.Blocks.{Holds};
-ghost use Rattle.volume.specs.Names.{foldPlain, foldOf, slotOf, same, allowed, longest, nameLength, nameFrom, nameOf, nameGood};
+ghost use Rattle.volume.specs.Names.{foldPlain, foldOf, slotOf, same, allowed, longest, nameLength, nameFrom};
+ghost use Rattle.volume.specs.Names.{nameOf, nameGood};
 
 pub const LONGEST: usize = 30;
 
@@ -137,7 +138,8 @@ pub fn has_name(disk: Disk, image: &[u8], key: u32, bytes: &[u8], at: usize, len
 
 // Whether two blocks have names that are equal when folded.
 pub fn same_names(disk: Disk, image: &[u8], a: u32, b: u32) -> bool
-    requires { ⌜ (Holds (now image) a × Holds (now image) b) × ((nameLength (now image) a ≤ longest) × (nameLength (now image) b ≤ longest)) ⌝ }
+    requires { ⌜ (Holds (now image) a × Holds (now image) b)
+        × ((nameLength (now image) a ≤ longest) × (nameLength (now image) b ≤ longest)) ⌝ }
     ensures { λ r. ⌜ r ≡ same disk (nameOf (now (image .entry)) a) (nameOf (now (image .entry)) b) ⌝ }
 {
     has_name(disk, image, a, image, name_from(b), name_length(image, b))

@@ -1,5 +1,6 @@
--- The theorem `accepted-lawful`: the walk accepts if and only if every reached node passes its tests and, of blocks and kinds alone, every block is
--- owned once. `TreePasses` asks the same of a tree, where the root's w78 is not asked. Assumes nothing.
+-- The theorem `accepted-lawful`: the walk accepts if and only if every reached node passes its tests and, of blocks
+-- and kinds alone, every block is owned once. `TreePasses` asks the same of a tree, where the root's w78 is not
+-- asked. Assumes nothing.
 use Prim.Native.Nat.{ℕ, _+_, _-_, _<_}
 use mathlib.Core.Path.{_≡_, refl, sym, ap, ap₂, _∙_}
 use mathlib.Core.Logic.{_↔_}
@@ -18,7 +19,9 @@ use Rattle.volume.specs.Blocks.{slots, wordOf, directory}
 use Rattle.volume.specs.Files.{keysHere, blocksOf, keysDown}
 use Rattle.volume.specs.References.{Kind, Ref, to, slotRefs, keyRefs, refersTo, references}
 use Rattle.volume.proofs.Passes.{list-passed, file-passed}
-use Rattle.walk.specs.Nodes.{Node, root, bitmap, entry, list, datum, keyOf, bare, chained, before, keyNodes, listLink, countedNodes, contents, leadsTo, keyFault, faultOf, nothing, graph, walkOf}
+use Rattle.walk.specs.Nodes.{Node, root, bitmap, entry, list, datum, keyOf, bare, chained, before, keyNodes}
+use Rattle.walk.specs.Nodes.{listLink, countedNodes, contents, leadsTo, keyFault, faultOf, nothing, graph}
+use Rattle.walk.specs.Nodes.{walkOf}
 use Rattle.walk.proofs.Nodes.{NodeReached, linked-bare, slots-bare, keys-bare}
 use Rattle.walk.proofs.Passes.{InTree, in-tree, key-passed, hung-passed}
 
@@ -34,7 +37,8 @@ module _ (d : Disk) (s : List ℕ) where
   nodes-bare : (h b m c n : ℕ) → wordOf s b 2 ≡ n → map (bare d) (countedNodes s h b m c n) ≡ keyRefs s b
   nodes-bare h b m c n e =
       map-append (bare d) (keyNodes s h b m c 0 n) (listLink (wordOf s b 126) h (m + n) (before s b c n))
-      ∙ ap₂ (λ x y. x ++ y) (keys-bare d s h b m c 0 n ∙ ap (λ j. map (to Kind.datum) (keysDown s b 0 j)) (sym e)) (linked-bare d (wordOf s b 126) (λ k. list k h (m + n) (before s b c n)) Kind.list (λ k. refl))
+      ∙ ap₂ (λ x y. x ++ y) (keys-bare d s h b m c 0 n ∙ ap (λ j. map (to Kind.datum) (keysDown s b 0 j)) (sym e))
+      (linked-bare d (wordOf s b 126) (λ k. list k h (m + n) (before s b c n)) Kind.list (λ k. refl))
 
   -- a node that passes its tests refers to what its block refers to
   pub refs-bare : (n : Node) → InTree d s n → map (bare d) (leadsTo d s n) ≡ refersTo s (bare d n .kind) (bare d n .key)
@@ -43,11 +47,15 @@ module _ (d : Disk) (s : List ℕ) where
   refs-bare (bitmap k) e = refl
   refs-bare (entry k t i p) e =
       map-append (bare d) (contents d s k (directory s k)) (chained (wordOf s k 124) t i _)
-      ∙ ap₂ (λ x y. x ++ y) (go (directory s k) refl) (linked-bare d (wordOf s k 124) (λ k. entry k t i _) Kind.entry (λ k. refl))
+      ∙ ap₂ (λ x y. x ++ y) (go (directory s k) refl)
+      (linked-bare d (wordOf s k 124) (λ k. entry k t i _) Kind.entry (λ k. refl))
     where
-      go : (u : Bool) → directory s k ≡ u → map (bare d) (contents d s k u) ≡ pick u (slotRefs s k 0 slots) (keyRefs s k)
+      go : (u : Bool) → directory s k ≡ u
+          → map (bare d) (contents d s k u) ≡ pick u (slotRefs s k 0 slots) (keyRefs s k)
       go true h = slots-bare d s k 0 slots
-      go false h = let q = file-passed d s k (hung-passed d s k t i p e .2 h) .1 .count in nodes-bare k k 0 k (keysHere (blocksOf d s k - 0)) (omega arith)
+      go false h =
+          let q = file-passed d s k (hung-passed d s k t i p e .2 h) .1 .count in
+          nodes-bare k k 0 k (keysHere (blocksOf d s k - 0)) (omega arith)
   refs-bare (list k h m c) e = nodes-bare h k m c (keysHere (blocksOf d s h - m)) (list-passed s k h _ e .2 .count)
   refs-bare (datum k h n c) e = refl
 
@@ -66,17 +74,21 @@ module _ (d : Disk) (s : List ℕ) where
   unfolding walkOf
   accepted-lawful =
       let a = accepts (graph d s) (d .blocks) room nothing in
-      let b = law-bare (graph d s) (references d s) (bare d) (InTree d s) refl key-bare refs-bare (λ f n r. passes-in-tree f n r .1) in
+      let b =
+      law-bare (graph d s) (references d s) (bare d) (InTree d s) refl key-bare refs-bare
+      (λ f n r. passes-in-tree f n r .1) in
       ((λ h. b .0 (a .0 h)), (λ h. a .1 (b .1 h)))
 
   -- ---- where every node passes, what is reached is one, with its context or without
 
   module _ (fine : TreePasses) where
     pub block-reached : {n : Node} → NodeReached d s n → Reached (references d s) (bare d n)
-    block-reached r = to-bare (graph d s) (references d s) (bare d) (InTree d s) refl key-bare refs-bare (λ n r. fine n r .1) r
+    block-reached r =
+        to-bare (graph d s) (references d s) (bare d) (InTree d s) refl key-bare refs-bare (λ n r. fine n r .1) r
 
     pub node-reached : {r : Ref} → Reached (references d s) r → (n : Node) × NodeReached d s n × (r ≡ bare d n)
-    node-reached r = from-bare (graph d s) (references d s) (bare d) (InTree d s) refl key-bare refs-bare (λ n r. fine n r .1) r
+    node-reached r =
+        from-bare (graph d s) (references d s) (bare d) (InTree d s) refl key-bare refs-bare (λ n r. fine n r .1) r
 
     pub node-key : {r : Ref} (h : Reached (references d s) r) → keyOf d (node-reached h .0) ≡ r .key
     node-key h = sym (key-bare (node-reached h .0)) ∙ ap (λ x. x .key) (sym (node-reached h .2))

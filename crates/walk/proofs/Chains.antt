@@ -1,4 +1,5 @@
--- Places of a chain: each but the first is its predecessor's link, and an earlier entry of the same name is a twin. Assumes nothing.
+-- Places of a chain: each but the first is its predecessor's link, and an earlier entry of the same name is a twin.
+-- Assumes nothing.
 use Prim.Native.Nat.{ℕ, zero, suc, _≤_, _<_}
 use mathlib.Core.Path.{_≡_, refl, sym, ap, _∙_}
 use mathlib.Core.Logic.{_≢_}
@@ -53,7 +54,8 @@ module _ (s : List ℕ) where
     twin-there zero q l e = absurd (omega arith)
     twin-there (suc p) q l e = go (Named p) refl (decLt q p) (twin-there p q)
       where
-        go : (b : Bool) → Named p ≡ b → Dec (q < p) → (q < p → Named q ≡ true → twin d s k head p ≡ true) → pick b true (twin d s k head p) ≡ true
+        go : (b : Bool) → Named p ≡ b → Dec (q < p) → (q < p → Named q ≡ true → twin d s k head p ≡ true)
+            → pick b true (twin d s k head p) ≡ true
         go true f g earlier = refl
         go false f (yes g) earlier = earlier g e
         go false f (no g) earlier = let h : p ≡ q = omega arith in let z = sym f ∙ ap Named h ∙ e in cc

@@ -1,5 +1,5 @@
--- The nodes that a header or a list block leads to: its data blocks are as the law says if and only if each of their nodes is (`run-nodes`).
--- Assumes nothing.
+-- The nodes that a header or a list block leads to: its data blocks are as the law says if and only if each of their
+-- nodes is (`run-nodes`). Assumes nothing.
 use Prim.Native.Nat.{ℕ, zero, suc, _+_}
 use mathlib.Core.Path.{refl, sym, subst}
 use mathlib.Core.Logic.{inl, inr, _↔_}
@@ -22,7 +22,9 @@ module _ (d : Disk) (s : List ℕ) where
   DataSound (datum k h n c) = Follows d s h n c k
 
   module _ (h b m c : ℕ) where
-    run-keys : (i n : ℕ) → Run d s h (m + i) (before s b c i) (keysDown s b i n) ↔ ((x : Node) → x ∈ keyNodes s h b m c i n → DataSound x)
+    run-keys : (i n : ℕ)
+        → Run d s h (m + i) (before s b c i) (keysDown s b i n)
+        ↔ ((x : Node) → x ∈ keyNodes s h b m c i n → DataSound x)
     unfolding keyNodes keysDown
     run-keys i zero = ((λ r x a. absurd a), (λ f. tt))
     run-keys i (suc n) = go (rw (add-suc m i) at (run-keys (suc i) n))
@@ -30,12 +32,17 @@ module _ (d : Disk) (s : List ℕ) where
         first : Node
         first = datum (keyWord s b i) h (suc (m + i)) (before s b c i)
 
-        go : Run d s h (suc (m + i)) (keyWord s b i) (keysDown s b (suc i) n) ↔ ((x : Node) → x ∈ keyNodes s h b m c (suc i) n → DataSound x) → Run d s h (m + i) (before s b c i) (keyWord s b i ∷ keysDown s b (suc i) n) ↔ ((x : Node) → x ∈ (first ∷ keyNodes s h b m c (suc i) n) → DataSound x)
+        go : Run d s h (suc (m + i)) (keyWord s b i) (keysDown s b (suc i) n)
+            ↔ ((x : Node) → x ∈ keyNodes s h b m c (suc i) n → DataSound x)
+            → Run d s h (m + i) (before s b c i) (keyWord s b i ∷ keysDown s b (suc i) n)
+            ↔ ((x : Node) → x ∈ (first ∷ keyNodes s h b m c (suc i) n) → DataSound x)
         go w = (each, λ f. (f first (inl refl), w .1 (λ x a. f x (inr a))))
           where
-            each : Run d s h (m + i) (before s b c i) (keyWord s b i ∷ keysDown s b (suc i) n) → (x : Node) → x ∈ (first ∷ keyNodes s h b m c (suc i) n) → DataSound x
+            each : Run d s h (m + i) (before s b c i) (keyWord s b i ∷ keysDown s b (suc i) n) → (x : Node)
+                → x ∈ (first ∷ keyNodes s h b m c (suc i) n) → DataSound x
             each r x (inl e) = subst DataSound (sym e) (r .0)
             each r x (inr a) = w .0 (r .1) x a
 
-    pub run-nodes : Run d s h m c (keysDown s b 0 (here d s h m)) ↔ ((x : Node) → x ∈ keyNodes s h b m c 0 (here d s h m) → DataSound x)
+    pub run-nodes : Run d s h m c (keysDown s b 0 (here d s h m))
+        ↔ ((x : Node) → x ∈ keyNodes s h b m c 0 (here d s h m) → DataSound x)
     run-nodes = rw add-zero at (run-keys 0 (here d s h m))

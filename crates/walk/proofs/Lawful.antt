@@ -1,4 +1,5 @@
--- The theorem `tree-passes`: if the tree is as its law says, every reached node passes its tests, but for the root's w78. Assumes nothing.
+-- The theorem `tree-passes`: if the tree is as its law says, every reached node passes its tests, but for the root's
+-- w78. Assumes nothing.
 use Prim.Native.Nat.{ℕ, _-_, _<_}
 use mathlib.Core.Path.{_≡_, refl, sym, ap, _∙_, subst}
 use mathlib.Core.Logic.{_≢_, inl, inr}
@@ -53,21 +54,43 @@ module _ (d : Disk) (s : List ℕ) (v : Tree d s) where
     -- an earlier entry of the same name would be the same block, and no block stands twice on a chain
     differ : (q : ℕ) → q < p → same d (nameOf s (K q)) (nameOf s k) ≡ true → ⊥
     differ q l e =
-        let g : Hangs s t i (K q) = record { slot = c .1; position = q; there = refl; some = chain-some s (slotWord s t i) p q (omega arith) some } in
+        let g : Hangs s t i (K q) =
+        record {
+          slot = c .1;
+          position = q;
+          there = refl;
+          some = chain-some s (slotWord s t i) p q (omega arith)
+              some;
+        } in
         let f = held-by t (c .0) .names i i (K q) k g hangs (same-map d (nameOf s (K q)) (nameOf s k) e) in
         chain-apart d s t i (c .0) (c .1) (v .owned) q p l some (f ∙ sym (c .2))
 
     file-lawful : directory s k ≡ false → fileFault d s k ≡ 0
     file-lawful e =
         let f = file-spreads d s k .0 (v .files k r e) in
-        file-passes d s k (f .0, rw sub-zero at (spread-first d s k (listBlocks (blocksOf d s k)) k 0 k (f .2) .0), f .1)
+        file-passes d s k (
+          f .0,
+          rw sub-zero at (spread-first d s k (listBlocks (blocksOf d s k)) k 0 k (f .2) .0),
+          f .1,
+        )
 
     entry-lawful : faultOf d s (entry k t i p) ≡ 0
     unfolding faultOf
     entry-lawful =
         let h = held-by t (c .0) in
-        let entry-sound : EntrySound d s k t i = record { sum = v .sums (to Kind.entry k) r; entry = v .entries k r; parent = h .parent i k hangs; link = λ e. v .directories k r e .0; slot = h .slot i k hangs } in
-        hung-passes d s k t i p (entry-passes d s k t i entry-sound, twin-none s d k (slotWord s t i) p differ, file-lawful)
+        let entry-sound : EntrySound d s k t i =
+        record {
+          sum = v .sums (to Kind.entry k) r;
+          entry = v .entries k r;
+          parent = h .parent i k hangs;
+          link = λ e. v .directories k r e .0;
+          slot = h .slot i k hangs;
+        } in
+        hung-passes d s k t i p (
+          entry-passes d s k t i entry-sound,
+          twin-none s d k (slotWord s t i) p differ,
+          file-lawful,
+        )
 
   -- ---- every node
 
@@ -76,8 +99,15 @@ module _ (d : Disk) (s : List ℕ) (v : Tree d s) where
   fault-lawful root r c = (v .sums (bare d root) r, v .top)
   fault-lawful (bitmap k) r c = bitmap-passed s k .1 (v .sums (bare d (bitmap k)) r)
   fault-lawful (entry k t i p) r c = entry-lawful k t i p r c
-  fault-lawful (list k h m b) r c = list-passes s k h (blocksOf d s h - m) (v .sums (bare d (list k h m b)) r, c .0, spread-first d s h (listBlocks (blocksOf d s h - m)) k m b (c .1) .0)
-  fault-lawful (datum k h n b) r c = data-passes d s k h n (wordOf s b 4) (v .sums (bare d (datum k h n b)) r, c .0, (c .1, c .2))
+  fault-lawful (list k h m b) r c =
+      list-passes s k h (blocksOf d s h - m) (
+        v .sums (bare d (list k h m b)) r,
+        c .0,
+        spread-first d s h (listBlocks (blocksOf d s h - m)) k m b
+            (c .1) .0,
+      )
+  fault-lawful (datum k h n b) r c =
+      data-passes d s k h n (wordOf s b 4) (v .sums (bare d (datum k h n b)) r, c .0, (c .1, c .2))
 
   coherent : {n : Node} → NodeReached d s n → BlockReached n × Coherent d s n
   coherent (top e) = (top (ap (bare d) e), subst (Coherent d s) (sym e) tt)
@@ -85,8 +115,10 @@ module _ (d : Disk) (s : List ℕ) (v : Tree d s) where
     where
       go : BlockReached m × Coherent d s m → BlockReached n × Coherent d s n
       go w =
-          let e = refs-bare d s m (fault-lawful m (w .0) (w .1)) in
-          (ref i (w .0) (subst (At i (bare d n)) e (at-map (bare d) i n (leadsTo d s m) h)), leads-coherent d s m (w .0) (v .files) (w .1) n (at-in n i (leadsTo d s m) h))
+          let e = refs-bare d s m (fault-lawful m (w .0) (w .1)) in (
+            ref i (w .0) (subst (At i (bare d n)) e (at-map (bare d) i n (leadsTo d s m) h)),
+            leads-coherent d s m (w .0) (v .files) (w .1) n (at-in n i (leadsTo d s m) h),
+          )
 
   pub tree-passes : TreePasses d s
   tree-passes n r = let w = coherent r in (key-lawful n (w .0), fault-lawful n (w .0) (w .1))

@@ -26,11 +26,13 @@ module _ (d : Disk) (s : List ℕ) (b : KeyBlock) (r : KeysReady d s b) where
   more = some-more s (b .key) _ (r .counts)
 
   -- what the block leads to after its data blocks
-  pub link-next : listLink (wordOf s (b .key) 126) (b .header) (b .done + keysIn d s b) (before s (b .key) (b .last) (keysIn d s b)) ≡ linkTo (nextOf s b)
+  pub link-next : listLink (wordOf s (b .key) 126) (b .header) (b .done + keysIn d s b)
+      (before s (b .key) (b .last) (keysIn d s b)) ≡ linkTo (nextOf s b)
   link-next = go (wordOf s (b .key) 126) refl
     where
       go : (w : ℕ) → wordOf s (b .key) 126 ≡ w
-          → listLink w (b .header) (b .done + keysIn d s b) (before s (b .key) (b .last) (keysIn d s b)) ≡ listLink w (b .header) (b .done + slots) (keyWord s (b .key) 71)
+          → listLink w (b .header) (b .done + keysIn d s b) (before s (b .key) (b .last) (keysIn d s b)) ≡ listLink w
+          (b .header) (b .done + slots) (keyWord s (b .key) 71)
       go zero e = refl
       go (suc w) e =
           let g = more (λ z. absurd (omega (arith, e, z))) in
@@ -41,7 +43,14 @@ module _ (d : Disk) (s : List ℕ) (b : KeyBlock) (r : KeysReady d s b) where
   pub next-ready : ((i : ℕ) → i < keysIn d s b → keyWord s (b .key) i < d .blocks) → NextReady d s (nextOf s b)
   next-ready f =
       record {
-        file = λ z. record { size = r .file .size; limit = r .file .limit; header = r .file .header; last = f 71 (omega (arith, more z)); done = omega (arith, more z) };
+        file =
+            λ z. record {
+              size = r .file .size;
+              limit = r .file .limit;
+              header = r .file .header;
+              last = f 71 (omega (arith, more z));
+              done = omega (arith, more z);
+            };
         left = λ z. omega (arith, more z);
         ends = λ z. omega (arith, r .counts .more .0 z);
       }

@@ -1,5 +1,5 @@
--- The loops over a file's keys and over its list blocks: what is known at each turn, whatever is done with a block. The audit's loops and those
--- of a read rest on it. Assumes nothing.
+-- The loops over a file's keys and over its list blocks: what is known at each turn, whatever is done with a block.
+-- The audit's loops and those of a read rest on it. Assumes nothing.
 use Prim.Native.Nat.{ℕ, suc, _+_, _-_, _≤_, _<_}
 use mathlib.Core.Path.{_≡_, refl}
 use mathlib.Core.List.{List, _∷_}
@@ -24,7 +24,8 @@ in-image d s k l h = omega arith
 
 -- ---- from block to block
 
-pub header-is : (s : List ℕ) (h z : ℕ) → z ≡ sizeOf s h → record { header = h; size = z; key = h; done = 0; last = h } ≡ headerOf s h
+pub header-is : (s : List ℕ) (h z : ℕ) → z ≡ sizeOf s h
+    → record { header = h; size = z; key = h; done = 0; last = h } ≡ headerOf s h
 header-is s h z e = rw e refl
 
 pub next-is : (s : List ℕ) (b : KeyBlock) (k l : ℕ) → k ≡ wordOf s (b .key) 126 → l ≡ keyWord s (b .key) 71
@@ -48,11 +49,13 @@ module _ (d : Disk) (s : List ℕ) (b : KeyBlock) (v : InFile d s b) where
 
   -- ---- the tests of what it leads to
 
-  pub datum-is : (k n c w f : ℕ) → w ≡ wordOf s c 4 → f ≡ dataFault d s k (b .header) (b .size) n w → f ≡ faultOf d s (datum k (b .header) n c)
+  pub datum-is : (k n c w f : ℕ) → w ≡ wordOf s c 4 → f ≡ dataFault d s k (b .header) (b .size) n w
+      → f ≡ faultOf d s (datum k (b .header) n c)
   unfolding faultOf
   datum-is k n c w f e g = rw (← e, ← v .size) g
 
-  pub list-is : (n f : ℕ) → n ≡ dataBlocks d (b .size) → f ≡ listFault s (b .key) (b .header) (n - b .done) → f ≡ faultOf d s (listNode b)
+  pub list-is : (n f : ℕ) → n ≡ dataBlocks d (b .size) → f ≡ listFault s (b .key) (b .header) (n - b .done)
+      → f ≡ faultOf d s (listNode b)
   unfolding faultOf
   list-is n f e g = rw (← v .size, ← e) g
 
@@ -77,7 +80,8 @@ module _ (d : Disk) (s : List ℕ) (b : KeyBlock) where
     pub inside : last < d .blocks
     pub keys : (q : ℕ) → q < i → keyWord s (b .key) q < d .blocks
 
-  pub turn-start : (count : ℕ) → Sized d → KeysReady d s b → count ≡ keysHere (dataBlocks d (b .size) - b .done) → Turn count (b .last) 0
+  pub turn-start : (count : ℕ) → Sized d → KeysReady d s b → count ≡ keysHere (dataBlocks d (b .size) - b .done)
+      → Turn count (b .last) 0
   turn-start count y r e =
       let c = rw (r .file .size) at e in
       let w : b .done + count ≤ blocksOf d s (b .header) = omega (arith, c, r .file .done) in
@@ -123,11 +127,16 @@ module _ (d : Disk) (s : List ℕ) (b : KeyBlock) where
 
 -- ---- the blocks of a file that list keys
 
-pub header-ready : (d : Disk) (s : List ℕ) (h : ℕ) (b : KeyBlock) → b ≡ headerOf s h → h < d .blocks → fileFault d s h ≡ 0 → KeysReady d s b
+pub header-ready : (d : Disk) (s : List ℕ) (h : ℕ) (b : KeyBlock) → b ≡ headerOf s h → h < d .blocks
+    → fileFault d s h ≡ 0 → KeysReady d s b
 header-ready d s h b g l e =
     let y : blocksOf d s h - 0 ≡ blocksOf d s h = omega arith in
     let p = file-passed d s h e in
-    rw g record { file = record { size = refl; limit = p .0; header = l; last = l; done = omega arith }; key = l; counts = rw y (p .1) }
+    rw g record {
+      file = record { size = refl; limit = p .0; header = l; last = l; done = omega arith };
+      key = l;
+      counts = rw y (p .1);
+    }
 
 module _ (d : Disk) (s : List ℕ) (b : KeyBlock) where
   pub list-ready : InFile d s b → b .key < d .blocks → faultOf d s (listNode b) ≡ 0 → KeysReady d s b

@@ -1,5 +1,5 @@
--- Nodes that are reached; what stands among the nodes that a node leads to, and what is left of these when their context is forgotten
--- (`slots-bare`, `keys-bare`, `linked-bare`). Assumes nothing.
+-- Nodes that are reached; what stands among the nodes that a node leads to, and what is left of these when their
+-- context is forgotten (`slots-bare`, `keys-bare`, `linked-bare`). Assumes nothing.
 use Prim.Native.Nat.{ℕ, zero, suc, _+_, _≤_, _<_}
 use mathlib.Core.Path.{_≡_, refl, ap, ap₂, _∙_, subst}
 use mathlib.Core.Logic.{_≢_, _⊎_, inl, inr}
@@ -39,9 +39,12 @@ module _ (s : List ℕ) (t : ℕ) where
   pub in-slots : (i n : ℕ) (x : Node) → x ∈ slotNodes s t i n → (j : ℕ) × (j < i + n) × InSlot j x
   unfolding slotNodes
   in-slots i zero x h = absurd h
-  in-slots i (suc n) x h = go (in-either x (chained (slotWord s t i) t i 0) (slotNodes s t (suc i) n) h) (in-slots (suc i) n x)
+  in-slots i (suc n) x h =
+      go (in-either x (chained (slotWord s t i) t i 0) (slotNodes s t (suc i) n) h) (in-slots (suc i) n x)
     where
-      go : (x ∈ chained (slotWord s t i) t i 0) ⊎ (x ∈ slotNodes s t (suc i) n) → (x ∈ slotNodes s t (suc i) n → (j : ℕ) × (j < suc i + n) × InSlot j x) → (j : ℕ) × (j < i + suc n) × InSlot j x
+      go : (x ∈ chained (slotWord s t i) t i 0) ⊎ (x ∈ slotNodes s t (suc i) n)
+          → (x ∈ slotNodes s t (suc i) n → (j : ℕ) × (j < suc i + n) × InSlot j x)
+          → (j : ℕ) × (j < i + suc n) × InSlot j x
       go (inl m) later = (i, omega arith, in-linked (slotWord s t i) (λ k. entry k t i 0) x m)
       go (inr m) later = let r = later m in let b = r .1 in (r .0, omega arith, r .2)
 
@@ -53,13 +56,18 @@ module _ (s : List ℕ) (t : ℕ) where
       x : Node
       x = entry (slotWord s t j) t j 0
 
-      go : Dec (i < j) → (suc i ≤ j → j < suc i + n → slotWord s t j ≢ 0 → x ∈ slotNodes s t (suc i) n) → x ∈ (chained (slotWord s t i) t i 0 ++ slotNodes s t (suc i) n)
+      go : Dec (i < j) → (suc i ≤ j → j < suc i + n → slotWord s t j ≢ 0 → x ∈ slotNodes s t (suc i) n)
+          → x ∈ (chained (slotWord s t i) t i 0 ++ slotNodes s t (suc i) n)
       go (yes q) later = in-right x (chained (slotWord s t i) t i 0) (slotNodes s t (suc i) n) (later q (omega arith) w)
-      go (no q) later = let e : j ≡ i = omega arith in in-left x (chained (slotWord s t i) t i 0) (slotNodes s t (suc i) n) (subst (λ y. x ∈ chained (slotWord s t y) t y 0) e (linked-in (slotWord s t j) (λ k. entry k t j 0) w))
+      go (no q) later =
+          let e : j ≡ i = omega arith in
+          in-left x (chained (slotWord s t i) t i 0) (slotNodes s t (suc i) n)
+          (subst (λ y. x ∈ chained (slotWord s t y) t y 0) e (linked-in (slotWord s t j) (λ k. entry k t j 0) w))
 
 -- ---- the keys of a file
 
-pub in-keys : (s : List ℕ) (h b m c i n : ℕ) (x : Node) → x ∈ keyNodes s h b m c i n → (k : ℕ) × (j : ℕ) × (e : ℕ) × (x ≡ datum k h j e)
+pub in-keys : (s : List ℕ) (h b m c i n : ℕ) (x : Node) → x ∈ keyNodes s h b m c i n
+    → (k : ℕ) × (j : ℕ) × (e : ℕ) × (x ≡ datum k h j e)
 unfolding keyNodes
 in-keys s h b m c i zero x a = absurd a
 in-keys s h b m c i (suc n) x (inl e) = (keyWord s b i, suc (m + i), before s b c i, e)
@@ -68,7 +76,8 @@ in-keys s h b m c i (suc n) x (inr a) = in-keys s h b m c (suc i) n x a
 -- ---- with no context
 
 module _ (d : Disk) where
-  pub linked-bare : (k : ℕ) (f : ℕ → Node) (a : Kind) → ((k : ℕ) → bare d (f k) ≡ to a k) → map (bare d) (linked k f) ≡ link a k
+  pub linked-bare : (k : ℕ) (f : ℕ → Node) (a : Kind) → ((k : ℕ) → bare d (f k) ≡ to a k)
+      → map (bare d) (linked k f) ≡ link a k
   linked-bare zero f a h = refl
   linked-bare (suc k) f a h = ap (λ r. r ∷ []) (h (suc k))
 
@@ -77,9 +86,11 @@ module _ (d : Disk) where
   slots-bare s t i zero = refl
   slots-bare s t i (suc n) =
       map-append (bare d) (chained (slotWord s t i) t i 0) (slotNodes s t (suc i) n)
-      ∙ ap₂ (λ x y. x ++ y) (linked-bare (slotWord s t i) (λ k. entry k t i 0) Kind.entry (λ k. refl)) (slots-bare s t (suc i) n)
+      ∙ ap₂ (λ x y. x ++ y) (linked-bare (slotWord s t i) (λ k. entry k t i 0) Kind.entry (λ k. refl))
+      (slots-bare s t (suc i) n)
 
-  pub keys-bare : (s : List ℕ) (h b m c i n : ℕ) → map (bare d) (keyNodes s h b m c i n) ≡ map (to Kind.datum) (keysDown s b i n)
+  pub keys-bare : (s : List ℕ) (h b m c i n : ℕ)
+      → map (bare d) (keyNodes s h b m c i n) ≡ map (to Kind.datum) (keysDown s b i n)
   unfolding keyNodes keysDown
   keys-bare s h b m c i zero = refl
   keys-bare s h b m c i (suc n) = ap (λ l. to Kind.datum (keyWord s b i) ∷ l) (keys-bare s h b m c (suc i) n)

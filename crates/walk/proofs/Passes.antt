@@ -1,5 +1,5 @@
--- A node passes its tests if and only if its block is as the law says: of each kind the facts are those of `volume`'s Passes. `InTree` is what a
--- node passes where the root's w78 is not asked. Assumes nothing.
+-- A node passes its tests if and only if its block is as the law says: of each kind the facts are those of `volume`'s
+-- Passes. `InTree` is what a node passes where the root's w78 is not asked. Assumes nothing.
 use Prim.Native.Nat.{ℕ, _≤_, _<_}
 use mathlib.Core.Path.{_≡_, refl, sym, _∙_}
 use mathlib.Core.Logic.{_⊎_, inl, inr}
@@ -7,14 +7,16 @@ use mathlib.Core.Bool.{Bool, true, false}
 use mathlib.Core.List.{List}
 use borrow.Author.Tests.{lt-ltb, le-ltb, eqb-false}
 use Rattle.answers.specs.Tests.{pick, never}
-use Rattle.answers.proofs.Tests.{first-zero, must-passed, must-passes, never-passed, never-passes, pick-true, pick-false}
+use Rattle.answers.proofs.Tests.{first-zero, must-passed, must-passes, never-passed, never-passes, pick-true}
+use Rattle.answers.proofs.Tests.{pick-false}
 use Rattle.volume.specs.declared.disk.Disk.{Disk}
 use Rattle.volume.specs.Disks.{firstKey, inRange, rootOf}
 use Rattle.volume.specs.Blocks.{slotWord, wordOf, sumOf, directory}
 use Rattle.volume.specs.Law.{Root, Valid, Entry}
 use Rattle.volume.specs.Rules.{rootFault, mapFault, entryFault, fileFault}
 use Rattle.volume.proofs.Sizes.{range-is}
-use Rattle.volume.proofs.Passes.{_&_, root-passed, root-passes, map-passes, bitmap-passed, entry-passed, list-passed, data-passed}
+use Rattle.volume.proofs.Passes.{_&_, root-passed, root-passes, map-passes, bitmap-passed, entry-passed, list-passed}
+use Rattle.volume.proofs.Passes.{data-passed}
 use Rattle.walk.specs.Nodes.{Node, root, bitmap, entry, list, datum, keyOf, twin, keyFault, hangsFault, faultOf}
 
 module _ (d : Disk) where
@@ -29,7 +31,9 @@ module _ (d : Disk) where
     module _ (k t i p : ℕ) where
       -- an entry's tests: its block's own, no earlier name, and those of a file
       abbrev pub Hung : Type 0
-      Hung = (entryFault d s k t i ≡ 0) × (twin d s k (slotWord s t i) p ≡ false) × (directory s k ≡ false → fileFault d s k ≡ 0)
+      Hung =
+          (entryFault d s k t i ≡ 0) × (twin d s k (slotWord s t i) p ≡ false)
+          × (directory s k ≡ false → fileFault d s k ≡ 0)
 
       pub hung-passed : hangsFault d s k t i p ≡ 0 → Hung
       unfolding hangsFault

@@ -21,9 +21,12 @@ use Rattle.volume.specs.Rules.{rootFault, mapFault, entryFault, fileFault}
 use Rattle.volume.specs.Breaks.{Inside, EntrySound}
 use Rattle.volume.proofs.Checks.{among}
 use Rattle.volume.proofs.Names.{same-map, map-same}
-use Rattle.volume.proofs.Breaks.{root-breaks, root-sound, map-breaks, bitmap-breaks, entry-breaks, entry-sound, header-breaks, list-breaks, data-breaks, key-outside}
-use Rattle.walk.specs.Nodes.{Node, root, bitmap, entry, list, datum, keyOf, twin, keyFault, hangsFault, faultOf, nothing, graph, walkOf}
-use Rattle.walk.specs.Refusals.{Doubled, NodeBreaks, Fails, outside, again, breaks, Visited, start, step, FirstRefusal}
+use Rattle.volume.proofs.Breaks.{root-breaks, root-sound, map-breaks, bitmap-breaks, entry-breaks, entry-sound}
+use Rattle.volume.proofs.Breaks.{header-breaks, list-breaks, data-breaks, key-outside}
+use Rattle.walk.specs.Nodes.{Node, root, bitmap, entry, list, datum, keyOf, twin, keyFault, hangsFault, faultOf}
+use Rattle.walk.specs.Nodes.{nothing, graph, walkOf}
+use Rattle.walk.specs.Refusals.{Doubled, NodeBreaks, Fails, outside, again, breaks, Visited, start, step}
+use Rattle.walk.specs.Refusals.{FirstRefusal}
 use Rattle.walk.proofs.Passes.{key-passes, key-passed}
 use Rattle.walk.proofs.Accepts.{room}
 use Rattle.walk.proofs.Chains.{twin-there, twin-none}
@@ -76,7 +79,9 @@ module _ (d : Disk) (s : List ℕ) where
     twin-doubled zero e = impossible cc
     twin-doubled (suc p) e = go (same d (nameOf s (chainKey s head p)) (nameOf s k)) refl e (twin-doubled p)
       where
-        go : (b : Bool) → same d (nameOf s (chainKey s head p)) (nameOf s k) ≡ b → pick b true (twin d s k head p) ≡ true → (twin d s k head p ≡ true → Doubled d s k head p) → Doubled d s k head (suc p)
+        go : (b : Bool) → same d (nameOf s (chainKey s head p)) (nameOf s k) ≡ b
+            → pick b true (twin d s k head p) ≡ true → (twin d s k head p ≡ true → Doubled d s k head p)
+            → Doubled d s k head (suc p)
         go true q x f = (p, omega arith, same-map d _ _ q)
         go false q x f = let r = f x in let l = r .1 in (r .0, omega arith, r .2)
 
@@ -89,28 +94,47 @@ module _ (d : Disk) (s : List ℕ) where
   unfolding hangsFault pick never
   entry-says k t i p v z e = go (first-cases _ _ v z e)
     where
-      file : EntrySound d s k t i → twin d s k (slotWord s t i) p ≡ false → (b : Bool) → directory s k ≡ b → pick b 0 (fileFault d s k) ≡ v → NodeBreaks d s (entry k t i p) v
+      file : EntrySound d s k t i → twin d s k (slotWord s t i) p ≡ false → (b : Bool) → directory s k ≡ b
+          → pick b 0 (fileFault d s k) ≡ v → NodeBreaks d s (entry k t i p) v
       file a n true q h = absurd (z (sym h))
-      file a n false q h = inr (inr (a, (λ w. let y = doubled-twin k (slotWord s t i) p w in impossible cc), q, header-breaks d s k v .0 (h, z)))
+      file a n false q h =
+          inr (inr (
+            a,
+            (λ w. let y = doubled-twin k (slotWord s t i) p w in impossible cc),
+            q,
+            header-breaks d s k v .0 (h, z),
+          ))
 
-      name : EntrySound d s k t i → (b : Bool) → twin d s k (slotWord s t i) p ≡ b → (never b 13 ≡ v) ⊎ ((never b 13 ≡ 0) × (pick (directory s k) 0 (fileFault d s k) ≡ v)) → NodeBreaks d s (entry k t i p) v
+      name : EntrySound d s k t i → (b : Bool) → twin d s k (slotWord s t i) p ≡ b
+          → (never b 13 ≡ v) ⊎ ((never b 13 ≡ 0) × (pick (directory s k) 0 (fileFault d s k) ≡ v))
+          → NodeBreaks d s (entry k t i p) v
       name a true q (inl h) = inr (inl (a, twin-doubled k (slotWord s t i) p q, sym h))
       name a true q (inr h) = absurd (omega (arith, h .0))
       name a false q (inl h) = absurd (z (sym h))
       name a false q (inr h) = file a q (directory s k) refl (h .1)
 
-      go : (entryFault d s k t i ≡ v) ⊎ ((entryFault d s k t i ≡ 0) × (first (never (twin d s k (slotWord s t i) p) 13) (pick (directory s k) 0 (fileFault d s k)) ≡ v)) → NodeBreaks d s (entry k t i p) v
+      go : (entryFault d s k t i ≡ v)
+          ⊎ ((entryFault d s k t i ≡ 0)
+          × (first (never (twin d s k (slotWord s t i) p) 13) (pick (directory s k) 0 (fileFault d s k)) ≡ v))
+          → NodeBreaks d s (entry k t i p) v
       go (inl h) = inl (entry-breaks d s k t i v .0 (h, z))
-      go (inr h) = name (entry-sound d s k t i .0 (h .0)) (twin d s k (slotWord s t i) p) refl (first-cases _ _ v z (h .1))
+      go (inr h) =
+          name (entry-sound d s k t i .0 (h .0)) (twin d s k (slotWord s t i) p) refl (first-cases _ _ v z (h .1))
 
   says-entry : (k t i p v : ℕ) → NodeBreaks d s (entry k t i p) v → (hangsFault d s k t i p ≡ v) × (v ≢ 0)
   unfolding hangsFault pick never
   says-entry k t i p v (inl b) = let h = entry-breaks d s k t i v .1 b in (first-left _ _ v (h .1) (h .0), h .1)
-  says-entry k t i p v (inr (inl (a, w, e))) =
-      (first-right _ _ v (entry-sound d s k t i .1 a) (first-left _ _ v (λ z. omega arith) (rw (doubled-twin k (slotWord s t i) p w) (sym e))), λ z. omega arith)
+  says-entry k t i p v (inr (inl (a, w, e))) = (
+    first-right _ _ v (entry-sound d s k t i .1 a)
+        (first-left _ _ v (λ z. omega arith) (rw (doubled-twin k (slotWord s t i) p w) (sym e))),
+    λ z. omega arith,
+  )
   says-entry k t i p v (inr (inr (a, w, q, b))) =
-      let h = header-breaks d s k v .1 b in
-      (first-right _ _ v (entry-sound d s k t i .1 a) (first-right _ _ v (rw (alone-twin k (slotWord s t i) p w) refl) (rw q (h .0))), h .1)
+      let h = header-breaks d s k v .1 b in (
+        first-right _ _ v (entry-sound d s k t i .1 a)
+            (first-right _ _ v (rw (alone-twin k (slotWord s t i) p w) refl) (rw q (h .0))),
+        h .1,
+      )
 
   pub fault-says : (n : Node) (v : ℕ) → v ≢ 0 → faultOf d s n ≡ v → NodeBreaks d s n v
   unfolding faultOf
@@ -127,7 +151,8 @@ module _ (d : Disk) (s : List ℕ) where
   says-fault : (n : Node) (v : ℕ) → NodeBreaks d s n v → (faultOf d s n ≡ v) × (v ≢ 0)
   unfolding faultOf
   says-fault root v (inl b) = let h = root-breaks d s v .1 b in (first-left _ _ v (h .1) (h .0), h .1)
-  says-fault root v (inr (a, b)) = let h = map-breaks d s v .1 b in (first-right _ _ v (root-sound d s .1 a) (h .0), h .1)
+  says-fault root v (inr (a, b)) =
+      let h = map-breaks d s v .1 b in (first-right _ _ v (root-sound d s .1 a) (h .0), h .1)
   says-fault (bitmap k) v b = bitmap-breaks s k v .1 b
   says-fault (entry k t i p) v b = says-entry k t i p v b
   says-fault (list k h m c) v b = list-breaks s k h (blocksOf d s h - m) v .1 b
@@ -157,11 +182,14 @@ module _ (d : Disk) (s : List ℕ) where
   pub not-passes : (seen : List Node) (n : Node) → ((v : ℕ) → Fails d s seen n v → ⊥) → Judged (graph d s) seen n 0
   not-passes seen n f = key (keyFault d (keyOf d n)) refl (among (keyOf d n) (map (keyOf d) seen)) (faultOf d s n) refl
     where
-      key : (a : ℕ) → keyFault d (keyOf d n) ≡ a → Dec (keyOf d n ∈ map (keyOf d) seen) → (b : ℕ) → faultOf d s n ≡ b → Judged (graph d s) seen n 0
-      key (suc a) p m b q = let w = out-key (keyOf d n) (suc a) (λ z. omega arith) p in absurd (f (suc a) (outside (w .0) (w .1)))
+      key : (a : ℕ) → keyFault d (keyOf d n) ≡ a → Dec (keyOf d n ∈ map (keyOf d) seen) → (b : ℕ) → faultOf d s n ≡ b
+          → Judged (graph d s) seen n 0
+      key (suc a) p m b q =
+          let w = out-key (keyOf d n) (suc a) (λ z. omega arith) p in absurd (f (suc a) (outside (w .0) (w .1)))
       key zero p (yes m) b q = absurd (f 6 (again (in-key _ p) m refl))
       key zero p (no m) zero q = late p m q
-      key zero p (no m) (suc b) q = absurd (f (suc b) (breaks (in-key _ p) m (fault-says n (suc b) (λ z. omega arith) q)))
+      key zero p (no m) (suc b) q =
+          absurd (f (suc b) (breaks (in-key _ p) m (fault-says n (suc b) (λ z. omega arith) q)))
 
   visits-visited : {seen todo : List Node} → Visits (graph d s) seen todo → Visited d s seen todo
   visits-visited begin = start
@@ -173,12 +201,27 @@ module _ (d : Disk) (s : List ℕ) where
 
   stops-first : (v k : ℕ) → Stops (graph d s) v k → FirstRefusal d s v k
   stops-first v k w =
-      record { seen = w .seen; node = w .node; todo = w .todo; visited = visits-visited (w .visits); fails = fails-says (w .seen) (w .node) v (w .refuses) (w .fails); keyed = w .keyed }
+      record {
+        seen = w .seen;
+        node = w .node;
+        todo = w .todo;
+        visited = visits-visited (w .visits);
+        fails = fails-says (w .seen) (w .node) v (w .refuses) (w .fails);
+        keyed = w .keyed;
+      }
 
   first-stops : (v k : ℕ) → FirstRefusal d s v k → Stops (graph d s) v k
   first-stops v k w =
       let h = says-fails (w .seen) (w .node) v (w .fails) in
-      record { seen = w .seen; node = w .node; todo = w .todo; visits = visited-visits (w .visited); fails = h .0; refuses = h .1; keyed = w .keyed }
+      record {
+        seen = w .seen;
+        node = w .node;
+        todo = w .todo;
+        visits = visited-visits (w .visited);
+        fails = h .0;
+        refuses = h .1;
+        keyed = w .keyed;
+      }
 
   pub refused-first : (v k : ℕ) → (walkOf d s ≡ refused v k) ↔ FirstRefusal d s v k
   unfolding walkOf

@@ -20,7 +20,8 @@ use Rattle.walk.specs.Nodes.{Node, root, bitmap, entry, list, datum, key
 use Rattle.volume.specs.Law.{Used}
 use Rattle.walk.specs.Reports.{count, Walked}
 use Rattle.walk.proofs.Nodes.{NodeReached}
-use Rattle.walk.proofs.Accepts.{TreePasses, key-bare, passes-in-tree, accepted-lawful, block-reached, node-reached, node-key}
+use Rattle.walk.proofs.Accepts.{TreePasses, key-bare, passes-in-tree, accepted-lawful, block-reached}
+use Rattle.walk.proofs.Accepts.{node-reached, node-key}
 use Rattle.walk.proofs.Tallies.{Tally, isRoot, isBitmap, noted-counts, count-one}
 use Rattle.walk.proofs.Trees.{file-reached}
 use Rattle.walk.proofs.Coherent.{Coherent, leads-coherent}
@@ -56,13 +57,17 @@ module _ (d : Disk) (s : List ℕ) where
 
     coherent : {n : Node} → NodeReached d s n → Coherent d s n
     coherent (top e) = subst (Coherent d s) (sym e) tt
-    coherent (ref {m = m} {n = n} i r h) = leads-coherent d s m (block-reached d s fine r) (file-reached d s fine) (coherent r) n (at-in n i (leadsTo d s m) h)
+    coherent (ref {m = m} {n = n} i r h) =
+        leads-coherent d s m (block-reached d s fine r) (file-reached d s fine) (coherent r) n
+        (at-in n i (leadsTo d s m) h)
 
     abbrev refs : List Ref
     refs = map (bare d) (rep .nodes)
 
     all′ : (r : Ref) → Reached (references d s) r → r ∈ refs
-    all′ r h = let u = node-reached d s fine h in subst (λ x. x ∈ refs) (sym (u .2)) (in-map (bare d) (u .0) (rep .nodes) (rep .all (u .0) (u .1)))
+    all′ r h =
+        let u = node-reached d s fine h in
+        subst (λ x. x ∈ refs) (sym (u .2)) (in-map (bare d) (u .0) (rep .nodes) (rep .all (u .0) (u .1)))
 
     -- a reference is a reached node's
     back : (r : Ref) → r ∈ refs → (n : Node) × NodeReached d s n × (r ≡ bare d n)
@@ -76,8 +81,15 @@ module _ (d : Disk) (s : List ℕ) where
     byte′ : (k : ℕ) → k < d .blocks → ((getD c k 1 ≡ 1) × Used d s k) ⊎ ((getD c k 1 ≡ 0) × (¬ Used d s k))
     byte′ k l = go (rep .byte k l)
       where
-        go : ((getD c k 1 ≡ 0) × ((n : Node) → NodeReached d s n → keyOf d n ≢ k)) ⊎ ((getD c k 1 ≡ 1) × ((n : Node) × NodeReached d s n × (keyOf d n ≡ k))) → ((getD c k 1 ≡ 1) × Used d s k) ⊎ ((getD c k 1 ≡ 0) × (¬ Used d s k))
-        go (inl z) = inr (z .0, λ u. let w = node-reached d s fine (u .1) in z .1 (w .0) (w .1) (node-key d s fine (u .1) ∙ u .2))
+        go : ((getD c k 1 ≡ 0) × ((n : Node) → NodeReached d s n → keyOf d n ≢ k))
+            ⊎ ((getD c k 1 ≡ 1) × ((n : Node) × NodeReached d s n × (keyOf d n ≡ k)))
+            → ((getD c k 1 ≡ 1) × Used d s k) ⊎ ((getD c k 1 ≡ 0) × (¬ Used d s k))
+        go (inl z) =
+            inr (
+              z .0,
+              λ u. let w = node-reached d s fine (u .1) in z .1 (w .0) (w .1)
+                  (node-key d s fine (u .1) ∙ u .2),
+            )
         go (inr o) = inl (o .0, (bare d (o .1 .0), block-reached d s fine (o .1 .1), key-bare d s (o .1 .0) ∙ o .1 .2))
 
     -- ---- counts
@@ -86,14 +98,19 @@ module _ (d : Disk) (s : List ℕ) where
     tally = subst (Tally d s (rep .nodes)) (sym (rep .noted)) (noted-counts d s (rep .nodes))
 
     -- a test that reached nodes pass with one key only counts one
-    once : (f : Ref → Bool) (x : Ref) → Reached (references d s) x → f x ≡ true → ((y : Node) → NodeReached d s y → f (bare d y) ≡ true → bare d y .key ≡ x .key) → count f refs ≡ 1
-    once f x r t h = count-one f (x .key) x refs (all′ x r) refl t keys′ (λ y a. let w = back y a in subst (λ z. f z ≡ true → z .key ≡ x .key) (sym (w .2)) (h (w .0) (w .1)))
+    once : (f : Ref → Bool) (x : Ref) → Reached (references d s) x → f x ≡ true
+        → ((y : Node) → NodeReached d s y → f (bare d y) ≡ true → bare d y .key ≡ x .key) → count f refs ≡ 1
+    once f x r t h =
+        count-one f (x .key) x refs (all′ x r) refl t keys′
+        (λ y a. let w = back y a in subst (λ z. f z ≡ true → z .key ≡ x .key) (sym (w .2)) (h (w .0) (w .1)))
 
     total′ : n .directories + n .files + n .lists + n .blocks + 2 ≡ length refs
     unfolding refersTo
     total′ =
         let a = once isRoot (to Kind.root (rootOf d)) (top refl) refl (λ y h. root-keyed y) in
-        let b = once isBitmap (to Kind.bitmap (wordOf s (rootOf d) 79)) (ref 0 (top refl) refl) refl (λ y h. bitmap-keyed y (coherent h)) in
+        let b =
+        once isBitmap (to Kind.bitmap (wordOf s (rootOf d) 79)) (ref 0 (top refl) refl) refl
+        (λ y h. bitmap-keyed y (coherent h)) in
         let t = tally .total in
         omega arith
 
@@ -104,7 +121,9 @@ module _ (d : Disk) (s : List ℕ) where
           byte = byte′;
           reached = refs;
           all = all′;
-          only = λ r a. let w = back r a in subst (Reached (references d s)) (sym (w .2)) (block-reached d s fine (w .1));
+          only =
+              λ r a. let w = back r a in subst (Reached (references d s)) (sym (w .2))
+              (block-reached d s fine (w .1));
           keys = keys′;
           directories = tally .directories;
           files = tally .files;

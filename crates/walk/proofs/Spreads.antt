@@ -1,5 +1,5 @@
--- A file as the walk meets it: each block that lists keys, then its data blocks, then the list block after it (`Spread`). A file is as the law
--- says if and only if it is so spread (`file-spreads`). Assumes nothing.
+-- A file as the walk meets it: each block that lists keys, then its data blocks, then the list block after it
+-- (`Spread`). A file is as the law says if and only if it is so spread (`file-spreads`). Assumes nothing.
 use Prim.Native.Nat.{ℕ, zero, suc, _+_, _-_, _*_, _≤_}
 use mathlib.Core.Path.{_≡_, refl, sym, ap, ap₂, _∙_}
 use mathlib.Core.Logic.{inl, inr, _↔_}
@@ -42,7 +42,8 @@ module _ (d : Disk) (s : List ℕ) (h : ℕ) where
   Run m c [] = Unit {0}
   Run m c (k ∷ ks) = Follows (suc m) c k × Run (suc m) k ks
 
-  run-append : (m c n : ℕ) (xs ys : List ℕ) → m + length xs ≡ n → Run m c (xs ++ ys) ↔ (Run m c xs × Run n (lastOf c xs) ys)
+  run-append : (m c n : ℕ) (xs ys : List ℕ) → m + length xs ≡ n
+      → Run m c (xs ++ ys) ↔ (Run m c xs × Run n (lastOf c xs) ys)
   run-append m c n [] ys e = let f : m ≡ n = omega arith in ((λ r. (tt, rw f at r)), (λ r. rw f (r .1)))
   run-append m c n (x ∷ xs) ys e =
       let w = run-append (suc m) x n xs ys (omega arith) in
@@ -61,11 +62,21 @@ module _ (d : Disk) (s : List ℕ) (h : ℕ) where
 
   law-run : (m c : ℕ) (ks : List ℕ) → m + length ks ≡ N → Numbered m ks → Linked c ks → Run m c ks
   law-run m c [] e b l = tt
-  law-run m c (k ∷ ks) e b l = ((b 0 k (suc m) (omega arith) refl, head-eq-of-cons-eq l, λ z. linked-end k ks (omega arith) (tail-eq-of-cons-eq l)), law-run (suc m) k ks (omega arith) (λ i x n z a. b (suc i) x n (omega arith) a) (tail-eq-of-cons-eq l))
+  law-run m c (k ∷ ks) e b l = (
+    (
+      b 0 k (suc m) (omega arith) refl,
+      head-eq-of-cons-eq l,
+      λ z. linked-end k ks (omega arith) (tail-eq-of-cons-eq l),
+    ),
+    law-run (suc m) k ks (omega arith) (λ i x n z a. b (suc i) x n (omega arith) a) (tail-eq-of-cons-eq l),
+  )
 
-  run-law : (m c : ℕ) (ks : List ℕ) → m + length ks ≡ N → (m ≡ N → wordOf s c 4 ≡ 0) → Run m c ks → Numbered m ks × Linked c ks
+  run-law : (m c : ℕ) (ks : List ℕ) → m + length ks ≡ N → (m ≡ N → wordOf s c 4 ≡ 0) → Run m c ks
+      → Numbered m ks × Linked c ks
   run-law m c [] e z r = ((λ i k n q a. absurd a), ap (λ x. x ∷ []) (z (omega arith)))
-  run-law m c (k ∷ ks) e z r = let t = run-law (suc m) k ks (omega arith) (r .0 .2) (r .1) in (blocks (t .0), ap₂ (λ x l. x ∷ l) (r .0 .1) (t .1))
+  run-law m c (k ∷ ks) e z r =
+      let t = run-law (suc m) k ks (omega arith) (r .0 .2) (r .1) in
+      (blocks (t .0), ap₂ (λ x l. x ∷ l) (r .0 .1) (t .1))
     where
       blocks : Numbered (suc m) ks → Numbered m (k ∷ ks)
       blocks b zero x n q a = let f : n ≡ suc m = omega arith in rw (f, a) (r .0 .0)
@@ -79,10 +90,13 @@ module _ (d : Disk) (s : List ℕ) (h : ℕ) where
 
   abbrev pub Spread : ℕ → ℕ → ℕ → ℕ → Type 0
   Spread zero b m c = KeyCount s b (blocksOf d s h - m) × Run m c (keysDown s b 0 (here m))
-  Spread (suc q) b m c = KeyCount s b (blocksOf d s h - m) × Run m c (keysDown s b 0 (here m)) × ListBlock s h (wordOf s b 126) × Spread q (wordOf s b 126) (m + here m) (before s b c (here m))
+  Spread (suc q) b m c =
+      KeyCount s b (blocksOf d s h - m) × Run m c (keysDown s b 0 (here m)) × ListBlock s h (wordOf s b 126)
+      × Spread q (wordOf s b 126) (m + here m) (before s b c (here m))
 
   -- of b itself
-  pub spread-first : (q b m c : ℕ) → Spread q b m c → KeyCount s b (blocksOf d s h - m) × Run m c (keysDown s b 0 (here m))
+  pub spread-first : (q b m c : ℕ) → Spread q b m c
+      → KeyCount s b (blocksOf d s h - m) × Run m c (keysDown s b 0 (here m))
   spread-first zero b m c p = p
   spread-first (suc q) b m c p = (p .0, p .1)
 
@@ -97,7 +111,9 @@ module _ (d : Disk) (s : List ℕ) (h : ℕ) where
   keys q b r = keysFrom s r (b ∷ listsFrom s b q)
 
   -- the keys of one block, and those after
-  run-here : (m c b r : ℕ) (ys : List ℕ) → r ≡ N - m → Run m c (keysDown s b 0 (keysHere r) ++ ys) ↔ (Run m c (keysDown s b 0 (here m)) × Run (m + here m) (before s b c (here m)) ys)
+  run-here : (m c b r : ℕ) (ys : List ℕ) → r ≡ N - m
+      → Run m c (keysDown s b 0 (keysHere r) ++ ys)
+      ↔ (Run m c (keysDown s b 0 (here m)) × Run (m + here m) (before s b c (here m)) ys)
   run-here m c b r ys e =
       let f : keysHere r ≡ here m = ap keysHere e in
       let g = keys-last s b c 0 (here m) ∙ ap (before s b c) (zero-add (here m)) in
@@ -108,8 +124,13 @@ module _ (d : Disk) (s : List ℕ) (h : ℕ) where
   law-spread zero b m c r e l f k = (l 0 b (N - m) (omega arith) refl, run-here m c b r [] e .0 k .0)
   law-spread (suc q) b m c r e l f k =
       let w = run-here m c b r (keys q (wordOf s b 126) (r - slots)) e .0 k in
-      let g : r - slots ≡ N - (m + here m) = omega arith in
-      (l 0 b (N - m) (omega arith) refl, w .0, f (wordOf s b 126) (inl refl), law-spread q (wordOf s b 126) (m + here m) (before s b c (here m)) (r - slots) g (λ i x n z a. l (suc i) x n (omega arith) a) (λ x a. f x (inr a)) (w .1))
+      let g : r - slots ≡ N - (m + here m) = omega arith in (
+        l 0 b (N - m) (omega arith) refl,
+        w .0,
+        f (wordOf s b 126) (inl refl),
+        law-spread q (wordOf s b 126) (m + here m) (before s b c (here m)) (r - slots) g
+            (λ i x n z a. l (suc i) x n (omega arith) a) (λ x a. f x (inr a)) (w .1),
+      )
 
   spread-law : (q b m c r : ℕ) → r ≡ N - m → Spread q b m c → Counted q b r × Behind q b × Run m c (keys q b r)
   unfolding keysFrom listsFrom
@@ -138,7 +159,9 @@ module _ (d : Disk) (s : List ℕ) (h : ℕ) where
 
   -- the header's own rules, and the rest
   abbrev pub Spreads : Type 0
-  Spreads = (sizeOf s h ≤ fileLimit d) × (blocksOf d s h ≡ 0 → wordOf s h 4 ≡ 0) × Spread (listBlocks (blocksOf d s h)) h 0 h
+  Spreads =
+      (sizeOf s h ≤ fileLimit d) × (blocksOf d s h ≡ 0 → wordOf s h 4 ≡ 0)
+      × Spread (listBlocks (blocksOf d s h)) h 0 h
 
   pub file-spreads : File d s h ↔ Spreads
   file-spreads = (spread, file)
@@ -148,11 +171,18 @@ module _ (d : Disk) (s : List ℕ) (h : ℕ) where
         f .size,
         (λ e. linked-end h (keys (listBlocks N) h N) (omega (arith, whole)) (f .following)),
         law-spread (listBlocks N) h 0 h N (omega arith) (λ i x n e a. rw e (f .counts i x a)) (f .lists)
-            (law-run 0 h (keys (listBlocks N) h N) whole (λ i k n e a. let g : n ≡ suc i = omega arith in rw g (f .blocks i k a)) (f .following)),
+            (law-run 0 h (keys (listBlocks N) h N) whole
+            (λ i k n e a. let g : n ≡ suc i = omega arith in rw g (f .blocks i k a)) (f .following)),
       )
 
       file : Spreads → File d s h
       file p =
           let w = spread-law (listBlocks N) h 0 h N (omega arith) (p .2) in
           let u = run-law 0 h (keys (listBlocks N) h N) whole (λ q. p .1 (sym q)) (w .2) in
-          record { size = p .0; counts = λ i b a. w .0 i b (N - slots * i) refl a; lists = w .1; blocks = λ i k a. u .0 i k (suc i) (omega arith) a; following = u .1 }
+          record {
+            size = p .0;
+            counts = λ i b a. w .0 i b (N - slots * i) refl a;
+            lists = w .1;
+            blocks = λ i k a. u .0 i k (suc i) (omega arith) a;
+            following = u .1;
+          }

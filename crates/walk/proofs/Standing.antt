@@ -1,4 +1,5 @@
--- What the walk meets by way of nodes that pass: its block is reached, and its context says where it stands (`Stood`). Assumes nothing.
+-- What the walk meets by way of nodes that pass: its block is reached, and its context says where it stands
+-- (`Stood`). Assumes nothing.
 use Prim.Native.Nat.{ℕ, zero, suc, _+_, _-_, _*_, _<_, _≤_}
 use mathlib.Core.Path.{_≡_, refl, sym, ap, _∙_, subst}
 use mathlib.Core.Logic.{_≢_, _⊎_, inl, inr}
@@ -19,7 +20,8 @@ use Rattle.volume.specs.Law.{chainKey, KeyCount}
 use Rattle.volume.specs.Breaks.{IsData}
 use Rattle.volume.proofs.Keys.{down-at, down-long}
 use Rattle.volume.proofs.Passes.{entry-passed, file-passed, list-passed}
-use Rattle.walk.specs.Nodes.{Node, root, bitmap, entry, list, datum, keyOf, bare, chained, slotNodes, before, keyNodes, listLink, keyBlockNodes, contents, leadsTo, keyFault, faultOf, graph}
+use Rattle.walk.specs.Nodes.{Node, root, bitmap, entry, list, datum, keyOf, bare, chained, slotNodes, before}
+use Rattle.walk.specs.Nodes.{keyNodes, listLink, keyBlockNodes, contents, leadsTo, keyFault, faultOf, graph}
 use Rattle.walk.specs.Refusals.{Holder, FileAt}
 use Rattle.walk.proofs.Lists.{at-left, at-right, at-end}
 use Rattle.walk.proofs.Nodes.{in-linked, in-slots}
@@ -40,7 +42,8 @@ module _ (d : Disk) (s : List ℕ) where
     pub split : h ∷ listsOf d s h ≡ lists ++ (b ∷ listsFrom s b (listBlocks (blocksOf d s h - m)))
     pub passed : m ≡ slots * length lists
     pub keys : List ℕ
-    pub keyed : keysOf d s h ≡ keys ++ keysFrom s (blocksOf d s h - m) (b ∷ listsFrom s b (listBlocks (blocksOf d s h - m)))
+    pub keyed : keysOf d s h ≡ keys
+        ++ keysFrom s (blocksOf d s h - m) (b ∷ listsFrom s b (listBlocks (blocksOf d s h - m)))
     pub long : length keys ≡ m
     pub last : At m c (h ∷ keysOf d s h)
 
@@ -92,17 +95,30 @@ module _ (d : Disk) (s : List ℕ) where
 
     key-at : (i : ℕ) → i < n → At (m + i) (keyWord s b i) (keysOf d s h)
     key-at i g =
-        let a = at-left (keyWord s b i) i (keysDown s b 0 n) (keysFrom s (blocksOf d s h - m - slots) blocks-after) (down-at s b 0 n i i (omega arith) g) in
-        subst (At (m + i) (keyWord s b i)) (sym split) (at-right (keyWord s b i) (m + i) i (t .keys) _ (omega (arith, t .long)) a)
+        let a =
+        at-left (keyWord s b i) i (keysDown s b 0 n) (keysFrom s (blocksOf d s h - m - slots) blocks-after)
+        (down-at s b 0 n i i (omega arith) g) in
+        subst (At (m + i) (keyWord s b i)) (sym split)
+        (at-right (keyWord s b i) (m + i) i (t .keys) _ (omega (arith, t .long)) a)
 
     before-at : (i : ℕ) → i < suc n → At (m + i) (before s b c i) (h ∷ keysOf d s h)
     before-at zero g = let e : m + 0 ≡ m = omega arith in subst (λ x. At x c (h ∷ keysOf d s h)) (sym e) (t .last)
-    before-at (suc i) g = let e : m + suc i ≡ suc (m + i) = omega arith in subst (λ x. At x (keyWord s b i) (h ∷ keysOf d s h)) (sym e) (key-at i (omega arith))
+    before-at (suc i) g =
+        let e : m + suc i ≡ suc (m + i) = omega arith in
+        subst (λ x. At x (keyWord s b i) (h ∷ keysOf d s h)) (sym e) (key-at i (omega arith))
 
     keys-stood : (i r : ℕ) → i + r ≡ n → (x : Node) → x ∈ keyNodes s h b m c i r → Stood x
     unfolding keyNodes
     keys-stood i zero e x a = absurd a
-    keys-stood i (suc r) e x (inl q) = subst Stood (sym q) (file, record { index = m + i; number = refl; is = record { here = key-at i (omega arith); before = before-at i (omega arith) } })
+    keys-stood i (suc r) e x (inl q) =
+        subst Stood (sym q) (
+          file,
+          record {
+            index = m + i;
+            number = refl;
+            is = record { here = key-at i (omega arith); before = before-at i (omega arith) };
+          },
+        )
     keys-stood i (suc r) e x (inr a) = keys-stood (suc i) r (omega arith) x a
 
     -- the list block after b
@@ -148,7 +164,9 @@ module _ (d : Disk) (s : List ℕ) where
             keyed′ : keysOf d s h ≡ (t .keys ++ keysDown s b 0 n) ++ keysFrom s (blocksOf d s h - (m + n)) rest
             keyed′ =
                 split
-                ∙ ap (λ x. t .keys ++ (keysDown s b 0 n ++ x)) (ap (λ y. keysFrom s y blocks-after) f ∙ ap (keysFrom s (blocksOf d s h - (m + n))) (ap (listsFrom s b) e ∙ after))
+                ∙ ap (λ x. t .keys ++ (keysDown s b 0 n ++ x))
+                (ap (λ y. keysFrom s y blocks-after) f ∙ ap (keysFrom s (blocksOf d s h - (m + n)))
+                (ap (listsFrom s b) e ∙ after))
                 ∙ sym (append-assoc (t .keys) (keysDown s b 0 n) (keysFrom s (blocksOf d s h - (m + n)) rest))
 
     nodes-stood : (x : Node) → x ∈ keyBlockNodes d s h b m c → Stood x
@@ -164,27 +182,40 @@ module _ (d : Disk) (s : List ℕ) where
 
   slots-stood : (t : ℕ) → Holder d s t → (x : Node) → x ∈ slotNodes s t 0 slots → Stood x
   unfolding chainKey
-  slots-stood t o x h = let r = in-slots s t 0 slots x h in let l = r .1 in subst Stood (sym (r .2 .1)) (o, omega arith, refl, r .2 .0)
+  slots-stood t o x h =
+      let r = in-slots s t 0 slots x h in let l = r .1 in subst Stood (sym (r .2 .1)) (o, omega arith, refl, r .2 .0)
 
-  contents-stood : (k : ℕ) → Reached (references d s) (to Kind.entry k) → (b : Bool) → directory s k ≡ b → (b ≡ false → (wordOf s k 127 ≡ 0xFFFFFFFD) × KeyCount s k (blocksOf d s k)) → (x : Node) → x ∈ contents d s k b → Stood x
+  contents-stood : (k : ℕ) → Reached (references d s) (to Kind.entry k) → (b : Bool) → directory s k ≡ b
+      → (b ≡ false → (wordOf s k 127 ≡ 0xFFFFFFFD) × KeyCount s k (blocksOf d s k)) → (x : Node)
+      → x ∈ contents d s k b → Stood x
   contents-stood k r true e l = slots-stood k (inr (r, e))
   contents-stood k r false e l =
       let z : blocksOf d s k ≡ blocksOf d s k - 0 = omega arith in
-      nodes-stood k k 0 k (record { reached = r; kind = l refl .0 }) (header-tail k) (subst (KeyCount s k) z (l refl .1))
+      nodes-stood k k 0 k (record { reached = r; kind = l refl .0 }) (header-tail k)
+      (subst (KeyCount s k) z (l refl .1))
 
-  leads-stood : (m : Node) → Reached (references d s) (bare d m) → faultOf d s m ≡ 0 → Stood m → (x : Node) → x ∈ leadsTo d s m → Stood x
+  leads-stood : (m : Node) → Reached (references d s) (bare d m) → faultOf d s m ≡ 0 → Stood m → (x : Node)
+      → x ∈ leadsTo d s m → Stood x
   unfolding leadsTo faultOf
   leads-stood root r e c x (inl q) = subst Stood (sym q) refl
   leads-stood root r e c x (inr a) = slots-stood (rootOf d) (inl refl) x a
   leads-stood (bitmap k) r e c x a = absurd a
-  leads-stood (entry k t i p) r e c x a = go (in-either x (contents d s k (directory s k)) (chained (wordOf s k 124) t i (suc p)) a)
+  leads-stood (entry k t i p) r e c x a =
+      go (in-either x (contents d s k (directory s k)) (chained (wordOf s k 124) t i (suc p)) a)
     where
       next : chainKey s (slotWord s t i) (suc p) ≡ wordOf s k 124
       next = chain-next s (slotWord s t i) p (λ z. c .3 (sym (c .2) ∙ z)) ∙ ap (λ y. wordOf s y 124) (c .2)
 
       go : (x ∈ contents d s k (directory s k)) ⊎ (x ∈ chained (wordOf s k 124) t i (suc p)) → Stood x
-      go (inl a) = contents-stood k r (directory s k) refl (λ q. let h = hung-passed d s k t i p e in (file-kind d s k (entry-passed d s k t i (h .0) .entry) q, file-passed d s k (h .2 q) .1)) x a
-      go (inr a) = let w = in-linked (wordOf s k 124) (λ k. entry k t i (suc p)) x a in subst Stood (sym (w .1)) (c .0, c .1, next, w .0)
+      go (inl a) =
+          contents-stood k r (directory s k) refl
+          (λ q. let h = hung-passed d s k t i p e in (
+            file-kind d s k (entry-passed d s k t i (h .0) .entry) q,
+            file-passed d s k (h .2 q) .1,
+          )) x a
+      go (inr a) =
+          let w = in-linked (wordOf s k 124) (λ k. entry k t i (suc p)) x a in
+          subst Stood (sym (w .1)) (c .0, c .1, next, w .0)
   leads-stood (list k h m b) r e c x a = nodes-stood h k m b (c .0) (c .2) (list-passed s k h _ e .2) x a
   leads-stood (datum k h n b) r e c x a = absurd a
 
@@ -198,7 +229,11 @@ module _ (d : Disk) (s : List ℕ) where
   met (top e) = (top (ap (bare d) e), subst Stood (sym e) tt)
   met (ref {m = m} {n = n} i r h) = go (met r) (pruned-at (graph d s) i m n h)
     where
-      go : Reached (references d s) (bare d m) × Stood m → (keyFault d (keyOf d m) ≡ 0) × (faultOf d s m ≡ 0) × At i n (leadsTo d s m) → Reached (references d s) (bare d n) × Stood n
+      go : Reached (references d s) (bare d m) × Stood m
+          → (keyFault d (keyOf d m) ≡ 0) × (faultOf d s m ≡ 0) × At i n (leadsTo d s m)
+          → Reached (references d s) (bare d n) × Stood n
       go w p =
-          let a = at-map (bare d) i n (leadsTo d s m) (p .2) in
-          (ref i (w .0) (subst (At i (bare d n)) (refs-bare d s m (in-tree d s m (p .1))) a), leads-stood m (w .0) (p .1) (w .1) n (at-in n i (leadsTo d s m) (p .2)))
+          let a = at-map (bare d) i n (leadsTo d s m) (p .2) in (
+            ref i (w .0) (subst (At i (bare d n)) (refs-bare d s m (in-tree d s m (p .1))) a),
+            leads-stood m (w .0) (p .1) (w .1) n (at-in n i (leadsTo d s m) (p .2)),
+          )

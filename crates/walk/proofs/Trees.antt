@@ -1,5 +1,5 @@
--- The theorem `passes-tree`: if every reached node passes its tests, every block is owned once, and length and tag are right, the tree is as
--- its law says. Assumes nothing.
+-- The theorem `passes-tree`: if every reached node passes its tests, every block is owned once, and length and tag
+-- are right, the tree is as its law says. Assumes nothing.
 use Prim.Native.Nat.{ℕ, zero, suc, _+_, _-_, _≤_, _<_}
 use mathlib.Core.Path.{_≡_, refl, sym, ap, subst}
 use mathlib.Core.Logic.{_≢_}
@@ -17,7 +17,8 @@ use Rattle.volume.specs.Files.{keysDown, listBlocks, blocksOf}
 use Rattle.volume.specs.References.{Kind, to, references}
 use Rattle.volume.specs.Law.{KeyCount, Directory, File, Tree}
 use Rattle.volume.proofs.Passes.{EntrySound, entry-passed, file-passed, list-passed, data-passed}
-use Rattle.walk.specs.Nodes.{Node, root, bitmap, entry, list, datum, keyOf, bare, before, keyNodes, listLink, keyBlockNodes, contents, leadsTo, faultOf}
+use Rattle.walk.specs.Nodes.{Node, root, bitmap, entry, list, datum, keyOf, bare, before, keyNodes, listLink}
+use Rattle.walk.specs.Nodes.{keyBlockNodes, contents, leadsTo, faultOf}
 use Rattle.walk.proofs.Nodes.{NodeReached, linked-in}
 use Rattle.walk.proofs.Passes.{Hung, key-passed, hung-passed, sum-passed}
 use Rattle.walk.proofs.Accepts.{TreePasses, node-reached, node-key}
@@ -34,29 +35,40 @@ module _ (d : Disk) (s : List ℕ) (fine : TreePasses d s) where
   sound (bitmap k) r = tt
   sound (entry k t i p) r = tt
   sound (list k h m c) r = tt
-  sound (datum k h n c) r = let p = data-passed d s k h n (wordOf s c 4) (fine (datum k h n c) r .1) in (p .1, p .2 .0, p .2 .1)
+  sound (datum k h n c) r =
+      let p = data-passed d s k h n (wordOf s c 4) (fine (datum k h n c) r .1) in (p .1, p .2 .0, p .2 .1)
 
   module _ (h b m c : ℕ) (r : (x : Node) → x ∈ keyBlockNodes d s h b m c → NodeReached d s x) where
     abbrev n : ℕ
     n = here d s h m
 
     run-reached : Run d s h m c (keysDown s b 0 n)
-    run-reached = run-nodes d s h b m c .1 (λ x a. sound x (r x (in-left x (keyNodes s h b m c 0 n) (listLink (wordOf s b 126) h (m + n) (before s b c n)) a)))
+    run-reached =
+        run-nodes d s h b m c .1 (λ x a. sound x
+        (r x (in-left x (keyNodes s h b m c 0 n) (listLink (wordOf s b 126) h (m + n) (before s b c n)) a)))
 
     behind-reached : wordOf s b 126 ≢ 0 → NodeReached d s (list (wordOf s b 126) h (m + n) (before s b c n))
     behind-reached w =
         let x = list (wordOf s b 126) h (m + n) (before s b c n) in
-        r x (in-right x (keyNodes s h b m c 0 n) (listLink (wordOf s b 126) h (m + n) (before s b c n)) (linked-in (wordOf s b 126) (λ k. list k h (m + n) (before s b c n)) w))
+        r x (in-right x (keyNodes s h b m c 0 n) (listLink (wordOf s b 126) h (m + n) (before s b c n))
+        (linked-in (wordOf s b 126) (λ k. list k h (m + n) (before s b c n)) w))
 
-  spread-reached : (h q b m c : ℕ) → q ≡ listBlocks (blocksOf d s h - m) → ((x : Node) → x ∈ keyBlockNodes d s h b m c → NodeReached d s x) → KeyCount s b (blocksOf d s h - m) → Spread d s h q b m c
+  spread-reached : (h q b m c : ℕ) → q ≡ listBlocks (blocksOf d s h - m)
+      → ((x : Node) → x ∈ keyBlockNodes d s h b m c → NodeReached d s x) → KeyCount s b (blocksOf d s h - m)
+      → Spread d s h q b m c
   unfolding faultOf leadsTo
   spread-reached h zero b m c e r l = (l, run-reached h b m c r)
   spread-reached h (suc q) b m c e r l =
       let n = here d s h m in
       let x = list (wordOf s b 126) h (m + n) (before s b c n) in
       let a = behind-reached h b m c r (λ z. omega (arith, e, l .more .0 z)) in
-      let f = list-passed s (wordOf s b 126) h (blocksOf d s h - (m + n)) (fine x a .1) in
-      (l, run-reached h b m c r, f .1, spread-reached h q (wordOf s b 126) (m + n) (before s b c n) (omega (arith, e)) (λ y h. leads d s x y a h) (f .2))
+      let f = list-passed s (wordOf s b 126) h (blocksOf d s h - (m + n)) (fine x a .1) in (
+        l,
+        run-reached h b m c r,
+        f .1,
+        spread-reached h q (wordOf s b 126) (m + n) (before s b c n) (omega (arith, e))
+            (λ y h. leads d s x y a h) (f .2),
+      )
 
   -- ---- an entry
 
@@ -73,7 +85,8 @@ module _ (d : Disk) (s : List ℕ) (fine : TreePasses d s) where
   entry-node : (k : ℕ) (n : Node) → NodeReached d s n → to Kind.entry k ≡ bare d n → EntryNode k
   entry-node k root r e = absurd (subst IsEntry (ap (λ x. x .kind) e) tt)
   entry-node k (bitmap x) r e = absurd (subst IsEntry (ap (λ x. x .kind) e) tt)
-  entry-node k (entry x t i p) r e = (t, i, p, subst (λ y. NodeReached d s (entry y t i p)) (ap (λ x. x .key) (sym e)) r)
+  entry-node k (entry x t i p) r e =
+      (t, i, p, subst (λ y. NodeReached d s (entry y t i p)) (ap (λ x. x .key) (sym e)) r)
   entry-node k (list x h m c) r e = absurd (subst IsEntry (ap (λ x. x .kind) e) tt)
   entry-node k (datum x h n c) r e = absurd (subst IsEntry (ap (λ x. x .kind) e) tt)
 
@@ -98,7 +111,12 @@ module _ (d : Disk) (s : List ℕ) (fine : TreePasses d s) where
     file-reached e =
         let f = file-passed d s k (hung .2 e) in
         let z : blocksOf d s k ≡ blocksOf d s k - 0 = omega arith in
-        file-spreads d s k .1 (f .0, f .2, spread-reached k (listBlocks (blocksOf d s k)) k 0 k (ap listBlocks z) (content false e) (subst (KeyCount s k) z (f .1)))
+        file-spreads d s k .1 (
+          f .0,
+          f .2,
+          spread-reached k (listBlocks (blocksOf d s k)) k 0 k (ap listBlocks z)
+              (content false e) (subst (KeyCount s k) z (f .1)),
+        )
 
   -- ---- the theorem
 
@@ -107,8 +125,12 @@ module _ (d : Disk) (s : List ℕ) (fine : TreePasses d s) where
       record {
         long = l;
         tag = t;
-        keys = λ r h. let n = node-reached d s fine h in subst (λ k. (firstKey ≤ k) × (k < d .blocks)) (node-key d s fine h) (key-passed d (keyOf d (n .0)) (fine (n .0) (n .1) .0));
-        sums = λ r h. let n = node-reached d s fine h in subst (λ k. sumOf s k ≡ 0) (node-key d s fine h) (sum-passed d s (n .0) (fine (n .0) (n .1) .1));
+        keys =
+            λ r h. let n = node-reached d s fine h in subst (λ k. (firstKey ≤ k) × (k < d .blocks))
+            (node-key d s fine h) (key-passed d (keyOf d (n .0)) (fine (n .0) (n .1) .0));
+        sums =
+            λ r h. let n = node-reached d s fine h in subst (λ k. sumOf s k ≡ 0) (node-key d s fine h)
+            (sum-passed d s (n .0) (fine (n .0) (n .1) .1));
         top = fine root (top refl) .1 .1;
         entries = λ k h. entry-sound k h .entry;
         holds = directory-law d s (rootOf d) (root-opened d s) fine;

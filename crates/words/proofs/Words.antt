@@ -43,7 +43,8 @@ four-of w h =
     omega (arith, div-add-mod' w 256, div-add-mod' (w / 256) 256, div-add-mod' (w / 65536) 256)
 
 -- every byte stands before the word at `at`, after it, or is one of its four
-pub split : (P : ℕ → Type 0) (at : ℕ) → P at → P (at + 1) → P (at + 2) → P (at + 3) → ((k : ℕ) → k < at → P k) → ((k : ℕ) → at + 4 ≤ k → P k) → (k : ℕ) → P k
+pub split : (P : ℕ → Type 0) (at : ℕ) → P at → P (at + 1) → P (at + 2) → P (at + 3) → ((k : ℕ) → k < at → P k)
+    → ((k : ℕ) → at + 4 ≤ k → P k) → (k : ℕ) → P k
 split P at p0 p1 p2 p3 lo hi k = go (decLt k at)
   where
     on : (j : ℕ) → P (at + j)
@@ -91,13 +92,15 @@ module _ (s : List ℕ) (at w : ℕ) where
     unfolding setWord
     setWord-2 =
         let n3 : at + 2 ≢ at + 3 = omega arith in
-        let h : at + 2 < length (set (set s at (w / 16777216 % 256)) (at + 1) (w / 65536 % 256)) = simp length-set (omega arith) in
+        let h : at + 2 < length (set (set s at (w / 16777216 % 256)) (at + 1) (w / 65536 % 256)) =
+        simp length-set (omega arith) in
         simp (getD-set-other, getD-set-same)
 
     pub setWord-3 : getD (setWord s at w) (at + 3) 0 ≡ w % 256
     unfolding setWord
     setWord-3 =
-        let h : at + 3 < length (set (set (set s at (w / 16777216 % 256)) (at + 1) (w / 65536 % 256)) (at + 2) (w / 256 % 256)) = simp length-set (omega arith) in
+        let h : at + 3 < length (set (set (set s at (w / 16777216 % 256)) (at + 1) (w / 65536 % 256)) (at + 2)
+        (w / 256 % 256)) = simp length-set (omega arith) in
         simp getD-set-same
 
     pub wordAt-same : w < 2 ^ 32 → wordAt (setWord s at w) at ≡ w
@@ -108,15 +111,32 @@ module _ (s : List ℕ) (at w : ℕ) where
   unfolding wordAt
   wordAt-apart b f =
       ⊎-elim
-      (λ h. rw (setWord-above b h, setWord-above (b + 1) (omega arith), setWord-above (b + 2) (omega arith), setWord-above (b + 3) (omega arith)))
-      (λ h. rw (setWord-below b (omega arith), setWord-below (b + 1) (omega arith), setWord-below (b + 2) (omega arith), setWord-below (b + 3) (omega arith)))
+      (λ h. rw (
+        setWord-above b h,
+        setWord-above (b + 1) (omega arith),
+        setWord-above (b + 2) (omega arith),
+        setWord-above (b + 3) (omega arith),
+      ))
+      (λ h. rw (
+        setWord-below b (omega arith),
+        setWord-below (b + 1) (omega arith),
+        setWord-below (b + 2) (omega arith),
+        setWord-below (b + 3) (omega arith),
+      ))
       f
 
 -- the word that stands there, stored again
 pub setWord-self : (s : List ℕ) (at : ℕ) → Bytes s → setWord s at (wordAt s at) ≡ s
 unfolding setWord wordAt
 setWord-self s at h =
-    rw (four-1 _ _ _ _ (h (at + 1)) (h (at + 2)) (h (at + 3)), mod-eq-of-lt (h at), four-2 _ _ _ _ (h (at + 1)) (h (at + 2)) (h (at + 3)), four-3 _ _ _ _ (h (at + 1)) (h (at + 2)) (h (at + 3)), four-4 _ _ _ _ (h (at + 1)) (h (at + 2)) (h (at + 3)), set-getD)
+    rw (
+      four-1 _ _ _ _ (h (at + 1)) (h (at + 2)) (h (at + 3)),
+      mod-eq-of-lt (h at),
+      four-2 _ _ _ _ (h (at + 1)) (h (at + 2)) (h (at + 3)),
+      four-3 _ _ _ _ (h (at + 1)) (h (at + 2)) (h (at + 3)),
+      four-4 _ _ _ _ (h (at + 1)) (h (at + 2)) (h (at + 3)),
+      set-getD,
+    )
     (simp set-getD)
 
 pub setWord-twice : (s : List ℕ) (at v w : ℕ) → at + 4 ≤ length s → setWord (setWord s at v) at w ≡ setWord s at w
@@ -135,21 +155,31 @@ setWord-twice s at v w fits =
     i)
 
 -- a byte outside the word may be stored before or after
-past : (l : List ℕ) (i x at w : ℕ) → i ≢ at → i ≢ at + 1 → i ≢ at + 2 → i ≢ at + 3 → setWord (set l i x) at w ≡ set (setWord l at w) i x
+past : (l : List ℕ) (i x at w : ℕ) → i ≢ at → i ≢ at + 1 → i ≢ at + 2 → i ≢ at + 3
+    → setWord (set l i x) at w ≡ set (setWord l at w) i x
 unfolding setWord
 past l i x at w h0 h1 h2 h3 =
-    rw (set-comm _ i at _ _ h0, set-comm _ i (at + 1) _ _ h1, set-comm _ i (at + 2) _ _ h2, set-comm _ i (at + 3) _ _ h3)
+    rw (
+      set-comm _ i at _ _ h0,
+      set-comm _ i (at + 1) _ _ h1,
+      set-comm _ i (at + 2) _ _ h2,
+      set-comm _ i (at + 3) _ _ h3,
+    )
 
 past-off : (l : List ℕ) (i x at w : ℕ) → (i < at) ⊎ (at + 4 ≤ i) → setWord (set l i x) at w ≡ set (setWord l at w) i x
 past-off l i x at w f =
     ⊎-elim (λ h. past l i x at w (omega arith) (omega arith) (omega arith) (omega arith))
     (λ h. past l i x at w (omega arith) (omega arith) (omega arith) (omega arith)) f
 
-open4 : (s : List ℕ) (at w : ℕ) → setWord s at w ≡ set (set (set (set s at (w / 16777216 % 256)) (at + 1) (w / 65536 % 256)) (at + 2) (w / 256 % 256)) (at + 3) (w % 256)
+open4 : (s : List ℕ) (at w : ℕ)
+    → setWord s at w ≡ set (set (set (set s at (w / 16777216 % 256)) (at + 1) (w / 65536 % 256)) (at + 2)
+    (w / 256 % 256)) (at + 3) (w % 256)
 unfolding setWord
 open4 s at w = refl
 
-unfold4 : (s : List ℕ) (a v b w : ℕ) → (a < b) ⊎ (b + 4 ≤ a) → (a + 1 < b) ⊎ (b + 4 ≤ a + 1) → (a + 2 < b) ⊎ (b + 4 ≤ a + 2) → (a + 3 < b) ⊎ (b + 4 ≤ a + 3) → setWord (setWord s a v) b w ≡ setWord (setWord s b w) a v
+unfold4 : (s : List ℕ) (a v b w : ℕ) → (a < b) ⊎ (b + 4 ≤ a) → (a + 1 < b) ⊎ (b + 4 ≤ a + 1)
+    → (a + 2 < b) ⊎ (b + 4 ≤ a + 2) → (a + 3 < b) ⊎ (b + 4 ≤ a + 3)
+    → setWord (setWord s a v) b w ≡ setWord (setWord s b w) a v
 unfold4 s a v b w o0 o1 o2 o3 =
     ap (λ (l : List ℕ). setWord l b w) (open4 s a v) ∙ (simp past-off) ∙ sym (open4 (setWord s b w) a v)
 
@@ -164,10 +194,16 @@ setWord-comm s a b v w f =
     unfold4 s a v b w o0 o1 o2 o3
 
 -- a word depends on its own bytes alone
-pub wordAt-same-bytes : (s t : List ℕ) (at : ℕ) → ((k : ℕ) → at ≤ k → k < at + 4 → getD s k 0 ≡ getD t k 0) → wordAt s at ≡ wordAt t at
+pub wordAt-same-bytes : (s t : List ℕ) (at : ℕ) → ((k : ℕ) → at ≤ k → k < at + 4 → getD s k 0 ≡ getD t k 0)
+    → wordAt s at ≡ wordAt t at
 unfolding wordAt
 wordAt-same-bytes s t at h =
-    rw (h at (omega arith) (omega arith), h (at + 1) (omega arith) (omega arith), h (at + 2) (omega arith) (omega arith), h (at + 3) (omega arith) (omega arith))
+    rw (
+      h at (omega arith) (omega arith),
+      h (at + 1) (omega arith) (omega arith),
+      h (at + 2) (omega arith) (omega arith),
+      h (at + 3) (omega arith) (omega arith),
+    )
 
 -- ---- adding
 
@@ -192,7 +228,11 @@ module _ (s : List ℕ) (at d : ℕ) where
   unfolding addAt
   addAt-comm b e f =
       let g : Far b at = ⊎-elim inr inl f in
-      rw (wordAt-apart s at ((wordAt s at + d) % 2 ^ 32) b f, wordAt-apart s b ((wordAt s b + e) % 2 ^ 32) at g, setWord-comm s at b _ _ f)
+      rw (
+        wordAt-apart s at ((wordAt s at + d) % 2 ^ 32) b f,
+        wordAt-apart s b ((wordAt s b + e) % 2 ^ 32) at g,
+        setWord-comm s at b _ _ f,
+      )
 
   module _ (fits : at + 4 ≤ length s) where
     pub addAt-same : wordAt (addAt s at d) at ≡ (wordAt s at + d) % 2 ^ 32
@@ -202,7 +242,8 @@ module _ (s : List ℕ) (at d : ℕ) where
     pub addAt-twice : (e : ℕ) → addAt (addAt s at d) at e ≡ addAt s at ((d + e) % 2 ^ 32)
     unfolding addAt
     addAt-twice e =
-        let w : wordAt (setWord s at ((wordAt s at + d) % 2 ^ 32)) at ≡ (wordAt s at + d) % 2 ^ 32 = wordAt-same s at _ fits (omega arith) in
+        let w : wordAt (setWord s at ((wordAt s at + d) % 2 ^ 32)) at ≡ (wordAt s at + d) % 2 ^ 32 =
+        wordAt-same s at _ fits (omega arith) in
         let r : ((wordAt s at + d) % 2 ^ 32 + e) % 2 ^ 32 ≡ (wordAt s at + (d + e) % 2 ^ 32) % 2 ^ 32 = omega arith in
         rw (w, setWord-twice s at _ _ fits, r)
 

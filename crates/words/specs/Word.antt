@@ -1,4 +1,5 @@
--- Every number on a disk and in a program file is a big-endian word of 32 bits: four bytes, the highest first (docs/FORMAT.md, "What is built").
+-- Every number on a disk and in a program file is a big-endian word of 32 bits: four bytes, the highest first
+-- (docs/FORMAT.md, "What is built").
 use Prim.Native.Nat.{ℕ, zero, suc, _+_, _*_, _/_, _%_, _^_, _<_}
 use mathlib.Core.List.{List, [], _∷_}
 use lib.ListN.{getD, set}
@@ -23,7 +24,8 @@ wordsAt s at (suc n) = wordAt s at ∷ wordsAt s (at + 4) n
 -- the bytes with w stored at `at`
 unfoldable pub setWord : List ℕ → ℕ → ℕ → List ℕ
 setWord s at w =
-    set (set (set (set s at (w / 16777216 % 256)) (at + 1) (w / 65536 % 256)) (at + 2) (w / 256 % 256)) (at + 3) (w % 256)
+    set (set (set (set s at (w / 16777216 % 256)) (at + 1) (w / 65536 % 256)) (at + 2) (w / 256 % 256)) (at + 3)
+    (w % 256)
 
 -- the bytes with d added, modulo 2^32, to the word at `at`
 unfoldable pub addAt : List ℕ → ℕ → ℕ → List ℕ

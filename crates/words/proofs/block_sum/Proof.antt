@@ -36,7 +36,11 @@ loop-less : tie.Need-loop-less Inv-loop μ-loop
 loop-less c = search needs
 
 loop-again : tie.Need-loop-again Inv-loop μ-loop
-loop-again c = (omega arith, total-wraps _ _ _ (c .before .before .before .loop .inv .1) (c .before .word .ensures) (c .wrapping-add-u32 .ensures))
+loop-again c = (
+  omega arith,
+  total-wraps _ _ _ (c .before .before .before .loop .inv .1) (c .before .word .ensures)
+      (c .wrapping-add-u32 .ensures),
+)
 
 returns : tie.Need-returns Inv-loop μ-loop
 unfolding sumAt

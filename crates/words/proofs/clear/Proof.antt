@@ -28,7 +28,12 @@ loop-less : tie.Need-loop-less Inv-loop μ-loop
 loop-less c = search needs
 
 loop-again : tie.Need-loop-again Inv-loop μ-loop
-loop-again c = (omega arith, simp length-set (c .before .loop .inv .1), ap (λ l. set l (c .before .loop .i) 0) (c .before .loop .inv .2) ∙ fill-more (c .before .loop .i) 0 (c .before .before .args .bytes .now) (omega arith))
+loop-again c = (
+  omega arith,
+  simp length-set (c .before .loop .inv .1),
+  ap (λ l. set l (c .before .loop .i) 0) (c .before .loop .inv .2)
+      ∙ fill-more (c .before .loop .i) 0 (c .before .before .args .bytes .now) (omega arith),
+)
 
 same-length : tie.Need-same-length Inv-loop μ-loop
 same-length c = c .before .loop .inv .1

@@ -12,7 +12,8 @@ same-length : tie.Need-same-length
 same-length c = search needs
 
 returns : tie.Need-returns
-returns c = wiped (c .before .before .before .before .before .args .bytes .now) _ _ refl (c .before .before .clear .ensures)
+returns c =
+    wiped (c .before .before .before .before .before .args .bytes .now) _ _ refl (c .before .before .clear .ensures)
 
 pub wipe-spec : {M : Type 1} → statement M
 wipe-spec = tie.close (tie.spec clear-requires same-length returns)

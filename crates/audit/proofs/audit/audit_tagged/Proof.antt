@@ -39,7 +39,8 @@ returns-2 c =
     let told = c .before .before .before .before in
     let walked = told .before .before .before .before in
     let start = walked .before .before .before .before .before in
-    tagged-refused _ _ _ (walked .before .before .claim-bytes .ensures) (start .pre .2) _ _ _ (walked .audit-within .ensures) _ _ (told .enum-told .given .1)
+    tagged-refused _ _ _ (walked .before .before .claim-bytes .ensures) (start .pre .2) _ _ _
+    (walked .audit-within .ensures) _ _ (told .enum-told .given .1)
     (walked .audit-within .kept .1 .1 .0) (c .before .before .clear .ensures)
 
 pub audit-tagged-spec : {M : Type 1} → statement M

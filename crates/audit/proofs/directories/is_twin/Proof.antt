@@ -1,7 +1,8 @@
 -- `audit::directories::is_twin` meets its contract. Assumes nothing.
 use Prim.Native.Nat.{_-_}
 use borrow.Author.Needs.{needs}
-use Rattle.audit.proofs.Hanging.{TwinInv, twin-start, twin-holds, twin-short, twin-yes, twin-again, twin-no, known-holds}
+use Rattle.audit.proofs.Hanging.{TwinInv, twin-start, twin-holds, twin-short, twin-yes, twin-again, twin-no}
+use Rattle.audit.proofs.Hanging.{known-holds}
 use Rattle.audit.proofs.directories.is_twin.Statement.{statement}
 use Rattle.audit.proofs.directories.is_twin.Tie as tie
 
@@ -15,7 +16,8 @@ loop-holds : tie.Need-loop-holds Inv-loop μ-loop
 loop-holds c = search twin-start
 
 same-names-requires : tie.Need-same-names-requires Inv-loop μ-loop
-same-names-requires c κs = ((search twin-holds depth 9, search known-holds depth 9), (search twin-short depth 9, search needs))
+same-names-requires c κs =
+    ((search twin-holds depth 9, search known-holds depth 9), (search twin-short depth 9, search needs))
 
 returns : tie.Need-returns Inv-loop μ-loop
 returns c = search twin-yes depth 9

@@ -2,7 +2,8 @@
 use borrow.Author.Needs.{needs}
 use Rattle.reach.specs.Walk.{free}
 use Rattle.walk.proofs.Loops.{in-image, header-ready, ready-image}
-use Rattle.audit.proofs.KeyBlocks.{ListsInv, file-stops, file-joins, lists-start, lists-file, list-image, list-less, lists-end, lists-out, lists-again}
+use Rattle.audit.proofs.KeyBlocks.{ListsInv, file-stops, file-joins, lists-start, lists-file, list-image}
+use Rattle.audit.proofs.KeyBlocks.{list-less, lists-end, lists-out, lists-again}
 use Rattle.audit.proofs.files.walk_file.Statement.{statement}
 use Rattle.audit.proofs.files.walk_file.Tie as tie
 

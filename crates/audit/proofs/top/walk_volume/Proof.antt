@@ -1,5 +1,6 @@
 -- `audit::top::walk_volume` meets its contract. Assumes nothing.
-use Rattle.audit.proofs.Auditing.{zeros-long, kept-long, root-stops, root-range, root-ready, bitmap-stops, bitmap-ready, root-goes}
+use Rattle.audit.proofs.Auditing.{zeros-long, kept-long, root-stops, root-range, root-ready, bitmap-stops}
+use Rattle.audit.proofs.Auditing.{bitmap-ready, root-goes}
 use borrow.Author.Needs.{needs}
 use Rattle.audit.proofs.top.walk_volume.Statement.{statement}
 use Rattle.audit.proofs.top.walk_volume.Tie as tie
@@ -40,8 +41,13 @@ walk-directory-requires c κs =
     let tested = mapped .before .before .before in
     let rooted = tested .before .before .before in
     let start = rooted .before .before .before .before .before in
-    let y = root-ready _ _ _ _ _ (rooted .meet-root .ensures) (tested .if1 .left) (start .pre .0) (start .pre .1) (start .pre .2) (rooted .meet-root .kept .1 .1 .0) in
-    (bitmap-ready _ _ _ _ _ _ (mapped .meet-bitmap .ensures) (c .before .if2 .left) (mapped .meet-bitmap .kept .1 .1 .0) y, search root-range depth 9)
+    let y =
+    root-ready _ _ _ _ _ (rooted .meet-root .ensures) (tested .if1 .left) (start .pre .0) (start .pre .1)
+    (start .pre .2) (rooted .meet-root .kept .1 .1 .0) in (
+      bitmap-ready _ _ _ _ _ _ (mapped .meet-bitmap .ensures) (c .before .if2 .left)
+          (mapped .meet-bitmap .kept .1 .1 .0) y,
+      search root-range depth 9,
+    )
 
 same-length-3 : tie.Need-same-length-3
 same-length-3 c = search needs

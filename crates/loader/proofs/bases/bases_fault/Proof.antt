@@ -4,7 +4,8 @@ use Prim.Native.Nat.{_≤_, _-_}
 use mathlib.Core.Path.{_≡_}
 use native.Mathlib.Omega.{arith}
 use Rattle.loader.specs.Bases.{basesFrom, basesFault}
-use Rattle.loader.proofs.Entries.{header-long, entry-small, count-bad, count-good, entries-bad, entries-on, entries-end}
+use Rattle.loader.proofs.Entries.{header-long, entry-small, count-bad, count-good, entries-bad, entries-on}
+use Rattle.loader.proofs.Entries.{entries-end}
 use Rattle.loader.proofs.bases.bases_fault.Statement.{statement}
 use Rattle.loader.proofs.bases.bases_fault.Tie as tie
 

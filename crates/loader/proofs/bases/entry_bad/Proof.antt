@@ -23,7 +23,9 @@ shares-any-requires : tie.Need-shares-any-requires
 shares-any-requires c κs = search needs
 
 returns-3 : tie.Need-returns-3
-returns-3 c = entry-low _ _ _ (c .before .before .before .if1 .left) _ (c .before .before .top .ensures) (c .before .if2 .left) _ (c .shares-any .ensures)
+returns-3 c =
+    entry-low _ _ _ (c .before .before .before .if1 .left) _ (c .before .before .top .ensures) (c .before .if2 .left)
+    _ (c .shares-any .ensures)
 
 pub entry-bad-spec : {M : Type 1} → statement M
 entry-bad-spec =

@@ -37,7 +37,14 @@ loop-less : tie.Need-loop-less Inv-loop μ-loop
 loop-less c = search needs
 
 loop-again : tie.Need-loop-again Inv-loop μ-loop
-loop-again c = (omega arith, simp length-set (c .before .before .loop .inv .1), ap (λ l. set l (c .before .before .loop .i) (getD (c .before .before .before .args .from .now) (c .before .before .loop .i) 0)) (c .before .before .loop .inv .2) ∙ copy-more (c .before .before .before .args .from .now) (c .before .before .before .args .to .now) (c .before .before .loop .i) (omega arith) (omega arith))
+loop-again c = (
+  omega arith,
+  simp length-set (c .before .before .loop .inv .1),
+  ap (λ l. set l (c .before .before .loop .i)
+      (getD (c .before .before .before .args .from .now) (c .before .before .loop .i) 0))
+      (c .before .before .loop .inv .2) ∙ copy-more (c .before .before .before .args .from .now)
+      (c .before .before .before .args .to .now) (c .before .before .loop .i) (omega arith) (omega arith),
+)
 
 same-length : tie.Need-same-length Inv-loop μ-loop
 same-length c = c .before .loop .inv .1

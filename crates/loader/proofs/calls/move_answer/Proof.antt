@@ -1,6 +1,7 @@
 -- `loader::calls::move_answer` meets its contract. Assumes nothing.
 use native.Mathlib.Omega.{arith}
-use Rattle.loader.proofs.Answering.{checked-header, checked-long, checked-few, also-twice, move-refused, move-last}
+use Rattle.loader.proofs.Answering.{checked-header, checked-long, checked-few, also-twice, move-refused}
+use Rattle.loader.proofs.Answering.{move-last}
 use borrow.Author.Needs.{needs}
 use Rattle.loader.proofs.calls.move_answer.Statement.{statement}
 use Rattle.loader.proofs.calls.move_answer.Tie as tie

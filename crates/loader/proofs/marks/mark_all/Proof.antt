@@ -3,7 +3,8 @@ use Prim.Native.Nat.{_-_}
 use lib.ListN.{length}
 use Rattle.program.proofs.Runs.{turn-less, turn-aligned, turn-fits}
 use Rattle.loader.proofs.Acts.{cursor-low}
-use Rattle.loader.proofs.Marking.{Clashes, clash-start, mark-long, mark-fits, clash-bad, clash-met, clash-turn, clash-end}
+use Rattle.loader.proofs.Marking.{Clashes, clash-start, mark-long, mark-fits, clash-bad, clash-met, clash-turn}
+use Rattle.loader.proofs.Marking.{clash-end}
 use borrow.Author.Needs.{needs}
 use Rattle.loader.proofs.marks.mark_all.Statement.{statement}
 use Rattle.loader.proofs.marks.mark_all.Tie as tie

@@ -10,7 +10,8 @@ use Rattle.loader.proofs.memory.add_all.Statement.{statement}
 use Rattle.loader.proofs.memory.add_all.Tie as tie
 
 abbrev Inv-loop : tie.InvT-loop
-Inv-loop file memory₀ amounts c₀ at₀ memory c at = Passing (λ x a. shiftOne x (amountOf amounts) a) file memory₀ memory c at
+Inv-loop file memory₀ amounts c₀ at₀ memory c at =
+    Passing (λ x a. shiftOne x (amountOf amounts) a) file memory₀ memory c at
 
 abbrev μ-loop : tie.MeasureT-loop
 μ-loop file memory₀ amounts c₀ at₀ memory c at = length file - at

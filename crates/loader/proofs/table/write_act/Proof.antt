@@ -1,5 +1,6 @@
 -- `loader::table::write_act` meets its contract. Assumes nothing.
-use Rattle.loader.proofs.Acts.{place-fits, size-there, base-there, kind-there, place-there, words-there, address-there, record-done, record-rest}
+use Rattle.loader.proofs.Acts.{place-fits, size-there, base-there, kind-there, place-there, words-there}
+use Rattle.loader.proofs.Acts.{address-there, record-done, record-rest}
 use borrow.Author.Needs.{needs}
 use Rattle.loader.proofs.table.write_act.Statement.{statement}
 use Rattle.loader.proofs.table.write_act.Tie as tie

@@ -1,4 +1,5 @@
--- `lookup::chain::search` meets its contract: what the entries passed leave is the search from here on. Assumes nothing.
+-- `lookup::chain::search` meets its contract: what the entries passed leave is the search from here on. Assumes
+-- nothing.
 use Prim.Native.Nat.{_-_}
 use native.Mathlib.Omega.{arith}
 use borrow.Author.Needs.{needs}

@@ -3,7 +3,8 @@ use mathlib.Core.Path.{sym}
 use lib.ListN.{length}
 use lib.Seq.{length-take-le}
 use borrow.Author.Needs.{needs}
-use Rattle.lookup.proofs.Lookups.{to-ended, to-fault, to-more, to-directory, to-used, to-file, searches, counts, lies, looks}
+use Rattle.lookup.proofs.Lookups.{to-ended, to-fault, to-more, to-directory, to-used, to-file, searches}
+use Rattle.lookup.proofs.Lookups.{counts, lies, looks}
 use Prim.Native.Nat.{ℕ, _<_}
 use borrow.Fn.Kinds.{In}
 use borrow.Fn.PlainCycle.{Measures, is, falls, and}
@@ -29,7 +30,20 @@ lookup-below t = and 2 lookup-kinds.ps (falls 2 lookup-kinds.ps _<_ μ-lookup t)
 
 -- what the callees ask and tell
 abbrev Told : ℕ → lookup-lts.Claims
-Told t = (first-slash-reads.Asked, first-slash-reads.Learnt, search-reads.Asked, search-reads.Learnt, refused-reads.Asked, refused-reads.Learnt, is-directory-reads.Asked, is-directory-reads.Learnt, lookup-below t, lookup.Post, word-of-reads.Asked, word-of-reads.Learnt)
+Told t = (
+  first-slash-reads.Asked,
+  first-slash-reads.Learnt,
+  search-reads.Asked,
+  search-reads.Learnt,
+  refused-reads.Asked,
+  refused-reads.Learnt,
+  is-directory-reads.Asked,
+  is-directory-reads.Learnt,
+  lookup-below t,
+  lookup.Post,
+  word-of-reads.Asked,
+  word-of-reads.Learnt,
+)
 
 first-slash-requires : (t : ℕ) → lookup-lts.Need-first-slash-requires (Told t) (lookup-at t) lookup.Post
 first-slash-requires t c κs = search needs

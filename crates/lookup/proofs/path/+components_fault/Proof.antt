@@ -19,40 +19,57 @@ abbrev μ-components-fault : Measures 1 components-fault-kinds.ps ℕ
 μ-components-fault κs a = length (a .0 .now)
 
 abbrev components-fault-at : ℕ → In 1 components-fault-kinds.ps
-components-fault-at t = and 1 components-fault-kinds.ps (is 1 components-fault-kinds.ps μ-components-fault t) components-fault.Pre
+components-fault-at t =
+    and 1 components-fault-kinds.ps (is 1 components-fault-kinds.ps μ-components-fault t) components-fault.Pre
 
 abbrev components-fault-below : ℕ → In 1 components-fault-kinds.ps
-components-fault-below t = and 1 components-fault-kinds.ps (falls 1 components-fault-kinds.ps _<_ μ-components-fault t) components-fault.Pre
+components-fault-below t =
+    and 1 components-fault-kinds.ps (falls 1 components-fault-kinds.ps _<_ μ-components-fault t) components-fault.Pre
 
 -- what the callees ask and tell
 abbrev Told : ℕ → components-fault-lts.Claims
-Told t = (first-slash-reads.Asked, first-slash-reads.Learnt, is-component-reads.Asked, is-component-reads.Learnt, components-fault-below t, components-fault.Post)
+Told t = (
+  first-slash-reads.Asked,
+  first-slash-reads.Learnt,
+  is-component-reads.Asked,
+  is-component-reads.Learnt,
+  components-fault-below t,
+  components-fault.Post,
+)
 
-first-slash-requires : (t : ℕ) → components-fault-lts.Need-first-slash-requires (Told t) (components-fault-at t) components-fault.Post
+first-slash-requires : (t : ℕ)
+    → components-fault-lts.Need-first-slash-requires (Told t) (components-fault-at t) components-fault.Post
 first-slash-requires t c κs = search needs
 
-slice-aggregate-is-component : (t : ℕ) → components-fault-lts.Need-slice-aggregate-is-component (Told t) (components-fault-at t) components-fault.Post
+slice-aggregate-is-component : (t : ℕ)
+    → components-fault-lts.Need-slice-aggregate-is-component (Told t) (components-fault-at t) components-fault.Post
 slice-aggregate-is-component t c = sym (length-take-le _ _ (c .before .first-slash .ensures .within))
 
-is-component-requires : (t : ℕ) → components-fault-lts.Need-is-component-requires (Told t) (components-fault-at t) components-fault.Post
+is-component-requires : (t : ℕ)
+    → components-fault-lts.Need-is-component-requires (Told t) (components-fault-at t) components-fault.Post
 is-component-requires t c κs = search needs
 
 add-next : (t : ℕ) → components-fault-lts.Need-add-next (Told t) (components-fault-at t) components-fault.Post
 add-next t c = search needs
 
-sub-components-fault : (t : ℕ) → components-fault-lts.Need-sub-components-fault (Told t) (components-fault-at t) components-fault.Post
+sub-components-fault : (t : ℕ)
+    → components-fault-lts.Need-sub-components-fault (Told t) (components-fault-at t) components-fault.Post
 sub-components-fault t c = search needs
 
-part-components-fault-start : (t : ℕ) → components-fault-lts.Need-part-components-fault-start (Told t) (components-fault-at t) components-fault.Post
+part-components-fault-start : (t : ℕ)
+    → components-fault-lts.Need-part-components-fault-start (Told t) (components-fault-at t) components-fault.Post
 part-components-fault-start t c = search needs
 
-part-components-fault-end : (t : ℕ) → components-fault-lts.Need-part-components-fault-end (Told t) (components-fault-at t) components-fault.Post
+part-components-fault-end : (t : ℕ)
+    → components-fault-lts.Need-part-components-fault-end (Told t) (components-fault-at t) components-fault.Post
 part-components-fault-end t c = search needs
 
-add-components-fault : (t : ℕ) → components-fault-lts.Need-add-components-fault (Told t) (components-fault-at t) components-fault.Post
+add-components-fault : (t : ℕ)
+    → components-fault-lts.Need-add-components-fault (Told t) (components-fault-at t) components-fault.Post
 add-components-fault t c = search needs
 
-components-fault-requires : (t : ℕ) → components-fault-lts.Need-components-fault-requires (Told t) (components-fault-at t) components-fault.Post
+components-fault-requires : (t : ℕ)
+    → components-fault-lts.Need-components-fault-requires (Told t) (components-fault-at t) components-fault.Post
 components-fault-requires t c κs = search needs
 
 returns : (t : ℕ) → components-fault-lts.Need-returns (Told t) (components-fault-at t) components-fault.Post

@@ -33,7 +33,8 @@ enum-told : tie.Need-enum-told
 enum-told c = search needs
 
 total-requires : tie.Need-total-requires
-total-requires c κs = omega (arith, few-hunks _ (sym (c .before .before .head-words .ensures) ∙ c .enum-told .given .1) .0)
+total-requires c κs =
+    omega (arith, few-hunks _ (sym (c .before .before .head-words .ensures) ∙ c .enum-told .given .1) .0)
 
 cast-head-words : tie.Need-cast-head-words
 cast-head-words c = search needs

@@ -16,7 +16,9 @@ refused-requires : tie.Need-refused-requires
 refused-requires c κs = search needs
 
 returns-2 : tie.Need-returns-2
-returns-2 c = c .refused .ensures ∙ rest-open (length (c .before .before .before .args .file .now)) (c .before .before .before .args .c) (c .before .before .before .args .c .mode) (c .before .match .keys2)
+returns-2 c =
+    c .refused .ensures ∙ rest-open (length (c .before .before .before .args .file .now))
+    (c .before .before .before .args .c) (c .before .before .before .args .c .mode) (c .before .match .keys2)
 
 pub ended-spec : {M : Type 1} → statement M
 ended-spec = tie.close (tie.spec enum-told returns refused-requires returns-2)

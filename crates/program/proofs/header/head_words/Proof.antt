@@ -39,7 +39,11 @@ mul-t14 : tie.Need-mul-t14 Inv-loop μ-loop
 mul-t14 c = search needs
 
 returns-2 : tie.Need-returns-2 Inv-loop μ-loop
-returns-2 c = sym (c .before .before .before .before .before .loop .inv .1 ∙ heads-bad _ _ _ _ _ (c .before .before .before .before .loop-test .taken) (c .before .before .before .if1 .left) (c .before .before .word .ensures) (c .before .head-fault .ensures) (c .if2 .taken))
+returns-2 c =
+    sym (c .before .before .before .before .before .loop .inv .1
+    ∙ heads-bad _ _ _ _ _ (c .before .before .before .before .loop-test .taken)
+    (c .before .before .before .if1 .left) (c .before .before .word .ensures) (c .before .head-fault .ensures)
+    (c .if2 .taken))
 
 add-i : tie.Need-add-i Inv-loop μ-loop
 add-i c = search needs
@@ -51,7 +55,13 @@ loop-less : tie.Need-loop-less Inv-loop μ-loop
 loop-less c = search needs
 
 loop-again : tie.Need-loop-again Inv-loop μ-loop
-loop-again c = (omega arith, c .before .before .before .before .before .loop .inv .1 ∙ heads-on _ _ _ _ _ (c .before .before .before .before .loop-test .taken) (c .before .before .before .if1 .left) (c .before .before .word .ensures) (c .before .head-fault .ensures) (c .if2 .left))
+loop-again c = (
+  omega arith,
+  c .before .before .before .before .before .loop .inv .1
+      ∙ heads-on _ _ _ _ _ (c .before .before .before .before .loop-test .taken)
+      (c .before .before .before .if1 .left) (c .before .before .word .ensures) (c .before .head-fault .ensures)
+      (c .if2 .left),
+)
 
 returns-3 : tie.Need-returns-3 Inv-loop μ-loop
 returns-3 c = sym (c .before .loop .inv .1 ∙ heads-none _ _ _ (c .loop-test .left))

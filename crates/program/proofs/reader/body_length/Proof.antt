@@ -23,7 +23,9 @@ returns-2 : tie.Need-returns-2
 returns-2 c =
     let a = c .before .before .before .before .before .args in
     if-ge-left _ _ _ _ _ _ (c .before .before .before .size .ensures) (c .before .before .if1 .left)
-    (c .stored-from .ensures ∙ ap (λ n. storedFrom (record { mode = Part; hunk = a .c .hunk; place = a .c .place; stored = n }) 0) (c .before .kept .ensures))
+    (c .stored-from .ensures ∙ ap
+    (λ n. storedFrom (record { mode = Part; hunk = a .c .hunk; place = a .c .place; stored = n }) 0)
+    (c .before .kept .ensures))
 
 pub body-length-spec : {M : Type 1} → statement M
 body-length-spec =

@@ -36,7 +36,11 @@ add-t5 c = search needs
 
 returns-2 : tie.Need-returns-2
 unfolding pick
-returns-2 c = rw (ne-eqb _ _ (λ e. c .if1 .left (e ∙ sym (c .before .total .ensures))), c .before .before .before .size .ensures)
+returns-2 c =
+    rw (
+      ne-eqb _ _ (λ e. c .if1 .left (e ∙ sym (c .before .total .ensures))),
+      c .before .before .before .size .ensures,
+    )
 
 pub hunk-end-spec : {M : Type 1} → statement M
 hunk-end-spec =

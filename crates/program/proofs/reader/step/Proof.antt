@@ -28,7 +28,8 @@ enum-known-m : tie.Need-enum-known-m
 enum-known-m c = search needs
 
 body-length-requires : tie.Need-body-length-requires
-body-length-requires c κs = in-header _ _ _ (c .before .before .before .before .pre) (c .before .m .given .1) (λ h. h) .0
+body-length-requires c κs =
+    in-header _ _ _ (c .before .before .before .before .pre) (c .before .m .given .1) (λ h. h) .0
 
 enum-known-m-2 : tie.Need-enum-known-m-2
 enum-known-m-2 c = search needs

@@ -3,7 +3,8 @@ use Prim.Native.Nat.{_-_}
 use borrow.Author.Needs.{needs}
 use Rattle.volume.specs.Files.{blocksOf}
 use Rattle.walk.proofs.Loops.{in-image, header-ready, ready-image}
-use Rattle.reading.proofs.Testing.{BlocksInv, list-image, blocks-first, blocks-start, blocks-end, blocks-file, blocks-less, blocks-out, blocks-again}
+use Rattle.reading.proofs.Testing.{BlocksInv, list-image, blocks-first, blocks-start, blocks-end, blocks-file}
+use Rattle.reading.proofs.Testing.{blocks-less, blocks-out, blocks-again}
 use Rattle.reading.proofs.blocks.test_blocks.Statement.{statement}
 use Rattle.reading.proofs.blocks.test_blocks.Tie as tie
 

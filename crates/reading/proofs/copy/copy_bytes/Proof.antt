@@ -10,13 +10,15 @@ use Rattle.reading.proofs.copy.copy_bytes.Statement.{statement}
 use Rattle.reading.proofs.copy.copy_bytes.Tie as tie
 
 abbrev Inv-loop : tie.InvT-loop
-Inv-loop image from output₀ at n i₀ output i = (i ≤ n) × (length output ≡ length output₀) × (output ≡ paste output₀ at (drop from image) i)
+Inv-loop image from output₀ at n i₀ output i =
+    (i ≤ n) × (length output ≡ length output₀) × (output ≡ paste output₀ at (drop from image) i)
 
 abbrev μ-loop : tie.MeasureT-loop
 μ-loop image from output₀ at n i₀ output i = n - i
 
 loop-holds : tie.Need-loop-holds Inv-loop μ-loop
-loop-holds c = (omega arith, refl, paste-zero (c .args .output .now) (c .args .at) (drop (c .args .from) (c .args .image .now)))
+loop-holds c =
+    (omega arith, refl, paste-zero (c .args .output .now) (c .args .at) (drop (c .args .from) (c .args .image .now)))
 
 add-output : tie.Need-add-output Inv-loop μ-loop
 add-output c = search needs

@@ -1,12 +1,14 @@
 -- `reading::copy::copy_file` meets its contract: the first `done` bytes are copied. Assumes nothing.
 use Prim.Native.Nat.{_-_}
 use borrow.Author.Needs.{needs}
-use Rattle.reading.proofs.Turns.{Going, none, some, starts, ends, held, falls, byte-fits, done-fits, from-inside, to-inside, goes}
+use Rattle.reading.proofs.Turns.{Going, none, some, starts, ends, held, falls, byte-fits, done-fits}
+use Rattle.reading.proofs.Turns.{from-inside, to-inside, goes}
 use Rattle.reading.proofs.copy.copy_file.Statement.{statement}
 use Rattle.reading.proofs.copy.copy_file.Tie as tie
 
 abbrev Inv-loop : tie.InvT-loop
-Inv-loop disk image header size offset output₀ left count bytes key₀ within₀ done₀ output key within done = Going disk image header offset output₀ count bytes output key within done
+Inv-loop disk image header size offset output₀ left count bytes key₀ within₀ done₀ output key within done =
+    Going disk image header offset output₀ count bytes output key within done
 
 abbrev μ-loop : tie.MeasureT-loop
 μ-loop disk image header size offset output₀ left count bytes key₀ within₀ done₀ output key within done = count - done

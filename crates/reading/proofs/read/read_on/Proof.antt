@@ -1,5 +1,6 @@
 -- `reading::read::read_on` meets its contract. Assumes nothing.
-use Rattle.reading.proofs.Readings.{read-handed, image-long, file-inside, file-size, followed, read-failed, read-copied}
+use Rattle.reading.proofs.Readings.{read-handed, image-long, file-inside, file-size, followed, read-failed}
+use Rattle.reading.proofs.Readings.{read-copied}
 use borrow.Author.Needs.{needs}
 use Rattle.reading.proofs.read.read_on.Statement.{statement}
 use Rattle.reading.proofs.read.read_on.Tie as tie

@@ -11,7 +11,8 @@ use Rattle.volume.proofs.name.is_allowed.Statement.{statement}
 use Rattle.volume.proofs.name.is_allowed.Tie as tie
 
 abbrev Inv-loop : tie.InvT-loop
-Inv-loop bytes at len i₀ i = (i ≤ len) × (allowed (slice (at + i) (at + len) bytes) ≡ allowed (slice at (at + len) bytes))
+Inv-loop bytes at len i₀ i =
+    (i ≤ len) × (allowed (slice (at + i) (at + len) bytes) ≡ allowed (slice at (at + len) bytes))
 
 abbrev μ-loop : tie.MeasureT-loop
 μ-loop bytes at len i₀ i = len - i
@@ -29,13 +30,15 @@ returns : tie.Need-returns Inv-loop μ-loop
 returns c =
     let l = c .before .before .before .loop in
     let a = c .before .before .before .before .args in
-    allowed-slash (a .bytes .now) (a .at + l .i) (a .at + a .len) (omega arith) (omega arith) (c .if1 .taken) ∙ l .inv .1
+    allowed-slash (a .bytes .now) (a .at + l .i) (a .at + a .len) (omega arith) (omega arith) (c .if1 .taken)
+    ∙ l .inv .1
 
 returns-2 : tie.Need-returns-2 Inv-loop μ-loop
 returns-2 c =
     let l = c .before .before .before .before .loop in
     let a = c .before .before .before .before .before .args in
-    allowed-colon (a .bytes .now) (a .at + l .i) (a .at + a .len) (omega arith) (omega arith) (c .before .if1 .left) (c .if2 .taken) ∙ l .inv .1
+    allowed-colon (a .bytes .now) (a .at + l .i) (a .at + a .len) (omega arith) (omega arith) (c .before .if1 .left)
+    (c .if2 .taken) ∙ l .inv .1
 
 add-i : tie.Need-add-i Inv-loop μ-loop
 add-i c = search needs
@@ -47,8 +50,11 @@ loop-again : tie.Need-loop-again Inv-loop μ-loop
 loop-again c =
     let l = c .before .before .before .before .loop in
     let a = c .before .before .before .before .before .args in
-    let e : a .at + (l .i + 1) ≡ a .at + l .i + 1 = omega arith in
-    (omega arith, rw e (allowed-step (a .bytes .now) (a .at + l .i) (a .at + a .len) (omega arith) (omega arith) (c .before .if1 .left) (c .if2 .left) ∙ l .inv .1))
+    let e : a .at + (l .i + 1) ≡ a .at + l .i + 1 = omega arith in (
+      omega arith,
+      rw e (allowed-step (a .bytes .now) (a .at + l .i) (a .at + a .len) (omega arith) (omega arith)
+          (c .before .if1 .left) (c .if2 .left) ∙ l .inv .1),
+    )
 
 returns-3 : tie.Need-returns-3 Inv-loop μ-loop
 returns-3 c =

@@ -11,7 +11,9 @@ use Rattle.volume.proofs.name.same_bytes.Statement.{statement}
 use Rattle.volume.proofs.name.same_bytes.Tie as tie
 
 abbrev Inv-loop : tie.InvT-loop
-Inv-loop disk xs a ys b len i₀ i = (i ≤ len) × (same disk (slice (a + i) (a + len) xs) (slice (b + i) (b + len) ys) ≡ same disk (slice a (a + len) xs) (slice b (b + len) ys))
+Inv-loop disk xs a ys b len i₀ i =
+    (i ≤ len) × (same disk (slice (a + i) (a + len) xs) (slice (b + i) (b + len) ys) ≡ same disk
+    (slice a (a + len) xs) (slice b (b + len) ys))
 
 abbrev μ-loop : tie.MeasureT-loop
 μ-loop disk xs a ys b len i₀ i = len - i
@@ -41,7 +43,8 @@ returns : tie.Need-returns Inv-loop μ-loop
 returns c =
     let l = c .before .before .before .before .before .before .loop in
     let a = c .before .before .before .before .before .before .before .before .before .args in
-    same-bad (a .xs .now) (a .a + l .i) (a .a + a .len) (omega arith) (omega arith) (a .disk) (a .ys .now) (a .b + l .i) (a .b + a .len) (omega arith) (omega arith) (λ e. c .if1 .taken (cc)) ∙ l .inv .1
+    same-bad (a .xs .now) (a .a + l .i) (a .a + a .len) (omega arith) (omega arith) (a .disk) (a .ys .now)
+    (a .b + l .i) (a .b + a .len) (omega arith) (omega arith) (λ e. c .if1 .taken (cc)) ∙ l .inv .1
 
 add-i : tie.Need-add-i Inv-loop μ-loop
 add-i c = search needs
@@ -54,8 +57,11 @@ loop-again c =
     let l = c .before .before .before .before .before .before .loop in
     let a = c .before .before .before .before .before .before .before .before .before .args in
     let e : a .a + (l .i + 1) ≡ a .a + l .i + 1 = omega arith in
-    let g : a .b + (l .i + 1) ≡ a .b + l .i + 1 = omega arith in
-    (omega arith, rw (e, g) (same-step (a .xs .now) (a .a + l .i) (a .a + a .len) (omega arith) (omega arith) (a .disk) (a .ys .now) (a .b + l .i) (a .b + a .len) (omega arith) (omega arith) (cc) ∙ l .inv .1))
+    let g : a .b + (l .i + 1) ≡ a .b + l .i + 1 = omega arith in (
+      omega arith,
+      rw (e, g) (same-step (a .xs .now) (a .a + l .i) (a .a + a .len) (omega arith) (omega arith)
+          (a .disk) (a .ys .now) (a .b + l .i) (a .b + a .len) (omega arith) (omega arith) (cc) ∙ l .inv .1),
+    )
 
 returns-2 : tie.Need-returns-2 Inv-loop μ-loop
 returns-2 c =

@@ -11,7 +11,9 @@ use Rattle.volume.proofs.name.slot.Statement.{statement}
 use Rattle.volume.proofs.name.slot.Tie as tie
 
 abbrev Inv-loop : tie.InvT-loop
-Inv-loop disk bytes at len h₀ i₀ h i = (i ≤ len) × (h ≤ 2048) × (hashFrom disk h (slice (at + i) (at + len) bytes) ≡ hashFrom disk len (slice at (at + len) bytes))
+Inv-loop disk bytes at len h₀ i₀ h i =
+    (i ≤ len) × (h ≤ 2048) × (hashFrom disk h (slice (at + i) (at + len) bytes) ≡ hashFrom disk len
+    (slice at (at + len) bytes))
 
 abbrev μ-loop : tie.MeasureT-loop
 μ-loop disk bytes at len h₀ i₀ h i = len - i
@@ -47,8 +49,13 @@ loop-again : tie.Need-loop-again Inv-loop μ-loop
 loop-again c =
     let l = c .before .before .before .before .loop in
     let a = c .before .before .before .before .before .before .args in
-    let e : a .at + (l .i + 1) ≡ a .at + l .i + 1 = omega arith in
-    (omega arith, omega arith, rw (c .wide .ensures .0, c .before .fold .ensures, e) (hash-step (a .bytes .now) (a .at + l .i) (a .at + a .len) (omega arith) (omega arith) (a .disk) (l .h) ∙ l .inv .2))
+    let e : a .at + (l .i + 1) ≡ a .at + l .i + 1 = omega arith in (
+      omega arith,
+      omega arith,
+      rw (c .wide .ensures .0, c .before .fold .ensures, e)
+          (hash-step (a .bytes .now) (a .at + l .i) (a .at + a .len) (omega arith) (omega arith) (a .disk) (l .h)
+          ∙ l .inv .2),
+    )
 
 cast-result : tie.Need-cast-result Inv-loop μ-loop
 cast-result c = search needs
@@ -58,7 +65,8 @@ returns c =
     let l = c .before .loop in
     let a = c .before .before .before .args in
     let e : l .i ≡ a .len = omega arith in
-    slot-is (a .disk) (a .bytes .now) (a .at) (a .len) (l .h) (omega arith) (sym (hash-done (a .bytes .now) (a .at + a .len) (a .disk) (l .h)) ∙ rw e at (l .inv .2))
+    slot-is (a .disk) (a .bytes .now) (a .at) (a .len) (l .h) (omega arith)
+    (sym (hash-done (a .bytes .now) (a .at + a .len) (a .disk) (l .h)) ∙ rw e at (l .inv .2))
 
 pub slot-spec : {M : Type 1} → statement M
 slot-spec =

@@ -30,7 +30,8 @@ returns : tie.Need-returns Inv-loop μ-loop
 returns c =
     let l = c .before .before .before .loop in
     let a = c .before .before .before .before .before .args in
-    zero-bad (a .image .now) (a .root) 80 25 (l .i) (omega arith) _ (c .before .word-of .ensures) (c .if1 .taken) ∙ l .inv .1
+    zero-bad (a .image .now) (a .root) 80 25 (l .i) (omega arith) _ (c .before .word-of .ensures) (c .if1 .taken)
+    ∙ l .inv .1
 
 add-i : tie.Need-add-i Inv-loop μ-loop
 add-i c = search needs
@@ -41,8 +42,11 @@ loop-less c = search needs
 loop-again : tie.Need-loop-again Inv-loop μ-loop
 loop-again c =
     let l = c .before .before .before .loop in
-    let a = c .before .before .before .before .before .args in
-    (omega arith, zero-step (a .image .now) (a .root) 80 25 (l .i) (omega arith) _ (c .before .word-of .ensures) (c .if1 .left) ∙ l .inv .1)
+    let a = c .before .before .before .before .before .args in (
+      omega arith,
+      zero-step (a .image .now) (a .root) 80 25 (l .i) (omega arith) _ (c .before .word-of .ensures)
+          (c .if1 .left) ∙ l .inv .1,
+    )
 
 returns-2 : tie.Need-returns-2 Inv-loop μ-loop
 returns-2 c =

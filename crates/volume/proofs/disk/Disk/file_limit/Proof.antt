@@ -12,7 +12,9 @@ data-bytes-requires : tie.Need-data-bytes-requires
 data-bytes-requires c κs = search needs
 
 mul-result : tie.Need-mul-result
-mul-result c = rw (c .data-bytes .ensures .0) (omega (arith, limit-most (c .before .before .args .self) (c .before .before .pre)))
+mul-result c =
+    rw (c .data-bytes .ensures .0)
+    (omega (arith, limit-most (c .before .before .args .self) (c .before .before .pre)))
 
 returns : tie.Need-returns
 returns c = rw (c .data-bytes .ensures .0)

@@ -12,7 +12,9 @@ sub-before : tie.Need-sub-before
 sub-before c = search needs
 
 mul-before : tie.Need-mul-before
-mul-before c = rw (c .data-bytes .ensures .0) (omega (arith, before-most (c .before .args .self) (c .before .args .n) (omega arith)))
+mul-before c =
+    rw (c .data-bytes .ensures .0)
+    (omega (arith, before-most (c .before .args .self) (c .before .args .n) (omega arith)))
 
 returns : tie.Need-returns
 returns c = search held-none
