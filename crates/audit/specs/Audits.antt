@@ -39,7 +39,8 @@ numbersOf (Refused r) = record { number = r .number; place = r .place; report = 
 abbrev pub walkRefusals : List ℕ
 walkRefusals =
     fault.rootWords ∷ fault.badKey ∷ fault.claimedTwice ∷ fault.blockSum ∷ fault.blockType ∷ fault.link
-    ∷ fault.wrongTies ∷ fault.badName ∷ fault.wrongSlot ∷ fault.doubleName ∷ fault.fileLayout ∷ fault.dataLayout ∷ fault.bitmapWords ∷ []
+    ∷ fault.wrongTies ∷ fault.badName ∷ fault.wrongSlot ∷ fault.doubleName ∷ fault.fileLayout ∷ fault.dataLayout
+    ∷ fault.bitmapWords ∷ []
 
 -- and of all that an audit gives
 abbrev pub auditRefusals : List ℕ
