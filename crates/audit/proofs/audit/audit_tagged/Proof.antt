@@ -29,7 +29,7 @@ returns : tie.Need-returns
 returns c = search tagged-accepted depth 9
 
 clear-requires : tie.Need-clear-requires
-clear-requires c κs = search area-long depth 9
+clear-requires c κs = search (needs, area-long) depth 9
 
 same-length-2 : tie.Need-same-length-2
 same-length-2 c = search needs

@@ -26,7 +26,7 @@ enum-known-m : tie.Need-enum-known-m
 enum-known-m c = search needs
 
 reported-requires : tie.Need-reported-requires
-reported-requires c κs = search walk-few depth 9
+reported-requires c κs = search (needs, walk-few) depth 9
 
 enum-known-m-2 : tie.Need-enum-known-m-2
 enum-known-m-2 c = search needs
