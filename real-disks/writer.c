@@ -1,5 +1,6 @@
-/* Copies a folder to a new 880 KB disk of the old file system, by ADFlib: writer IMAGE LABEL keep|remove|mend FOLDER. With remove and mend the files
-   called gone.. leave the disk again before those called late.. come, so that blocks do not lie in order. */
+/* Copies a folder to a new 880 KB disk of the old file system, by ADFlib: writer IMAGE LABEL keep|remove|mend FOLDER.
+   With remove and mend the files called gone.. leave the disk again before those called late.. come, so that blocks
+   do not lie in order. */
 #include <dirent.h>
 #include <stdio.h>
 #include <stdlib.h>
@@ -27,7 +28,8 @@ static void put_file(struct Volume *volume, const char *from, char *name) {
     adfCloseFile(to);
 }
 
-/* Removes a file. ADFlib frees the blocks of its data and leaves its header in use; with mending, the header is freed as well. */
+/* Removes a file. ADFlib frees the blocks of its data and leaves its header in use; with mending, the header is freed
+   as well. */
 static void remove_file(struct Volume *volume, char *name, int mending) {
     struct bEntryBlock parent, entry;
     SECTNUM before, header;
@@ -42,7 +44,8 @@ static void remove_file(struct Volume *volume, char *name, int mending) {
 
 enum pass { FIRST, REMOVE, MEND, LATE };
 
-/* What is in a folder, for the disk's current directory: first all but late.., then gone.. leaves it again, then late.. comes. */
+/* What is in a folder, for the disk's current directory: first all but late.., then gone.. leaves it again, then
+   late.. comes. */
 static void walk(struct Volume *volume, const char *from, enum pass pass) {
     struct dirent **names;
     int n = scandir(from, &names, NULL, alphasort), i;

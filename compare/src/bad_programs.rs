@@ -202,8 +202,8 @@ fn near(rng: &mut Rng, words: &[Written], how: Near, by: i32) -> Faulty {
     Some((file(&words), 4 * first))
 }
 
-/// The offset at fault, `new` being one that came to others. These get on with each other: it is the new one if it has a neighbour in front of
-/// it, else its first neighbour after it.
+/// The offset at fault, `new` being one that came to others. These get on with each other: it is the new one if it
+/// has a neighbour in front of it, else its first neighbour after it.
 fn first_of_two(words: &[Written], new: usize) -> Option<usize> {
     let (hunk, offset) = (words[new].hunk, words[new].value);
     let neighbour = |index: &usize| {

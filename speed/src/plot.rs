@@ -108,7 +108,8 @@ pub fn plot(text: &str) -> String {
     let body: String = drawn.collect();
     let (width, height) = (GAP + 2.0 * (WIDTH + GAP), 2.0 * (HEIGHT + 95.0));
     format!(
-        "<svg xmlns='http://www.w3.org/2000/svg' width='{width}' height='{height}' font-family='sans-serif' font-size='12'>\n\
+        "<svg xmlns='http://www.w3.org/2000/svg' width='{width}' height='{height}' \
+         font-family='sans-serif' font-size='12'>\n\
          <rect width='100%' height='100%' fill='white'/>\n{body}</svg>\n"
     )
 }
