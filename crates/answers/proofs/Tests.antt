@@ -26,20 +26,23 @@ first-refuses (suc a) b h = refl
 
 -- ---- what a passed test says, and what makes it pass
 
-pub must-passed : (t : Bool) (v : ℕ) → must t (suc v) ≡ 0 → t ≡ true
+-- v is a literal other than 0
+pub must-passed : (t : Bool) (v : ℕ) → must t v ≡ 0 → T (ltb 0 v) → t ≡ true
 unfolding must
-must-passed true v e = refl
-must-passed false v e = absurd (omega arith)
+must-passed true v e h = refl
+must-passed false zero e h = absurd h
+must-passed false (suc v) e h = absurd (omega arith)
 
 pub must-passes : (t : Bool) (v : ℕ) → t ≡ true → must t v ≡ 0
 unfolding must
 must-passes true v e = refl
 must-passes false v e = impossible cc
 
-pub never-passed : (t : Bool) (v : ℕ) → never t (suc v) ≡ 0 → t ≡ false
+pub never-passed : (t : Bool) (v : ℕ) → never t v ≡ 0 → T (ltb 0 v) → t ≡ false
 unfolding never
-never-passed true v e = absurd (omega arith)
-never-passed false v e = refl
+never-passed true zero e h = absurd h
+never-passed true (suc v) e h = absurd (omega arith)
+never-passed false v e h = refl
 
 pub never-passes : (t : Bool) (v : ℕ) → t ≡ false → never t v ≡ 0
 unfolding never

@@ -3,6 +3,7 @@ use Prim.Native.Nat.{ℕ}
 use mathlib.Core.Path.{_≡_, refl, sym, _∙_}
 use mathlib.Core.Logic.{_↔_, _⊎_, inl, inr}
 use mathlib.Core.List.{List}
+use Rattle.answers.specs.Numbers as fault
 use Rattle.answers.specs.declared.Refusal.{Refusal}
 use Rattle.answers.specs.Members.{_∈_}
 use Rattle.answers.proofs.Members.{listed, unlisted, in-part}
@@ -22,15 +23,15 @@ module _ (d : Disk) (s path : List ℕ) (v k : ℕ) where
   refused-number e = go (refused-exactly d s path v k .0 e)
     where
       go : Refuses d s path v k → v ∈ findRefusals
-      go (number-1 h a b) = rw a (listed findRefusals 1 tt)
-      go (number-18 h f a) = rw a (listed findRefusals 18 tt)
-      go (number-3 h p u a b) = rw a (listed findRefusals 3 tt)
+      go (number-1 h a b) = rw a (listed findRefusals fault.imageLength tt)
+      go (number-18 h f a) = rw a (listed findRefusals fault.pathForm tt)
+      go (number-3 h p u a b) = rw a (listed findRefusals fault.bootTag tt)
       go (of-root h p u z b) = in-part rootRefusals findRefusals v tt (root-number z)
-      go (number-5 h y a) = rw a (listed findRefusals 5 tt)
-      go (number-6 h y l a) = rw a (listed findRefusals 6 tt)
+      go (number-5 h y a) = rw a (listed findRefusals fault.badKey tt)
+      go (number-6 h y l a) = rw a (listed findRefusals fault.claimedTwice tt)
       go (of-entry h y l z) = in-part entryRefusals findRefusals v tt (entry-number z)
-      go (number-19 h a) = rw a (listed findRefusals 19 tt)
-      go (number-20 h a) = rw a (listed findRefusals 20 tt)
+      go (number-19 h a) = rw a (listed findRefusals fault.notFound tt)
+      go (number-20 h a) = rw a (listed findRefusals fault.wrongKind tt)
 
 module _ (d : Disk) (s path : List ℕ) (r : Found) (a : Finds d s path r) where
   -- a refusal's number is one of these

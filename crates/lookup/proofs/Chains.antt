@@ -10,6 +10,7 @@ use lib.Dec.{ltb}
 use lib.ListN.{length}
 use lib.Seq.{slice}
 use borrow.Author.Tests.{eq-eqb, ne-eqb, lt-ltb, le-ltb, ltb-true}
+use Rattle.answers.specs.Numbers as fault
 use Rattle.answers.specs.Tests.{pick, first}
 use Rattle.answers.specs.Refusals.{refusal}
 use Rattle.answers.proofs.Tests.{go, stop, must-true, must-false, must-passed, first-zero}
@@ -72,8 +73,8 @@ key-passed d s t i p k e =
     let a = first-zero _ _ e in
     let b = first-zero _ _ (a .1) in
     record {
-      ranged = must-passed _ 4 (a .0);
-      near = ltb-true _ _ (must-passed _ 5 (b .0));
+      ranged = must-passed _ fault.badKey (a .0) tt;
+      near = ltb-true _ _ (must-passed _ fault.claimedTwice (b .0) tt);
       fine = first-zero _ _ (b .1) .0;
     }
 

@@ -113,11 +113,11 @@ module _ (t w : ℕ) where
 
   pub is-0 : headFault t 0 w ≡ 0 → w ≡ type.header
   unfolding pick
-  is-0 e = eqb-true w type.header (must-passed _ _ e)
+  is-0 e = eqb-true w type.header (must-passed _ _ e tt)
 
   pub is-1 : headFault t 1 w ≡ 0 → w ≡ 0
   unfolding pick
-  is-1 e = eqb-true w 0 (must-passed _ _ e)
+  is-1 e = eqb-true w 0 (must-passed _ _ e tt)
 
   pub is-2 : headFault t 2 w ≡ 0 → (1 ≤ w) × (w ≤ type.mostHunks)
   unfolding pick
@@ -126,18 +126,18 @@ module _ (t w : ℕ) where
       go : (b : Bool) → eqb w 0 ≡ b → pick b fault.headerWord (must (leb w type.mostHunks) fault.headerWord) ≡ 0
           → (1 ≤ w) × (w ≤ type.mostHunks)
       go true q x = absurd (omega arith)
-      go false q x = let z = eqb-false w 0 q in (omega (arith, z), leb-true w type.mostHunks (must-passed _ _ x))
+      go false q x = let z = eqb-false w 0 q in (omega (arith, z), leb-true w type.mostHunks (must-passed _ _ x tt))
 
   pub is-3 : headFault t 3 w ≡ 0 → w ≡ 0
   unfolding pick
-  is-3 e = eqb-true w 0 (must-passed _ _ e)
+  is-3 e = eqb-true w 0 (must-passed _ _ e tt)
 
   pub is-4 : headFault t 4 w ≡ 0 → w + 1 ≡ t
   unfolding pick
-  is-4 e = eqb-true (w + 1) t (must-passed _ _ e)
+  is-4 e = eqb-true (w + 1) t (must-passed _ _ e tt)
 
   pub is-size : (i : ℕ) → headFault t (5 + i) w ≡ 0 → w ≤ type.largestHunk
-  is-size i e = leb-true w type.largestHunk (must-passed _ _ (sym (size-test i) ∙ e))
+  is-size i e = leb-true w type.largestHunk (must-passed _ _ (sym (size-test i) ∙ e) tt)
 
 judge-pass : (v at : ℕ) (r : Tested) → judge v at r ≡ Passed → (v ≡ 0) × (r ≡ Passed)
 judge-pass zero at r e = (refl, e)

@@ -8,6 +8,7 @@ use mathlib.Core.List.{List, [], _∷_, _++_}
 use native.Mathlib.Omega.{arith}
 use lib.Dec.{leb, eqb}
 use borrow.Author.Tests.{eq-eqb, ne-eqb, eqb-true, eqb-false, le-leb, leb-true, leb-false, lt-ltb, le-ltb}
+use Rattle.answers.specs.Numbers as fault
 use Rattle.answers.specs.Tests.{pick, must, never, first, tests}
 use Rattle.answers.proofs.Tests.{first-zero, tests-append, must-passed, must-passes, pick-true, pick-false}
 use Rattle.answers.proofs.Given.{given}
@@ -15,7 +16,8 @@ use Rattle.answers.proofs.Clashes.{impossible}
 use Rattle.reach.specs.References.{_∈_}
 use Rattle.volume.specs.declared.disk.Disk.{Disk}
 use Rattle.volume.specs.Disks.{rootOf, fileLimit, inRange, firstKey}
-use Rattle.volume.specs.Blocks.{slots, wordOf, sumOf, directory}
+use Rattle.volume.specs.Blocks.{slots, wordOf, sumOf, directory, headerType, listType, dataType}
+use Rattle.volume.specs.Blocks.{rootKind, directoryKind, fileKind, softLink, directoryLink, fileLink}
 use Rattle.volume.specs.Names.{nameOf, nameGood, slotOf}
 use Rattle.volume.specs.Files.{heldOf, sizeOf, blocksOf}
 use Rattle.volume.specs.Law.{RootKind, RootFixed, OneBitmap, Valid, EntryKind, KeyCount, ListKind}
@@ -35,53 +37,53 @@ use Rattle.volume.proofs.Checks.{not-good, some, among}
 
 module _ (s : List ℕ) (r : ℕ) where
   abbrev kinds : List ℕ
-  kinds = must (eqb (wordOf s r 0) 2) 8 ∷ must (eqb (wordOf s r 127) 1) 8 ∷ []
+  kinds = must (eqb (wordOf s r 0) headerType) fault.blockType ∷ must (eqb (wordOf s r 127) rootKind) fault.blockType ∷ []
 
-  kind-test : Test 8 (tests kinds) (RootKind s r)
+  kind-test : Test fault.blockType (tests kinds) (RootKind s r)
   kind-test =
       record {
         gives = search given depth 8;
-        passed = λ e. record { type = is _ _ 7 (test-at 0 kinds e refl); kind = is _ _ 7 (test-at 1 kinds e refl) };
-        passes = λ h. be _ _ 8 (h .type) & be _ _ 8 (h .kind) & refl;
+        passed = λ e. record { type = is _ _ fault.blockType (test-at 0 kinds e refl) tt; kind = is _ _ fault.blockType (test-at 1 kinds e refl) tt };
+        passes = λ h. be _ _ fault.blockType (h .type) & be _ _ fault.blockType (h .kind) & refl;
       }
 
-  fixed-test : Test 4 (tests (rootWords s r)) (RootFixed s r)
+  fixed-test : Test fault.rootWords (tests (rootWords s r)) (RootFixed s r)
   fixed-test =
       record {
         gives = search given depth 16;
-        passed = λ e. record { zeros = zeros′ e; table = is _ _ 3 (test-at 2 (rootWords s r) e refl) };
+        passed = λ e. record { zeros = zeros′ e; table = is _ _ fault.rootWords (test-at 2 (rootWords s r) e refl) tt };
         passes = passes′;
       }
     where
       zeros′ : tests (rootWords s r) ≡ 0 → (i : ℕ) → i ∈ (1 ∷ 2 ∷ 4 ∷ 124 ∷ 125 ∷ 126 ∷ []) → wordOf s r i ≡ 0
-      zeros′ e i (inl q) = rw q (is _ _ 3 (test-at 0 (rootWords s r) e refl))
-      zeros′ e i (inr (inl q)) = rw q (is _ _ 3 (test-at 1 (rootWords s r) e refl))
-      zeros′ e i (inr (inr (inl q))) = rw q (is _ _ 3 (test-at 3 (rootWords s r) e refl))
-      zeros′ e i (inr (inr (inr (inl q)))) = rw q (is _ _ 3 (test-at 4 (rootWords s r) e refl))
-      zeros′ e i (inr (inr (inr (inr (inl q))))) = rw q (is _ _ 3 (test-at 5 (rootWords s r) e refl))
-      zeros′ e i (inr (inr (inr (inr (inr (inl q)))))) = rw q (is _ _ 3 (test-at 6 (rootWords s r) e refl))
+      zeros′ e i (inl q) = rw q (is _ _ fault.rootWords (test-at 0 (rootWords s r) e refl) tt)
+      zeros′ e i (inr (inl q)) = rw q (is _ _ fault.rootWords (test-at 1 (rootWords s r) e refl) tt)
+      zeros′ e i (inr (inr (inl q))) = rw q (is _ _ fault.rootWords (test-at 3 (rootWords s r) e refl) tt)
+      zeros′ e i (inr (inr (inr (inl q)))) = rw q (is _ _ fault.rootWords (test-at 4 (rootWords s r) e refl) tt)
+      zeros′ e i (inr (inr (inr (inr (inl q))))) = rw q (is _ _ fault.rootWords (test-at 5 (rootWords s r) e refl) tt)
+      zeros′ e i (inr (inr (inr (inr (inr (inl q)))))) = rw q (is _ _ fault.rootWords (test-at 6 (rootWords s r) e refl) tt)
       zeros′ e i (inr (inr (inr (inr (inr (inr q)))))) = absurd q
 
       passes′ : RootFixed s r → tests (rootWords s r) ≡ 0
       passes′ h =
-          fixed 1 (inl refl) & fixed 2 (inr (inl refl)) & be _ _ 4 (h .table) & fixed 4 (inr (inr (inl refl))) & fixed
+          fixed 1 (inl refl) & fixed 2 (inr (inl refl)) & be _ _ fault.rootWords (h .table) & fixed 4 (inr (inr (inl refl))) & fixed
           124 (inr (inr (inr (inl refl)))) & fixed 125 (inr (inr (inr (inr (inl refl))))) & fixed 126
           (inr (inr (inr (inr (inr (inl refl)))))) & refl
         where
-          fixed : (i : ℕ) → i ∈ (1 ∷ 2 ∷ 4 ∷ 124 ∷ 125 ∷ 126 ∷ []) → must (eqb (wordOf s r i) 0) 4 ≡ 0
-          fixed i m = be _ _ 4 (h .zeros i m)
+          fixed : (i : ℕ) → i ∈ (1 ∷ 2 ∷ 4 ∷ 124 ∷ 125 ∷ 126 ∷ []) → must (eqb (wordOf s r i) 0) fault.rootWords ≡ 0
+          fixed i m = be _ _ fault.rootWords (h .zeros i m)
 
 module _ (d : Disk) (s : List ℕ) where
   abbrev r : ℕ
   r = rootOf d
 
-  root-order : rootFault d s ≡ first (must (eqb (sumOf s r) 0) 7)
-      (first (tests (kinds s r)) (first (tests (rootWords s r)) (must (nameGood s r) 11)))
+  root-order : rootFault d s ≡ first (must (eqb (sumOf s r) 0) fault.blockSum)
+      (first (tests (kinds s r)) (first (tests (rootWords s r)) (must (nameGood s r) fault.badName)))
   unfolding rootFault
   root-order =
-      ap (first (must (eqb (sumOf s r) 0) 7))
-      (tests-append (kinds s r) (rootWords s r ++ (must (nameGood s r) 11 ∷ []))
-      ∙ ap (first (tests (kinds s r))) (tests-append (rootWords s r) (must (nameGood s r) 11 ∷ [])
+      ap (first (must (eqb (sumOf s r) 0) fault.blockSum))
+      (tests-append (kinds s r) (rootWords s r ++ (must (nameGood s r) fault.badName ∷ []))
+      ∙ ap (first (tests (kinds s r))) (tests-append (rootWords s r) (must (nameGood s r) fault.badName ∷ [])
       ∙ ap (first (tests (rootWords s r))) (last _)))
 
   root-broken : (v : ℕ) → v ≢ 0 → rootFault d s ≡ v → RootBreaks s r v
@@ -93,14 +95,14 @@ module _ (d : Disk) (s : List ℕ) where
       (sym root-order ∙ e)
 
   root-fault : (v : ℕ) → RootBreaks s r v → (rootFault d s ≡ v) × (v ≢ 0)
-  root-fault v (root-7 a e) = (root-order ∙ fall (sum-test s r) _ (some 6 e) a e, some 6 e)
-  root-fault v (root-8 a b e) = (root-order ∙ on (sum-test s r) _ a (fall (kind-test s r) _ (some 7 e) b e), some 7 e)
+  root-fault v (root-7 a e) = (root-order ∙ fall (sum-test s r) _ (some e tt) a e, some e tt)
+  root-fault v (root-8 a b e) = (root-order ∙ on (sum-test s r) _ a (fall (kind-test s r) _ (some e tt) b e), some e tt)
   root-fault v (root-4 a b c e) =
-      (root-order ∙ on (sum-test s r) _ a (on (kind-test s r) _ b (fall (fixed-test s r) _ (some 3 e) c e)), some 3 e)
+      (root-order ∙ on (sum-test s r) _ a (on (kind-test s r) _ b (fall (fixed-test s r) _ (some e tt) c e)), some e tt)
   root-fault v (root-11 a b c n e) = (
     root-order ∙ on (sum-test s r) _ a
         (on (kind-test s r) _ b (on (fixed-test s r) _ c (breaks (name-test s r) (not-good s r n) e))),
-    some 10 e,
+    some e tt,
   )
 
   -- the root up to its name: 7, 8, 4 and 11
@@ -113,7 +115,7 @@ module _ (d : Disk) (s : List ℕ) where
     passed′,
     λ h. root-order ∙ on (sum-test s r) _ (h .sum)
         (on (kind-test s r) _ (h .kind)
-        (on (fixed-test s r) _ (h .fixed) (must-passes (nameGood s r) 11 (h .name)))),
+        (on (fixed-test s r) _ (h .fixed) (must-passes (nameGood s r) fault.badName (h .name)))),
   )
     where
       passed′ : rootFault d s ≡ 0 → RootSound s r
@@ -131,22 +133,22 @@ module _ (d : Disk) (s : List ℕ) where
   -- ---- the root's words beside the bitmap key
 
   abbrev zeros : ℕ
-  zeros = must (allZero s r 80 25) 16
+  zeros = must (allZero s r 80 25) fault.bitmapWords
 
-  zeros-test : Test 16 zeros (OneBitmap s r)
+  zeros-test : Test fault.bitmapWords zeros (OneBitmap s r)
   zeros-test =
       record {
         gives = search given depth 8;
-        passed = λ e i l h. zeros-there s r 80 25 (must-passed _ 15 e) i l (omega arith);
-        passes = λ f. must-passes _ 16 (zeros-found s r 80 25 (λ j l u. f j l (omega arith)));
+        passed = λ e i l h. zeros-there s r 80 25 (must-passed _ fault.bitmapWords e tt) i l (omega arith);
+        passes = λ f. must-passes _ fault.bitmapWords (zeros-found s r 80 25 (λ j l u. f j l (omega arith)));
       }
 
-  valid-test : Test 16 (must (eqb (wordOf s r 78) 0xFFFFFFFF) 16) (Valid d s)
-  valid-test = word-test _ _ 15 (search given depth 8)
+  valid-test : Test fault.bitmapWords (must (eqb (wordOf s r 78) 0xFFFFFFFF) fault.bitmapWords) (Valid d s)
+  valid-test = word-test _ _ fault.bitmapWords (search given depth 8) tt
 
-  map-order : mapFault d s ≡ first (must (eqb (wordOf s r 78) 0xFFFFFFFF) 16) zeros
+  map-order : mapFault d s ≡ first (must (eqb (wordOf s r 78) 0xFFFFFFFF) fault.bitmapWords) zeros
   unfolding mapFault
-  map-order = ap (first (must (eqb (wordOf s r 78) 0xFFFFFFFF) 16)) (last zeros)
+  map-order = ap (first (must (eqb (wordOf s r 78) 0xFFFFFFFF) fault.bitmapWords)) (last zeros)
 
   -- 16
   pub map-breaks : (v : ℕ) → ((mapFault d s ≡ v) × (v ≢ 0)) ↔ MapBreaks d s v
@@ -157,13 +159,13 @@ module _ (d : Disk) (s : List ℕ) where
           down valid-test _ (h .1) (λ a. map-16 (inl a))
           (λ a q. let w = broken zeros-test (h .1) q in map-16 (inr (w .0)) (w .1)) (sym map-order ∙ h .0)
 
-      rest : (OneBitmap s r → ⊥) → v ≡ 16 → (t : Bool) → eqb (wordOf s r 78) 0xFFFFFFFF ≡ t → mapFault d s ≡ v
+      rest : (OneBitmap s r → ⊥) → v ≡ fault.bitmapWords → (t : Bool) → eqb (wordOf s r 78) 0xFFFFFFFF ≡ t → mapFault d s ≡ v
       rest b e true q = map-order ∙ on valid-test _ (eqb-true _ _ q) (breaks zeros-test b e)
-      rest b e false q = map-order ∙ fall valid-test _ (some 15 e) (eqb-false _ _ q) e
+      rest b e false q = map-order ∙ fall valid-test _ (some e tt) (eqb-false _ _ q) e
 
       from : MapBreaks d s v → (mapFault d s ≡ v) × (v ≢ 0)
-      from (map-16 (inl a) e) = (map-order ∙ fall valid-test _ (some 15 e) a e, some 15 e)
-      from (map-16 (inr b) e) = (rest b e (eqb (wordOf s r 78) 0xFFFFFFFF) refl, some 15 e)
+      from (map-16 (inl a) e) = (map-order ∙ fall valid-test _ (some e tt) a e, some e tt)
+      from (map-16 (inr b) e) = (rest b e (eqb (wordOf s r 78) 0xFFFFFFFF) refl, some e tt)
 
   pub map-sound : (mapFault d s ≡ 0) ↔ (Valid d s × OneBitmap s r)
   map-sound = (passed′, λ h. map-order ∙ on valid-test _ (h .0) (zeros-test .passes (h .1)))
@@ -180,7 +182,7 @@ module _ (s : List ℕ) (k : ℕ) where
   bitmap-breaks v = ((λ h. let w = broken (sum-test s k) (h .1) (h .0) in bitmap-7 (w .0) (w .1)), from)
     where
       from : BitmapBreaks s k v → (bitmapFault s k ≡ v) × (v ≢ 0)
-      from (bitmap-7 a e) = (breaks (sum-test s k) a e, some 6 e)
+      from (bitmap-7 a e) = (breaks (sum-test s k) a e, some e tt)
 
 -- ---- an entry
 
@@ -189,85 +191,85 @@ module _ (d : Disk) (s : List ℕ) (k t i : ℕ) where
   w127 = wordOf s k 127
 
   abbrev links : List ℕ
-  links = never (eqb w127 3) 9 ∷ never (eqb w127 4) 9 ∷ never (eqb w127 0xFFFFFFFC) 9 ∷ []
+  links = never (eqb w127 softLink) fault.link ∷ never (eqb w127 directoryLink) fault.link ∷ never (eqb w127 fileLink) fault.link ∷ []
 
   abbrev Linked : Type 0
-  Linked = w127 ∈ (3 ∷ 4 ∷ 0xFFFFFFFC ∷ [])
+  Linked = w127 ∈ (softLink ∷ directoryLink ∷ fileLink ∷ [])
 
-  type-test : Test 8 (must (eqb (wordOf s k 0) 2) 8) (wordOf s k 0 ≡ 2)
-  type-test = word-test _ _ 7 (search given depth 8)
+  type-test : Test fault.blockType (must (eqb (wordOf s k 0) headerType) fault.blockType) (wordOf s k 0 ≡ headerType)
+  type-test = word-test _ _ fault.blockType (search given depth 8) tt
 
-  link-test : Test 9 (tests links) (Linked → ⊥)
+  link-test : Test fault.link (tests links) (Linked → ⊥)
   link-test =
       record {
         gives = search given depth 8;
         passed = passed′;
-        passes = λ h. be-not _ _ 9 (λ e. h (inl e)) & be-not _
-            _ 9 (λ e. h (inr (inl e))) & be-not _ _ 9 (λ e. h (inr (inr (inl e)))) & refl;
+        passes = λ h. be-not _ _ fault.link (λ e. h (inl e)) & be-not _
+            _ fault.link (λ e. h (inr (inl e))) & be-not _ _ fault.link (λ e. h (inr (inr (inl e)))) & refl;
       }
     where
       passed′ : tests links ≡ 0 → Linked → ⊥
-      passed′ e (inl q) = is-not _ _ 8 (test-at 0 links e refl) q
-      passed′ e (inr (inl q)) = is-not _ _ 8 (test-at 1 links e refl) q
-      passed′ e (inr (inr (inl q))) = is-not _ _ 8 (test-at 2 links e refl) q
+      passed′ e (inl q) = is-not _ _ fault.link (test-at 0 links e refl) tt q
+      passed′ e (inr (inl q)) = is-not _ _ fault.link (test-at 1 links e refl) tt q
+      passed′ e (inr (inr (inl q))) = is-not _ _ fault.link (test-at 2 links e refl) tt q
       passed′ e (inr (inr (inr q))) = absurd q
 
   linked : ((Linked → ⊥) → ⊥) → Linked
-  linked h = go (among w127 (3 ∷ 4 ∷ 0xFFFFFFFC ∷ []))
+  linked h = go (among w127 (softLink ∷ directoryLink ∷ fileLink ∷ []))
     where
       go : Dec Linked → Linked
       go (yes q) = q
       go (no q) = absurd (h q)
 
   abbrev Known : Type 0
-  Known = (w127 ≡ 2) ⊎ (w127 ≡ 0xFFFFFFFD)
+  Known = (w127 ≡ directoryKind) ⊎ (w127 ≡ fileKind)
 
   abbrev known : ℕ
-  known = pick (directory s k) 0 (must (eqb w127 0xFFFFFFFD) 8)
+  known = pick (directory s k) 0 (must (eqb w127 fileKind) fault.blockType)
 
-  known-test : Test 8 known Known
+  known-test : Test fault.blockType known Known
   known-test = record { gives = search given depth 8; passed = passed′ (directory s k) refl; passes = passes′ }
     where
       passed′ : (b : Bool) → directory s k ≡ b → known ≡ 0 → Known
       passed′ true h e = inl (eqb-true _ _ h)
-      passed′ false h e = inr (is _ _ 7 (sym (pick-false (directory s k) _ _ _ h refl) ∙ e))
+      passed′ false h e = inr (is _ _ fault.blockType (sym (pick-false (directory s k) _ _ _ h refl) ∙ e) tt)
 
       passes′ : Known → known ≡ 0
       passes′ (inl e) = pick-true (directory s k) _ _ _ (eq-eqb _ _ e) refl
-      passes′ (inr e) = pick-false (directory s k) _ _ _ (ne-eqb w127 2 (λ f. omega (arith, e, f))) refl ∙ be _ _ 8 e
+      passes′ (inr e) = pick-false (directory s k) _ _ _ (ne-eqb w127 directoryKind (λ f. omega (arith, e, f))) refl ∙ be _ _ fault.blockType e
 
-  ties-test : Test 10 (tests (entryWords s k t)) (EntryTies s k t)
+  ties-test : Test fault.wrongTies (tests (entryWords s k t)) (EntryTies s k t)
   ties-test =
       record {
         gives = search given depth 8;
         passed =
             λ e. record {
-              own = is _ _ 9 (test-at 0 (entryWords s k t) e refl);
-              parent = is _ _ 9 (test-at 1 (entryWords s k t) e refl);
-              link = λ h. is _ _ 9 (sym (pick-true (directory s k) _ _ _ h refl)
-                  ∙ test-at 2 (entryWords s k t) e refl);
+              own = is _ _ fault.wrongTies (test-at 0 (entryWords s k t) e refl) tt;
+              parent = is _ _ fault.wrongTies (test-at 1 (entryWords s k t) e refl) tt;
+              link = λ h. is _ _ fault.wrongTies (sym (pick-true (directory s k) _ _ _ h refl)
+                  ∙ test-at 2 (entryWords s k t) e refl) tt;
             };
-        passes = λ h. be _ _ 10 (h .own) & be _ _ 10 (h .parent) & link′ h (directory s k) refl & refl;
+        passes = λ h. be _ _ fault.wrongTies (h .own) & be _ _ fault.wrongTies (h .parent) & link′ h (directory s k) refl & refl;
       }
     where
       link′ : EntryTies s k t → (b : Bool) → directory s k ≡ b
-          → pick (directory s k) (must (eqb (wordOf s k 126) 0) 10) 0 ≡ 0
-      link′ h true e = pick-true (directory s k) _ _ _ e refl ∙ be _ _ 10 (h .link e)
+          → pick (directory s k) (must (eqb (wordOf s k 126) 0) fault.wrongTies) 0 ≡ 0
+      link′ h true e = pick-true (directory s k) _ _ _ e refl ∙ be _ _ fault.wrongTies (h .link e)
       link′ h false e = pick-false (directory s k) _ _ _ e refl
 
-  slot-test : Test 12 (must (eqb (slotOf d (nameOf s k)) i) 12) (slotOf d (nameOf s k) ≡ i)
-  slot-test = word-test _ _ 11 (search given depth 8)
+  slot-test : Test fault.wrongSlot (must (eqb (slotOf d (nameOf s k)) i) fault.wrongSlot) (slotOf d (nameOf s k) ≡ i)
+  slot-test = word-test _ _ fault.wrongSlot (search given depth 8) tt
 
-  entry-order : entryFault d s k t i ≡ first (must (eqb (sumOf s k) 0) 7)
-      (first (must (eqb (wordOf s k 0) 2) 8)
+  entry-order : entryFault d s k t i ≡ first (must (eqb (sumOf s k) 0) fault.blockSum)
+      (first (must (eqb (wordOf s k 0) headerType) fault.blockType)
       (first (tests links) (first known
-      (first (tests (entryWords s k t)) (first (must (nameGood s k) 11) (must (eqb (slotOf d (nameOf s k)) i) 12))))))
+      (first (tests (entryWords s k t)) (first (must (nameGood s k) fault.badName) (must (eqb (slotOf d (nameOf s k)) i) fault.wrongSlot))))))
   unfolding entryFault
   entry-order =
-      ap (λ x. first (must (eqb (sumOf s k) 0) 7) (first (must (eqb (wordOf s k 0) 2) 8) x))
+      ap (λ x. first (must (eqb (sumOf s k) 0) fault.blockSum) (first (must (eqb (wordOf s k 0) headerType) fault.blockType) x))
       (tests-append links (known ∷ (entryWords s k t ++ entryName d s k i))
       ∙ ap (λ x. first (tests links) (first known x)) (tests-append (entryWords s k t) (entryName d s k i)
-      ∙ ap (λ x. first (tests (entryWords s k t)) (first (must (nameGood s k) 11) x)) (last _)))
+      ∙ ap (λ x. first (tests (entryWords s k t)) (first (must (nameGood s k) fault.badName) x)) (last _)))
 
   -- a directory's or a file's w127 is no link's
   apart : Known → Linked → ⊥
@@ -294,7 +296,7 @@ module _ (d : Disk) (s : List ℕ) (k t i : ℕ) where
 
   -- past the sum and the types
   past : {v : ℕ} → sumOf s k ≡ 0 → EntryKind s k
-      → first (tests (entryWords s k t)) (first (must (nameGood s k) 11) (must (eqb (slotOf d (nameOf s k)) i) 12))
+      → first (tests (entryWords s k t)) (first (must (nameGood s k) fault.badName) (must (eqb (slotOf d (nameOf s k)) i) fault.wrongSlot))
       ≡ v
       → entryFault d s k t i ≡ v
   past a b q =
@@ -302,29 +304,29 @@ module _ (d : Disk) (s : List ℕ) (k t i : ℕ) where
       (on type-test _ (b .type) (on link-test _ (apart (b .kind)) (on known-test _ (b .kind) q)))
 
   entry-fault : (v : ℕ) → EntryBreaks d s k t i v → (entryFault d s k t i ≡ v) × (v ≢ 0)
-  entry-fault v (entry-7 a e) = (entry-order ∙ fall (sum-test s k) _ (some 6 e) a e, some 6 e)
-  entry-fault v (entry-8 a b c e) = (entry-order ∙ on (sum-test s k) _ a (go (eqb (wordOf s k 0) 2) refl), some 7 e)
+  entry-fault v (entry-7 a e) = (entry-order ∙ fall (sum-test s k) _ (some e tt) a e, some e tt)
+  entry-fault v (entry-8 a b c e) = (entry-order ∙ on (sum-test s k) _ a (go (eqb (wordOf s k 0) headerType) refl), some e tt)
     where
-      go : (u : Bool) → eqb (wordOf s k 0) 2 ≡ u
-          → first (must (eqb (wordOf s k 0) 2) 8)
+      go : (u : Bool) → eqb (wordOf s k 0) headerType ≡ u
+          → first (must (eqb (wordOf s k 0) headerType) fault.blockType)
           (first (tests links) (first known
           (first (tests (entryWords s k t))
-          (first (must (nameGood s k) 11) (must (eqb (slotOf d (nameOf s k)) i) 12))))) ≡ v
+          (first (must (nameGood s k) fault.badName) (must (eqb (slotOf d (nameOf s k)) i) fault.wrongSlot))))) ≡ v
       go true q =
-          let y : wordOf s k 0 ≡ 2 = eqb-true _ _ q in
+          let y : wordOf s k 0 ≡ headerType = eqb-true _ _ q in
           on type-test _ y (on link-test _ (λ x. c (record { type = y; kind = x }))
-          (fall known-test _ (some 7 e) (λ x. b (record { type = y; kind = x })) e))
-      go false q = fall type-test _ (some 7 e) (eqb-false _ _ q) e
+          (fall known-test _ (some e tt) (λ x. b (record { type = y; kind = x })) e))
+      go false q = fall type-test _ (some e tt) (eqb-false _ _ q) e
   entry-fault v (entry-9 a b e) = (
     entry-order ∙ on (sum-test s k) _ a
-        (on type-test _ (b .type) (fall link-test _ (some 8 e) (λ h. h (b .kind)) e)),
-    some 8 e,
+        (on type-test _ (b .type) (fall link-test _ (some e tt) (λ h. h (b .kind)) e)),
+    some e tt,
   )
-  entry-fault v (entry-10 a b c e) = (past a b (fall ties-test _ (some 9 e) c e), some 9 e)
+  entry-fault v (entry-10 a b c e) = (past a b (fall ties-test _ (some e tt) c e), some e tt)
   entry-fault v (entry-11 a b c n e) =
-      (past a b (on ties-test _ c (fall (name-test s k) _ (some 10 e) (not-good s k n) e)), some 10 e)
+      (past a b (on ties-test _ c (fall (name-test s k) _ (some e tt) (not-good s k n) e)), some e tt)
   entry-fault v (entry-12 a b c n e) =
-      (past a (b .kind) (on ties-test _ c (on (name-test s k) _ (b .name) (breaks slot-test n e))), some 11 e)
+      (past a (b .kind) (on ties-test _ c (on (name-test s k) _ (b .name) (breaks slot-test n e))), some e tt)
 
   -- 7 to 12
   pub entry-breaks : (v : ℕ) → ((entryFault d s k t i ≡ v) × (v ≢ 0)) ↔ EntryBreaks d s k t i v
@@ -364,15 +366,15 @@ module _ (d : Disk) (s : List ℕ) (k t i : ℕ) where
 
 module _ (s : List ℕ) (k n : ℕ) where
   abbrev more : ℕ
-  more = pick (leb n slots) (must (eqb (wordOf s k 126) 0) 14) (never (eqb (wordOf s k 126) 0) 14)
+  more = pick (leb n slots) (must (eqb (wordOf s k 126) 0) fault.fileLayout) (never (eqb (wordOf s k 126) 0) fault.fileLayout)
 
   more-passed : more ≡ 0 → (wordOf s k 126 ≡ 0) ↔ (n ≤ slots)
   more-passed e = go (leb n slots) refl
     where
       go : (b : Bool) → leb n slots ≡ b → (wordOf s k 126 ≡ 0) ↔ (n ≤ slots)
-      go true h = ((λ _. leb-true n slots h), (λ _. is _ _ 13 (sym (pick-true (leb n slots) _ _ _ h refl) ∙ e)))
+      go true h = ((λ _. leb-true n slots h), (λ _. is _ _ fault.fileLayout (sym (pick-true (leb n slots) _ _ _ h refl) ∙ e) tt))
       go false h = (
-        (λ z. absurd (is-not _ _ 13 (sym (pick-false (leb n slots) _ _ _ h refl) ∙ e) z)),
+        (λ z. absurd (is-not _ _ fault.fileLayout (sym (pick-false (leb n slots) _ _ _ h refl) ∙ e) tt z)),
         (λ l. absurd (omega (arith, leb-false n slots h))),
       )
 
@@ -380,20 +382,20 @@ module _ (s : List ℕ) (k n : ℕ) where
   more-passes f = go (leb n slots) refl
     where
       go : (b : Bool) → leb n slots ≡ b → more ≡ 0
-      go true h = pick-true (leb n slots) _ _ _ h refl ∙ be _ _ 14 (f .1 (leb-true n slots h))
+      go true h = pick-true (leb n slots) _ _ _ h refl ∙ be _ _ fault.fileLayout (f .1 (leb-true n slots h))
       go false h =
-          pick-false (leb n slots) _ _ _ h refl ∙ be-not _ _ 14 (λ z. omega (arith, leb-false n slots h, f .0 z))
+          pick-false (leb n slots) _ _ _ h refl ∙ be-not _ _ fault.fileLayout (λ z. omega (arith, leb-false n slots h, f .0 z))
 
-  lists-test : Test 14 (tests (countRules s k n)) (KeyCount s k n)
+  lists-test : Test fault.fileLayout (tests (countRules s k n)) (KeyCount s k n)
   lists-test =
       record {
         gives = search given depth 8;
         passed =
             λ e. record {
-              count = is _ _ 13 (test-at 0 (countRules s k n) e refl);
+              count = is _ _ fault.fileLayout (test-at 0 (countRules s k n) e refl) tt;
               more = more-passed (test-at 1 (countRules s k n) e refl);
             };
-        passes = λ p. be _ _ 14 (p .count) & more-passes (p .more) & refl;
+        passes = λ p. be _ _ fault.fileLayout (p .count) & more-passes (p .more) & refl;
       }
 
 -- ---- a file's header
@@ -402,33 +404,33 @@ module _ (d : Disk) (s : List ℕ) (h : ℕ) where
   abbrev n : ℕ
   n = blocksOf d s h
 
-  header-order : fileFault d s h ≡ first (must (leb (sizeOf s h) (fileLimit d)) 14)
+  header-order : fileFault d s h ≡ first (must (leb (sizeOf s h) (fileLimit d)) fault.fileLayout)
       (first (tests (countRules s h n)) (tests (emptyRules d s h n)))
   unfolding fileFault
   header-order =
-      ap (first (must (leb (sizeOf s h) (fileLimit d)) 14)) (tests-append (countRules s h n) (emptyRules d s h n))
+      ap (first (must (leb (sizeOf s h) (fileLimit d)) fault.fileLayout)) (tests-append (countRules s h n) (emptyRules d s h n))
 
-  size-test : Test 14 (must (leb (sizeOf s h) (fileLimit d)) 14) (sizeOf s h ≤ fileLimit d)
+  size-test : Test fault.fileLayout (must (leb (sizeOf s h) (fileLimit d)) fault.fileLayout) (sizeOf s h ≤ fileLimit d)
   size-test =
       record {
         gives = search given depth 8;
-        passed = λ e. leb-true _ _ (must-passed _ 13 e);
-        passes = λ p. must-passes _ 14 (le-leb _ _ p);
+        passed = λ e. leb-true _ _ (must-passed _ fault.fileLayout e tt);
+        passes = λ p. must-passes _ fault.fileLayout (le-leb _ _ p);
       }
 
-  empty-test : Test 14 (tests (emptyRules d s h n)) (n ≡ 0 → wordOf s h 4 ≡ 0)
+  empty-test : Test fault.fileLayout (tests (emptyRules d s h n)) (n ≡ 0 → wordOf s h 4 ≡ 0)
   empty-test =
       record {
         gives = search given depth 8;
         passed =
-            λ e z. is _ _ 13 (sym (pick-true (eqb n 0) _ _ _ (eq-eqb n 0 z) refl)
-            ∙ test-at 0 (emptyRules d s h n) e refl);
+            λ e z. is _ _ fault.fileLayout (sym (pick-true (eqb n 0) _ _ _ (eq-eqb n 0 z) refl)
+            ∙ test-at 0 (emptyRules d s h n) e refl) tt;
         passes = λ p. empty p (eqb n 0) refl & refl;
       }
     where
       empty : (n ≡ 0 → wordOf s h 4 ≡ 0) → (b : Bool) → eqb n 0 ≡ b
-          → pick (eqb n 0) (must (eqb (wordOf s h 4) 0) 14) 0 ≡ 0
-      empty p true e = pick-true (eqb n 0) _ _ _ e refl ∙ be _ _ 14 (p (eqb-true n 0 e))
+          → pick (eqb n 0) (must (eqb (wordOf s h 4) 0) fault.fileLayout) 0 ≡ 0
+      empty p true e = pick-true (eqb n 0) _ _ _ e refl ∙ be _ _ fault.fileLayout (p (eqb-true n 0 e))
       empty p false e = pick-false (eqb n 0) _ _ _ e refl
 
   -- it passes if and only if it is as the law says
@@ -449,7 +451,7 @@ module _ (d : Disk) (s : List ℕ) (h : ℕ) where
             empty = empty-test .passed (b .1);
           }
 
-  header-test : Test 14 (fileFault d s h) (HeaderSound d s h)
+  header-test : Test fault.fileLayout (fileFault d s h) (HeaderSound d s h)
   unfolding fileFault
   header-test = record { gives = search given depth 16; passed = header-sound .0; passes = header-sound .1 }
 
@@ -458,38 +460,38 @@ module _ (d : Disk) (s : List ℕ) (h : ℕ) where
   header-breaks v = ((λ e. let w = broken header-test (e .1) (e .0) in header-14 (w .0) (w .1)), from)
     where
       from : HeaderBreaks d s h v → (fileFault d s h ≡ v) × (v ≢ 0)
-      from (header-14 a e) = (breaks header-test a e, some 13 e)
+      from (header-14 a e) = (breaks header-test a e, some e tt)
 
 -- ---- a list block
 
 module _ (s : List ℕ) (k h n : ℕ) where
   abbrev types : List ℕ
-  types = must (eqb (wordOf s k 0) 16) 8 ∷ must (eqb (wordOf s k 127) 0xFFFFFFFD) 8 ∷ []
+  types = must (eqb (wordOf s k 0) listType) fault.blockType ∷ must (eqb (wordOf s k 127) fileKind) fault.blockType ∷ []
 
   abbrev owns : List ℕ
-  owns = must (eqb (wordOf s k 1) k) 10 ∷ must (eqb (wordOf s k 125) h) 10 ∷ []
+  owns = must (eqb (wordOf s k 1) k) fault.wrongTies ∷ must (eqb (wordOf s k 125) h) fault.wrongTies ∷ []
 
-  types-test : Test 8 (tests types) (ListKind s k)
+  types-test : Test fault.blockType (tests types) (ListKind s k)
   types-test =
       record {
         gives = search given depth 8;
-        passed = λ e. record { type = is _ _ 7 (test-at 0 types e refl); kind = is _ _ 7 (test-at 1 types e refl) };
-        passes = λ p. be _ _ 8 (p .type) & be _ _ 8 (p .kind) & refl;
+        passed = λ e. record { type = is _ _ fault.blockType (test-at 0 types e refl) tt; kind = is _ _ fault.blockType (test-at 1 types e refl) tt };
+        passes = λ p. be _ _ fault.blockType (p .type) & be _ _ fault.blockType (p .kind) & refl;
       }
 
-  owns-test : Test 10 (tests owns) ((wordOf s k 1 ≡ k) × (wordOf s k 125 ≡ h))
+  owns-test : Test fault.wrongTies (tests owns) ((wordOf s k 1 ≡ k) × (wordOf s k 125 ≡ h))
   owns-test =
       record {
         gives = search given depth 8;
-        passed = λ e. (is _ _ 9 (test-at 0 owns e refl), is _ _ 9 (test-at 1 owns e refl));
-        passes = λ p. be _ _ 10 (p .0) & be _ _ 10 (p .1) & refl;
+        passed = λ e. (is _ _ fault.wrongTies (test-at 0 owns e refl) tt, is _ _ fault.wrongTies (test-at 1 owns e refl) tt);
+        passes = λ p. be _ _ fault.wrongTies (p .0) & be _ _ fault.wrongTies (p .1) & refl;
       }
 
-  list-order : listFault s k h n ≡ first (must (eqb (sumOf s k) 0) 7)
+  list-order : listFault s k h n ≡ first (must (eqb (sumOf s k) 0) fault.blockSum)
       (first (tests types) (first (tests owns) (tests (countRules s k n))))
   unfolding listFault
   list-order =
-      ap (first (must (eqb (sumOf s k) 0) 7)) (tests-append types (owns ++ countRules s k n)
+      ap (first (must (eqb (sumOf s k) 0) fault.blockSum)) (tests-append types (owns ++ countRules s k n)
       ∙ ap (first (tests types)) (tests-append owns (countRules s k n)))
 
   list-broken : (v : ℕ) → v ≢ 0 → listFault s k h n ≡ v → ListBreaks s k h n v
@@ -502,18 +504,18 @@ module _ (s : List ℕ) (k h n : ℕ) where
       (sym list-order ∙ e)
 
   list-fault : (v : ℕ) → ListBreaks s k h n v → (listFault s k h n ≡ v) × (v ≢ 0)
-  list-fault v (list-7 a e) = (list-order ∙ fall (sum-test s k) _ (some 6 e) a e, some 6 e)
-  list-fault v (list-8 a b e) = (list-order ∙ on (sum-test s k) _ a (fall types-test _ (some 7 e) b e), some 7 e)
+  list-fault v (list-7 a e) = (list-order ∙ fall (sum-test s k) _ (some e tt) a e, some e tt)
+  list-fault v (list-8 a b e) = (list-order ∙ on (sum-test s k) _ a (fall types-test _ (some e tt) b e), some e tt)
   list-fault v (list-10 a b c e) = (
     list-order ∙ on (sum-test s k) _ a
-        (on types-test _ b (fall owns-test _ (some 9 e) (λ x. c (record { kind = b; own = x .0; parent = x .1 }))
+        (on types-test _ b (fall owns-test _ (some e tt) (λ x. c (record { kind = b; own = x .0; parent = x .1 }))
         e)),
-    some 9 e,
+    some e tt,
   )
   list-fault v (list-14 a b c e) = (
     list-order ∙ on (sum-test s k) _ a
         (on types-test _ (b .kind) (on owns-test _ (b .own, b .parent) (breaks (lists-test s k n) c e))),
-    some 13 e,
+    some e tt,
   )
 
   -- 7, 8, 10 and 14
@@ -550,25 +552,25 @@ module _ (d : Disk) (s : List ℕ) (k h n named : ℕ) where
 
   abbrev rest : List ℕ
   rest =
-      must (eqb (wordOf s k 1) h) 15 ∷ must (eqb (wordOf s k 2) n) 15 ∷ must (eqb (wordOf s k 3) (heldOf d z n)) 15
+      must (eqb (wordOf s k 1) h) fault.dataLayout ∷ must (eqb (wordOf s k 2) n) fault.dataLayout ∷ must (eqb (wordOf s k 3) (heldOf d z n)) fault.dataLayout
       ∷ dataLinks d s k z n named
 
-  data-type-test : Test 8 (must (eqb (wordOf s k 0) 8) 8) (wordOf s k 0 ≡ 8)
-  data-type-test = word-test _ _ 7 (search given depth 8)
+  data-type-test : Test fault.blockType (must (eqb (wordOf s k 0) dataType) fault.blockType) (wordOf s k 0 ≡ dataType)
+  data-type-test = word-test _ _ fault.blockType (search given depth 8) tt
 
-  data-order : dataFault d s k h z n named ≡ first (must (eqb (sumOf s k) 0) 7)
-      (first (must (eqb (wordOf s k 0) 8) 8) (tests rest))
+  data-order : dataFault d s k h z n named ≡ first (must (eqb (sumOf s k) 0) fault.blockSum)
+      (first (must (eqb (wordOf s k 0) dataType) fault.blockType) (tests rest))
   unfolding dataFault
   data-order = refl
 
   -- past the type
-  datum-test : wordOf s k 0 ≡ 8 → Test 15 (tests rest) (DataTies d s k h n named)
+  datum-test : wordOf s k 0 ≡ dataType → Test fault.dataLayout (tests rest) (DataTies d s k h n named)
   datum-test b =
       record {
         gives = search given depth 12;
         passed = passed′;
-        passes = λ p. be _ _ 15 (p .block .parent) & be _ _ 15
-            (p .block .number) & be _ _ 15 (p .block .held) & be _ _ 15 (p .here) & end p (eqb n (blocksOf d s h)) refl
+        passes = λ p. be _ _ fault.dataLayout (p .block .parent) & be _ _ 15
+            (p .block .number) & be _ _ fault.dataLayout (p .block .held) & be _ _ fault.dataLayout (p .here) & end p (eqb n (blocksOf d s h)) refl
             & refl;
       }
     where
@@ -578,19 +580,19 @@ module _ (d : Disk) (s : List ℕ) (k h n named : ℕ) where
             block =
                 record {
                   type = b;
-                  parent = is _ _ 14 (test-at 0 rest e refl);
-                  number = is _ _ 14 (test-at 1 rest e refl);
-                  held = is _ _ 14 (test-at 2 rest e refl);
+                  parent = is _ _ fault.dataLayout (test-at 0 rest e refl) tt;
+                  number = is _ _ fault.dataLayout (test-at 1 rest e refl) tt;
+                  held = is _ _ fault.dataLayout (test-at 2 rest e refl) tt;
                 };
-            here = is _ _ 14 (test-at 3 rest e refl);
+            here = is _ _ fault.dataLayout (test-at 3 rest e refl) tt;
             last =
-                λ y. is _ _ 14 (sym (pick-true (eqb n (blocksOf d s h)) _ _ _ (eq-eqb _ _ y) refl)
-                ∙ test-at 4 rest e refl);
+                λ y. is _ _ fault.dataLayout (sym (pick-true (eqb n (blocksOf d s h)) _ _ _ (eq-eqb _ _ y) refl)
+                ∙ test-at 4 rest e refl) tt;
           }
 
       end : DataTies d s k h n named → (t : Bool) → eqb n (blocksOf d s h) ≡ t
-          → pick (eqb n (blocksOf d s h)) (must (eqb (wordOf s k 4) 0) 15) 0 ≡ 0
-      end p true e = pick-true (eqb n (blocksOf d s h)) _ _ _ e refl ∙ be _ _ 15 (p .last (eqb-true _ _ e))
+          → pick (eqb n (blocksOf d s h)) (must (eqb (wordOf s k 4) 0) fault.dataLayout) 0 ≡ 0
+      end p true e = pick-true (eqb n (blocksOf d s h)) _ _ _ e refl ∙ be _ _ fault.dataLayout (p .last (eqb-true _ _ e))
       end p false e = pick-false (eqb n (blocksOf d s h)) _ _ _ e refl
 
   data-broken : (v : ℕ) → v ≢ 0 → dataFault d s k h z n named ≡ v → DataBreaks d s k h n named v
@@ -601,10 +603,10 @@ module _ (d : Disk) (s : List ℕ) (k h n named : ℕ) where
       (sym data-order ∙ e)
 
   data-fault : (v : ℕ) → DataBreaks d s k h n named v → (dataFault d s k h z n named ≡ v) × (v ≢ 0)
-  data-fault v (data-7 a e) = (data-order ∙ fall (sum-test s k) _ (some 6 e) a e, some 6 e)
-  data-fault v (data-8 a b e) = (data-order ∙ on (sum-test s k) _ a (fall data-type-test _ (some 7 e) b e), some 7 e)
+  data-fault v (data-7 a e) = (data-order ∙ fall (sum-test s k) _ (some e tt) a e, some e tt)
+  data-fault v (data-8 a b e) = (data-order ∙ on (sum-test s k) _ a (fall data-type-test _ (some e tt) b e), some e tt)
   data-fault v (data-15 a b c e) =
-      (data-order ∙ on (sum-test s k) _ a (on data-type-test _ b (breaks (datum-test b) c e)), some 14 e)
+      (data-order ∙ on (sum-test s k) _ a (on data-type-test _ b (breaks (datum-test b) c e)), some e tt)
 
   -- 7, 8 and 15
   pub data-breaks : (v : ℕ) → ((dataFault d s k h (sizeOf s h) n named ≡ v) × (v ≢ 0)) ↔ DataBreaks d s k h n named v

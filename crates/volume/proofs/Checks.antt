@@ -7,8 +7,9 @@ use mathlib.Core.Bool.{Bool, true, false}
 use mathlib.Core.List.{List, [], _∷_}
 use native.Mathlib.Omega.{arith}
 use native.Mathlib.Decide.{decLt}
-use lib.Dec.{eqb}
+use lib.Dec.{T, eqb, ltb}
 use borrow.Author.Tests.{eq-eqb, ne-eqb, eqb-true, eqb-false}
+use Rattle.answers.specs.Numbers as fault
 use Rattle.answers.specs.Tests.{pick, must, never, first, tests}
 use Rattle.answers.proofs.Tests.{first-zero, must-passed, must-passes, never-passed, never-passes}
 use Rattle.answers.proofs.Given.{Given, given}
@@ -21,14 +22,14 @@ use Rattle.volume.specs.Rules.{allZero}
 -- ---- what a passed test says, and what makes it pass
 
 module _ (a b v : ℕ) where
-  pub is : must (eqb a b) (suc v) ≡ 0 → a ≡ b
-  is e = eqb-true a b (must-passed (eqb a b) v e)
+  pub is : must (eqb a b) v ≡ 0 → T (ltb 0 v) → a ≡ b
+  is e h = eqb-true a b (must-passed (eqb a b) v e h)
 
   pub be : a ≡ b → must (eqb a b) v ≡ 0
   be e = must-passes (eqb a b) v (eq-eqb a b e)
 
-  pub is-not : never (eqb a b) (suc v) ≡ 0 → a ≢ b
-  is-not e = eqb-false a b (never-passed (eqb a b) v e)
+  pub is-not : never (eqb a b) v ≡ 0 → T (ltb 0 v) → a ≢ b
+  is-not e h = eqb-false a b (never-passed (eqb a b) v e h)
 
   pub be-not : a ≢ b → never (eqb a b) v ≡ 0
   be-not e = never-passes (eqb a b) v (ne-eqb a b e)
@@ -117,19 +118,18 @@ last (suc x) = refl
 
 -- ---- tests of one word, or of a Bool
 
-pub word-test : (a b v : ℕ) → Given (suc v ∷ []) (must (eqb a b) (suc v))
-    → Test (suc v) (must (eqb a b) (suc v)) (a ≡ b)
-word-test a b v g = record { gives = g; passed = is a b v; passes = be a b (suc v) }
+pub word-test : (a b v : ℕ) → Given (v ∷ []) (must (eqb a b) v) → T (ltb 0 v) → Test v (must (eqb a b) v) (a ≡ b)
+word-test a b v g h = record { gives = g; passed = λ e. is a b v e h; passes = be a b v }
 
-pub sum-test : (s : List ℕ) (k : ℕ) → Test 7 (must (eqb (sumOf s k) 0) 7) (sumOf s k ≡ 0)
-sum-test s k = word-test (sumOf s k) 0 6 (search given depth 8)
+pub sum-test : (s : List ℕ) (k : ℕ) → Test fault.blockSum (must (eqb (sumOf s k) 0) fault.blockSum) (sumOf s k ≡ 0)
+sum-test s k = word-test (sumOf s k) 0 fault.blockSum (search given depth 8) tt
 
-pub name-test : (s : List ℕ) (k : ℕ) → Test 11 (must (nameGood s k) 11) (nameGood s k ≡ true)
+pub name-test : (s : List ℕ) (k : ℕ) → Test fault.badName (must (nameGood s k) fault.badName) (nameGood s k ≡ true)
 name-test s k =
     record {
       gives = search given depth 8;
-      passed = must-passed (nameGood s k) 10;
-      passes = must-passes (nameGood s k) 11;
+      passed = λ e. must-passed (nameGood s k) fault.badName e tt;
+      passes = must-passes (nameGood s k) fault.badName;
     }
 
 -- a name that is not good
@@ -144,8 +144,12 @@ pub not-good : (s : List ℕ) (k : ℕ) → nameGood s k ≡ false → nameGood 
 not-good s k p q = impossible cc
 
 -- no number is 0
-pub some : {v : ℕ} (n : ℕ) → v ≡ suc n → v ≢ 0
-some n p q = omega arith
+pub some : {v n : ℕ} → v ≡ n → T (ltb 0 n) → v ≢ 0
+some {v} {n} p h q = go n h (sym p ∙ q)
+  where
+    go : (n : ℕ) → T (ltb 0 n) → n ≢ 0
+    go zero h e = h
+    go (suc n) h e = absurd (omega arith)
 
 -- a number is one of some numbers, or not
 pub among : (x : ℕ) (l : List ℕ) → Dec (x ∈ l)

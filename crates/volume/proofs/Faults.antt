@@ -6,6 +6,7 @@ use mathlib.Core.List.{List, [], _∷_, _++_}
 use native.Mathlib.Omega.{arith}
 use borrow.Author.Tests.{eq-eqb, ne-eqb}
 use Rattle.volume.specs.declared.disk.Disk.{Disk}
+use Rattle.answers.specs.Numbers as fault
 use Rattle.answers.specs.Tests.{tests, must, pick}
 use Rattle.volume.specs.Disks.{rootOf, fileLimit}
 use Rattle.volume.specs.Blocks.{wordOf, sumOf}
@@ -22,28 +23,28 @@ use Rattle.answers.proofs.Tests.{then-stop}
 module _ (d : Disk) (s : List ℕ) (r f : ℕ) (e : r ≡ rootOf d) (p : f ≡ tests (rootTypes s r)) where
   pub root-types : (f ≡ 0 → ⊥) → f ≡ rootFault d s
   unfolding rootFault
-  root-types q = rw (← e) (then-stop f (rootTypes s r) (rootWords s r ++ (must (nameGood s r) 11 ∷ [])) p q)
+  root-types q = rw (← e) (then-stop f (rootTypes s r) (rootWords s r ++ (must (nameGood s r) fault.badName ∷ [])) p q)
 
   module _ (z : f ≡ 0) (g : ℕ) (h : g ≡ tests (rootWords s r)) where
     pub root-words : (g ≡ 0 → ⊥) → g ≡ rootFault d s
     unfolding rootFault
     root-words q =
-        rw (← e) (then-go g f (rootTypes s r) (rootWords s r ++ (must (nameGood s r) 11 ∷ [])) p z
-        (then-stop g (rootWords s r) (must (nameGood s r) 11 ∷ []) h q))
+        rw (← e) (then-go g f (rootTypes s r) (rootWords s r ++ (must (nameGood s r) fault.badName ∷ [])) p z
+        (then-stop g (rootWords s r) (must (nameGood s r) fault.badName ∷ []) h q))
 
-    pub root-name : (v : ℕ) → g ≡ 0 → v ≡ tests (must (nameGood s r) 11 ∷ []) → v ≡ rootFault d s
+    pub root-name : (v : ℕ) → g ≡ 0 → v ≡ tests (must (nameGood s r) fault.badName ∷ []) → v ≡ rootFault d s
     unfolding rootFault
     root-name v q n =
-        rw (← e) (then-go v f (rootTypes s r) (rootWords s r ++ (must (nameGood s r) 11 ∷ [])) p z
-        (then-go v g (rootWords s r) (must (nameGood s r) 11 ∷ []) h q n))
+        rw (← e) (then-go v f (rootTypes s r) (rootWords s r ++ (must (nameGood s r) fault.badName ∷ [])) p z
+        (then-go v g (rootWords s r) (must (nameGood s r) fault.badName ∷ []) h q n))
 
 -- a name alone
 module _ (s : List ℕ) (k : ℕ) (t : Bool) (h : t ≡ nameGood s k) where
-  pub name-passes : t ≡ true → 0 ≡ tests (must (nameGood s k) 11 ∷ [])
-  name-passes q = go 0 _ _ (must-true 11 t (nameGood s k) h q) refl
+  pub name-passes : t ≡ true → 0 ≡ tests (must (nameGood s k) fault.badName ∷ [])
+  name-passes q = go 0 _ _ (must-true fault.badName t (nameGood s k) h q) refl
 
-  pub name-fails : t ≡ false → 11 ≡ tests (must (nameGood s k) 11 ∷ [])
-  name-fails q = stop 11 _ _ tt (must-false 11 t (nameGood s k) h q)
+  pub name-fails : t ≡ false → fault.badName ≡ tests (must (nameGood s k) fault.badName ∷ [])
+  name-fails q = stop fault.badName _ _ tt (must-false fault.badName t (nameGood s k) h q)
 
 -- ---- n words from w(f) on are 0; i of them are done, and w is the next
 
@@ -66,33 +67,33 @@ zero-done s k f n i h = let e : n - i ≡ 0 = omega arith in rw e
 -- ---- the root's bitmap words: w is w78, t whether the rest is 0
 
 module _ (d : Disk) (s : List ℕ) (r w : ℕ) (e : r ≡ rootOf d) (h : w ≡ wordOf s r 78) where
-  pub map-invalid : (w ≡ 0xFFFFFFFF → ⊥) → 16 ≡ mapFault d s
+  pub map-invalid : (w ≡ 0xFFFFFFFF → ⊥) → fault.bitmapWords ≡ mapFault d s
   unfolding mapFault
-  map-invalid q = rw (← e) (stop 16 _ _ tt (must-ne 16 w (wordOf s r 78) 0xFFFFFFFF h q))
+  map-invalid q = rw (← e) (stop fault.bitmapWords _ _ tt (must-ne fault.bitmapWords w (wordOf s r 78) 0xFFFFFFFF h q))
 
   module _ (v : w ≡ 0xFFFFFFFF) (t : Bool) (u : t ≡ allZero s r 80 25) where
     pub map-good : t ≡ true → 0 ≡ mapFault d s
     unfolding mapFault
     map-good q =
-        rw (← e) (go 0 _ _ (must-eq 16 w (wordOf s r 78) 0xFFFFFFFF h v)
-        (go 0 _ _ (must-true 16 t (allZero s r 80 25) u q) refl))
+        rw (← e) (go 0 _ _ (must-eq fault.bitmapWords w (wordOf s r 78) 0xFFFFFFFF h v)
+        (go 0 _ _ (must-true fault.bitmapWords t (allZero s r 80 25) u q) refl))
 
-    pub map-rest : t ≡ false → 16 ≡ mapFault d s
+    pub map-rest : t ≡ false → fault.bitmapWords ≡ mapFault d s
     unfolding mapFault
     map-rest q =
-        rw (← e) (go 16 _ _ (must-eq 16 w (wordOf s r 78) 0xFFFFFFFF h v)
-        (stop 16 _ _ tt (must-false 16 t (allZero s r 80 25) u q)))
+        rw (← e) (go fault.bitmapWords _ _ (must-eq fault.bitmapWords w (wordOf s r 78) 0xFFFFFFFF h v)
+        (stop fault.bitmapWords _ _ tt (must-false fault.bitmapWords t (allZero s r 80 25) u q)))
 
 -- ---- the bitmap block
 
 module _ (s : List ℕ) (k w : ℕ) (h : w ≡ sumOf s k) where
-  pub bitmap-bad : (w ≡ 0 → ⊥) → 7 ≡ bitmapFault s k
+  pub bitmap-bad : (w ≡ 0 → ⊥) → fault.blockSum ≡ bitmapFault s k
   unfolding bitmapFault
-  bitmap-bad q = sym (must-ne 7 w (sumOf s k) 0 h q)
+  bitmap-bad q = sym (must-ne fault.blockSum w (sumOf s k) 0 h q)
 
   pub bitmap-good : w ≡ 0 → 0 ≡ bitmapFault s k
   unfolding bitmapFault
-  bitmap-good q = sym (must-eq 7 w (sumOf s k) 0 h q)
+  bitmap-good q = sym (must-eq fault.blockSum w (sumOf s k) 0 h q)
 
 -- ---- an entry: f, g and v answer its three parts
 
@@ -116,36 +117,36 @@ module _ (d : Disk) (s : List ℕ) (k t slot f : ℕ) (p : f ≡ tests (entryTyp
 
 -- its name and slot: t whether the name is good, w its slot
 module _ (d : Disk) (s : List ℕ) (k slot : ℕ) (t : Bool) (h : t ≡ nameGood s k) where
-  pub entry-unnamed : t ≡ false → 11 ≡ tests (entryName d s k slot)
-  entry-unnamed q = stop 11 _ _ tt (must-false 11 t (nameGood s k) h q)
+  pub entry-unnamed : t ≡ false → fault.badName ≡ tests (entryName d s k slot)
+  entry-unnamed q = stop fault.badName _ _ tt (must-false fault.badName t (nameGood s k) h q)
 
   module _ (v : t ≡ true) (w : ℕ) (e : w ≡ slotOf d (nameOf s k)) where
-    pub entry-strays : (w ≡ slot → ⊥) → 12 ≡ tests (entryName d s k slot)
+    pub entry-strays : (w ≡ slot → ⊥) → fault.wrongSlot ≡ tests (entryName d s k slot)
     entry-strays q =
-        go 12 _ _ (must-true 11 t (nameGood s k) h v) (stop 12 _ _ tt (must-ne 12 w (slotOf d (nameOf s k)) slot e q))
+        go fault.wrongSlot _ _ (must-true fault.badName t (nameGood s k) h v) (stop fault.wrongSlot _ _ tt (must-ne fault.wrongSlot w (slotOf d (nameOf s k)) slot e q))
 
     pub entry-hangs : w ≡ slot → 0 ≡ tests (entryName d s k slot)
     entry-hangs q =
-        go 0 _ _ (must-true 11 t (nameGood s k) h v) (go 0 _ _ (must-eq 12 w (slotOf d (nameOf s k)) slot e q) refl)
+        go 0 _ _ (must-true fault.badName t (nameGood s k) h v) (go 0 _ _ (must-eq fault.wrongSlot w (slotOf d (nameOf s k)) slot e q) refl)
 
 -- ---- a file: its size z, its number of data blocks n, f the answer of its count and link
 
 module _ (d : Disk) (s : List ℕ) (k z limit : ℕ) (h : z ≡ wordOf s k 81) (l : limit ≡ fileLimit d) where
-  pub file-big : limit < z → 14 ≡ fileFault d s k
+  pub file-big : limit < z → fault.fileLayout ≡ fileFault d s k
   unfolding fileFault
-  file-big q = stop 14 _ _ tt (must-gt 14 z limit (wordOf s k 81) (fileLimit d) h l q)
+  file-big q = stop fault.fileLayout _ _ tt (must-gt fault.fileLayout z limit (wordOf s k 81) (fileLimit d) h l q)
 
   module _ (q : z ≤ limit) (n f : ℕ) (e : n ≡ dataBlocks d z) (p : f ≡ tests (countRules s k n)) where
     pub file-count : (f ≡ 0 → ⊥) → f ≡ fileFault d s k
     unfolding fileFault
     file-count u =
-        rw (← h, ← e) (go f _ _ (rw h (must-le 14 z limit (wordOf s k 81) (fileLimit d) h l q))
+        rw (← h, ← e) (go f _ _ (rw h (must-le fault.fileLayout z limit (wordOf s k 81) (fileLimit d) h l q))
         (then-stop f (countRules s k n) (emptyRules d s k n) p u))
 
     pub file-empty : (v : ℕ) → f ≡ 0 → v ≡ tests (emptyRules d s k n) → v ≡ fileFault d s k
     unfolding fileFault
     file-empty v u g =
-        rw (← h, ← e) (go v _ _ (rw h (must-le 14 z limit (wordOf s k 81) (fileLimit d) h l q))
+        rw (← h, ← e) (go v _ _ (rw h (must-le fault.fileLayout z limit (wordOf s k 81) (fileLimit d) h l q))
         (then-go v f (countRules s k n) (emptyRules d s k n) p u g))
 
 -- ---- a list block: f and v answer its two parts

@@ -2,6 +2,7 @@
 use Prim.Native.Nat.{ℕ}
 use mathlib.Core.Path.{_≡_}
 use mathlib.Core.List.{List, [], _∷_}
+use Rattle.answers.specs.Numbers as fault
 use Rattle.answers.specs.Members.{_∈_}
 use Rattle.answers.proofs.Members.{listed}
 use Rattle.volume.specs.declared.disk.Disk.{Disk}
@@ -26,29 +27,29 @@ dataRefusals = 7 ∷ 8 ∷ 15 ∷ []
 
 module _ {s : List ℕ} {v : ℕ} where
   pub root-number : {r : ℕ} → RootBreaks s r v → v ∈ rootRefusals
-  root-number (root-7 a e) = rw e (listed rootRefusals 7 tt)
-  root-number (root-8 a b e) = rw e (listed rootRefusals 8 tt)
-  root-number (root-4 a b c e) = rw e (listed rootRefusals 4 tt)
-  root-number (root-11 a b c n e) = rw e (listed rootRefusals 11 tt)
+  root-number (root-7 a e) = rw e (listed rootRefusals fault.blockSum tt)
+  root-number (root-8 a b e) = rw e (listed rootRefusals fault.blockType tt)
+  root-number (root-4 a b c e) = rw e (listed rootRefusals fault.rootWords tt)
+  root-number (root-11 a b c n e) = rw e (listed rootRefusals fault.badName tt)
 
   pub entry-number : {d : Disk} {k t i : ℕ} → EntryBreaks d s k t i v → v ∈ entryRefusals
-  entry-number (entry-7 a e) = rw e (listed entryRefusals 7 tt)
-  entry-number (entry-8 a b c e) = rw e (listed entryRefusals 8 tt)
-  entry-number (entry-9 a b e) = rw e (listed entryRefusals 9 tt)
-  entry-number (entry-10 a b c e) = rw e (listed entryRefusals 10 tt)
-  entry-number (entry-11 a b c n e) = rw e (listed entryRefusals 11 tt)
-  entry-number (entry-12 a b c n e) = rw e (listed entryRefusals 12 tt)
+  entry-number (entry-7 a e) = rw e (listed entryRefusals fault.blockSum tt)
+  entry-number (entry-8 a b c e) = rw e (listed entryRefusals fault.blockType tt)
+  entry-number (entry-9 a b e) = rw e (listed entryRefusals fault.link tt)
+  entry-number (entry-10 a b c e) = rw e (listed entryRefusals fault.wrongTies tt)
+  entry-number (entry-11 a b c n e) = rw e (listed entryRefusals fault.badName tt)
+  entry-number (entry-12 a b c n e) = rw e (listed entryRefusals fault.wrongSlot tt)
 
   pub header-number : {d : Disk} {h : ℕ} → HeaderBreaks d s h v → v ∈ headerRefusals
-  header-number (header-14 a e) = rw e (listed headerRefusals 14 tt)
+  header-number (header-14 a e) = rw e (listed headerRefusals fault.fileLayout tt)
 
   pub list-number : {k h n : ℕ} → ListBreaks s k h n v → v ∈ listRefusals
-  list-number (list-7 a e) = rw e (listed listRefusals 7 tt)
-  list-number (list-8 a b e) = rw e (listed listRefusals 8 tt)
-  list-number (list-10 a b c e) = rw e (listed listRefusals 10 tt)
-  list-number (list-14 a b c e) = rw e (listed listRefusals 14 tt)
+  list-number (list-7 a e) = rw e (listed listRefusals fault.blockSum tt)
+  list-number (list-8 a b e) = rw e (listed listRefusals fault.blockType tt)
+  list-number (list-10 a b c e) = rw e (listed listRefusals fault.wrongTies tt)
+  list-number (list-14 a b c e) = rw e (listed listRefusals fault.fileLayout tt)
 
   pub data-number : {d : Disk} {k h n named : ℕ} → DataBreaks d s k h n named v → v ∈ dataRefusals
-  data-number (data-7 a e) = rw e (listed dataRefusals 7 tt)
-  data-number (data-8 a b e) = rw e (listed dataRefusals 8 tt)
-  data-number (data-15 a b c e) = rw e (listed dataRefusals 15 tt)
+  data-number (data-7 a e) = rw e (listed dataRefusals fault.blockSum tt)
+  data-number (data-8 a b e) = rw e (listed dataRefusals fault.blockType tt)
+  data-number (data-15 a b c e) = rw e (listed dataRefusals fault.dataLayout tt)

@@ -6,6 +6,7 @@ use mathlib.Core.Logic.{_⊎_, inl, inr}
 use mathlib.Core.Bool.{Bool, true, false}
 use mathlib.Core.List.{List}
 use borrow.Author.Tests.{lt-ltb, le-ltb, eqb-false}
+use Rattle.answers.specs.Numbers as fault
 use Rattle.answers.specs.Tests.{pick, never}
 use Rattle.answers.proofs.Tests.{first-zero, must-passed, must-passes, never-passed, never-passes, pick-true}
 use Rattle.answers.proofs.Tests.{pick-false}
@@ -21,7 +22,7 @@ use Rattle.walk.specs.Nodes.{Node, root, bitmap, entry, list, datum, key
 
 module _ (d : Disk) where
   pub key-passed : (k : ℕ) → keyFault d k ≡ 0 → (firstKey ≤ k) × (k < d .blocks)
-  key-passed k e = range-is d k (must-passed (inRange d k) 4 e)
+  key-passed k e = range-is d k (must-passed (inRange d k) fault.badKey e tt)
 
   pub key-passes : (k : ℕ) → (firstKey ≤ k) × (k < d .blocks) → keyFault d k ≡ 0
   unfolding inRange pick
@@ -40,7 +41,7 @@ module _ (d : Disk) where
       hung-passed e =
           let f = first-zero (entryFault d s k t i) _ e in
           let g = first-zero (never (twin d s k (slotWord s t i) p) 13) _ (f .1) in
-          (f .0, never-passed _ 12 (g .0), λ h. sym (pick-false (directory s k) _ _ _ h refl) ∙ g .1)
+          (f .0, never-passed _ fault.doubleName (g .0) tt, λ h. sym (pick-false (directory s k) _ _ _ h refl) ∙ g .1)
 
       pub hung-passes : Hung → hangsFault d s k t i p ≡ 0
       unfolding hangsFault
