@@ -29,7 +29,8 @@ use Rattle.volume.specs.Breaks.{entry-8, entry-9, entry-10, entry-11, en
 use Rattle.volume.specs.Breaks.{header-14, ListSound, ListBreaks, list-7, list-8, list-10, list-14, DataTies}
 use Rattle.volume.specs.Breaks.{DataBreaks, data-7, data-8, data-15}
 use Rattle.volume.proofs.Sizes.{range-is}
-use Rattle.volume.proofs.Checks.{is, be, is-not, be-not, test-at, _&_, zeros-there, zeros-found, Test, broken}
+use Rattle.volume.proofs.Checks.{word-in, word-not-in, member, is, be, is-not, be-not, test-at, _&_}
+use Rattle.volume.proofs.Checks.{zeros-there, zeros-found, Test, broken}
 use Rattle.volume.proofs.Checks.{breaks, down, fall, on, last, word-test, sum-test, name-test, bad-name}
 use Rattle.volume.proofs.Checks.{not-good, some, among}
 
@@ -37,13 +38,18 @@ use Rattle.volume.proofs.Checks.{not-good, some, among}
 
 module _ (s : List ℕ) (r : ℕ) where
   abbrev kinds : List ℕ
-  kinds = must (eqb (wordOf s r 0) headerType) fault.blockType ∷ must (eqb (wordOf s r 127) rootKind) fault.blockType ∷ []
+  kinds =
+      must (eqb (wordOf s r 0) headerType) fault.blockType ∷ must (eqb (wordOf s r 127) rootKind) fault.blockType ∷ []
 
   kind-test : Test fault.blockType (tests kinds) (RootKind s r)
   kind-test =
       record {
         gives = search given depth 8;
-        passed = λ e. record { type = is _ _ fault.blockType (test-at 0 kinds e refl) tt; kind = is _ _ fault.blockType (test-at 1 kinds e refl) tt };
+        passed =
+            λ e. record {
+              type = word-in _ _ fault.blockType kinds e (search member depth 9) tt;
+              kind = word-in _ _ fault.blockType kinds e (search member depth 9) tt;
+            };
         passes = λ h. be _ _ fault.blockType (h .type) & be _ _ fault.blockType (h .kind) & refl;
       }
 
@@ -51,22 +57,31 @@ module _ (s : List ℕ) (r : ℕ) where
   fixed-test =
       record {
         gives = search given depth 16;
-        passed = λ e. record { zeros = zeros′ e; table = is _ _ fault.rootWords (test-at 2 (rootWords s r) e refl) tt };
+        passed =
+            λ e. record {
+              zeros = zeros′ e;
+              table = word-in _ _ fault.rootWords (rootWords s r) e
+                  (search member depth 9) tt;
+            };
         passes = passes′;
       }
     where
       zeros′ : tests (rootWords s r) ≡ 0 → (i : ℕ) → i ∈ (1 ∷ 2 ∷ 4 ∷ 124 ∷ 125 ∷ 126 ∷ []) → wordOf s r i ≡ 0
-      zeros′ e i (inl q) = rw q (is _ _ fault.rootWords (test-at 0 (rootWords s r) e refl) tt)
-      zeros′ e i (inr (inl q)) = rw q (is _ _ fault.rootWords (test-at 1 (rootWords s r) e refl) tt)
-      zeros′ e i (inr (inr (inl q))) = rw q (is _ _ fault.rootWords (test-at 3 (rootWords s r) e refl) tt)
-      zeros′ e i (inr (inr (inr (inl q)))) = rw q (is _ _ fault.rootWords (test-at 4 (rootWords s r) e refl) tt)
-      zeros′ e i (inr (inr (inr (inr (inl q))))) = rw q (is _ _ fault.rootWords (test-at 5 (rootWords s r) e refl) tt)
-      zeros′ e i (inr (inr (inr (inr (inr (inl q)))))) = rw q (is _ _ fault.rootWords (test-at 6 (rootWords s r) e refl) tt)
+      zeros′ e i (inl q) = rw q (word-in _ _ fault.rootWords (rootWords s r) e (search member depth 9) tt)
+      zeros′ e i (inr (inl q)) = rw q (word-in _ _ fault.rootWords (rootWords s r) e (search member depth 9) tt)
+      zeros′ e i (inr (inr (inl q))) = rw q (word-in _ _ fault.rootWords (rootWords s r) e (search member depth 9) tt)
+      zeros′ e i (inr (inr (inr (inl q)))) =
+          rw q (word-in _ _ fault.rootWords (rootWords s r) e (search member depth 9) tt)
+      zeros′ e i (inr (inr (inr (inr (inl q))))) =
+          rw q (word-in _ _ fault.rootWords (rootWords s r) e (search member depth 9) tt)
+      zeros′ e i (inr (inr (inr (inr (inr (inl q)))))) =
+          rw q (word-in _ _ fault.rootWords (rootWords s r) e (search member depth 9) tt)
       zeros′ e i (inr (inr (inr (inr (inr (inr q)))))) = absurd q
 
       passes′ : RootFixed s r → tests (rootWords s r) ≡ 0
       passes′ h =
-          fixed 1 (inl refl) & fixed 2 (inr (inl refl)) & be _ _ fault.rootWords (h .table) & fixed 4 (inr (inr (inl refl))) & fixed
+          fixed 1 (inl refl) & fixed 2 (inr (inl refl)) & be _ _ fault.rootWords (h .table) & fixed 4
+          (inr (inr (inl refl))) & fixed
           124 (inr (inr (inr (inl refl)))) & fixed 125 (inr (inr (inr (inr (inl refl))))) & fixed 126
           (inr (inr (inr (inr (inr (inl refl)))))) & refl
         where
@@ -159,7 +174,8 @@ module _ (d : Disk) (s : List ℕ) where
           down valid-test _ (h .1) (λ a. map-16 (inl a))
           (λ a q. let w = broken zeros-test (h .1) q in map-16 (inr (w .0)) (w .1)) (sym map-order ∙ h .0)
 
-      rest : (OneBitmap s r → ⊥) → v ≡ fault.bitmapWords → (t : Bool) → eqb (wordOf s r 78) 0xFFFFFFFF ≡ t → mapFault d s ≡ v
+      rest : (OneBitmap s r → ⊥) → v ≡ fault.bitmapWords → (t : Bool) → eqb (wordOf s r 78) 0xFFFFFFFF ≡ t
+          → mapFault d s ≡ v
       rest b e true q = map-order ∙ on valid-test _ (eqb-true _ _ q) (breaks zeros-test b e)
       rest b e false q = map-order ∙ fall valid-test _ (some e tt) (eqb-false _ _ q) e
 
@@ -191,7 +207,9 @@ module _ (d : Disk) (s : List ℕ) (k t i : ℕ) where
   w127 = wordOf s k 127
 
   abbrev links : List ℕ
-  links = never (eqb w127 softLink) fault.link ∷ never (eqb w127 directoryLink) fault.link ∷ never (eqb w127 fileLink) fault.link ∷ []
+  links =
+      never (eqb w127 softLink) fault.link ∷ never (eqb w127 directoryLink) fault.link
+      ∷ never (eqb w127 fileLink) fault.link ∷ []
 
   abbrev Linked : Type 0
   Linked = w127 ∈ (softLink ∷ directoryLink ∷ fileLink ∷ [])
@@ -209,9 +227,9 @@ module _ (d : Disk) (s : List ℕ) (k t i : ℕ) where
       }
     where
       passed′ : tests links ≡ 0 → Linked → ⊥
-      passed′ e (inl q) = is-not _ _ fault.link (test-at 0 links e refl) tt q
-      passed′ e (inr (inl q)) = is-not _ _ fault.link (test-at 1 links e refl) tt q
-      passed′ e (inr (inr (inl q))) = is-not _ _ fault.link (test-at 2 links e refl) tt q
+      passed′ e (inl q) = word-not-in _ _ fault.link links e (search member depth 9) tt q
+      passed′ e (inr (inl q)) = word-not-in _ _ fault.link links e (search member depth 9) tt q
+      passed′ e (inr (inr (inl q))) = word-not-in _ _ fault.link links e (search member depth 9) tt q
       passed′ e (inr (inr (inr q))) = absurd q
 
   linked : ((Linked → ⊥) → ⊥) → Linked
@@ -236,7 +254,9 @@ module _ (d : Disk) (s : List ℕ) (k t i : ℕ) where
 
       passes′ : Known → known ≡ 0
       passes′ (inl e) = pick-true (directory s k) _ _ _ (eq-eqb _ _ e) refl
-      passes′ (inr e) = pick-false (directory s k) _ _ _ (ne-eqb w127 directoryKind (λ f. omega (arith, e, f))) refl ∙ be _ _ fault.blockType e
+      passes′ (inr e) =
+          pick-false (directory s k) _ _ _ (ne-eqb w127 directoryKind (λ f. omega (arith, e, f))) refl
+          ∙ be _ _ fault.blockType e
 
   ties-test : Test fault.wrongTies (tests (entryWords s k t)) (EntryTies s k t)
   ties-test =
@@ -244,12 +264,14 @@ module _ (d : Disk) (s : List ℕ) (k t i : ℕ) where
         gives = search given depth 8;
         passed =
             λ e. record {
-              own = is _ _ fault.wrongTies (test-at 0 (entryWords s k t) e refl) tt;
-              parent = is _ _ fault.wrongTies (test-at 1 (entryWords s k t) e refl) tt;
+              own = word-in _ _ fault.wrongTies (entryWords s k t) e (search member depth 9) tt;
+              parent = word-in _ _ fault.wrongTies (entryWords s k t) e (search member depth 9) tt;
               link = λ h. is _ _ fault.wrongTies (sym (pick-true (directory s k) _ _ _ h refl)
                   ∙ test-at 2 (entryWords s k t) e refl) tt;
             };
-        passes = λ h. be _ _ fault.wrongTies (h .own) & be _ _ fault.wrongTies (h .parent) & link′ h (directory s k) refl & refl;
+        passes =
+            λ h. be _ _ fault.wrongTies (h .own) & be _ _ fault.wrongTies (h .parent) & link′ h (directory s k) refl &
+            refl;
       }
     where
       link′ : EntryTies s k t → (b : Bool) → directory s k ≡ b
@@ -263,10 +285,12 @@ module _ (d : Disk) (s : List ℕ) (k t i : ℕ) where
   entry-order : entryFault d s k t i ≡ first (must (eqb (sumOf s k) 0) fault.blockSum)
       (first (must (eqb (wordOf s k 0) headerType) fault.blockType)
       (first (tests links) (first known
-      (first (tests (entryWords s k t)) (first (must (nameGood s k) fault.badName) (must (eqb (slotOf d (nameOf s k)) i) fault.wrongSlot))))))
+      (first (tests (entryWords s k t))
+      (first (must (nameGood s k) fault.badName) (must (eqb (slotOf d (nameOf s k)) i) fault.wrongSlot))))))
   unfolding entryFault
   entry-order =
-      ap (λ x. first (must (eqb (sumOf s k) 0) fault.blockSum) (first (must (eqb (wordOf s k 0) headerType) fault.blockType) x))
+      ap (λ x. first (must (eqb (sumOf s k) 0) fault.blockSum)
+      (first (must (eqb (wordOf s k 0) headerType) fault.blockType) x))
       (tests-append links (known ∷ (entryWords s k t ++ entryName d s k i))
       ∙ ap (λ x. first (tests links) (first known x)) (tests-append (entryWords s k t) (entryName d s k i)
       ∙ ap (λ x. first (tests (entryWords s k t)) (first (must (nameGood s k) fault.badName) x)) (last _)))
@@ -296,7 +320,8 @@ module _ (d : Disk) (s : List ℕ) (k t i : ℕ) where
 
   -- past the sum and the types
   past : {v : ℕ} → sumOf s k ≡ 0 → EntryKind s k
-      → first (tests (entryWords s k t)) (first (must (nameGood s k) fault.badName) (must (eqb (slotOf d (nameOf s k)) i) fault.wrongSlot))
+      → first (tests (entryWords s k t))
+      (first (must (nameGood s k) fault.badName) (must (eqb (slotOf d (nameOf s k)) i) fault.wrongSlot))
       ≡ v
       → entryFault d s k t i ≡ v
   past a b q =
@@ -305,7 +330,8 @@ module _ (d : Disk) (s : List ℕ) (k t i : ℕ) where
 
   entry-fault : (v : ℕ) → EntryBreaks d s k t i v → (entryFault d s k t i ≡ v) × (v ≢ 0)
   entry-fault v (entry-7 a e) = (entry-order ∙ fall (sum-test s k) _ (some e tt) a e, some e tt)
-  entry-fault v (entry-8 a b c e) = (entry-order ∙ on (sum-test s k) _ a (go (eqb (wordOf s k 0) headerType) refl), some e tt)
+  entry-fault v (entry-8 a b c e) =
+      (entry-order ∙ on (sum-test s k) _ a (go (eqb (wordOf s k 0) headerType) refl), some e tt)
     where
       go : (u : Bool) → eqb (wordOf s k 0) headerType ≡ u
           → first (must (eqb (wordOf s k 0) headerType) fault.blockType)
@@ -366,13 +392,18 @@ module _ (d : Disk) (s : List ℕ) (k t i : ℕ) where
 
 module _ (s : List ℕ) (k n : ℕ) where
   abbrev more : ℕ
-  more = pick (leb n slots) (must (eqb (wordOf s k 126) 0) fault.fileLayout) (never (eqb (wordOf s k 126) 0) fault.fileLayout)
+  more =
+      pick (leb n slots) (must (eqb (wordOf s k 126) 0) fault.fileLayout)
+      (never (eqb (wordOf s k 126) 0) fault.fileLayout)
 
   more-passed : more ≡ 0 → (wordOf s k 126 ≡ 0) ↔ (n ≤ slots)
   more-passed e = go (leb n slots) refl
     where
       go : (b : Bool) → leb n slots ≡ b → (wordOf s k 126 ≡ 0) ↔ (n ≤ slots)
-      go true h = ((λ _. leb-true n slots h), (λ _. is _ _ fault.fileLayout (sym (pick-true (leb n slots) _ _ _ h refl) ∙ e) tt))
+      go true h = (
+        (λ _. leb-true n slots h),
+        (λ _. is _ _ fault.fileLayout (sym (pick-true (leb n slots) _ _ _ h refl) ∙ e) tt),
+      )
       go false h = (
         (λ z. absurd (is-not _ _ fault.fileLayout (sym (pick-false (leb n slots) _ _ _ h refl) ∙ e) tt z)),
         (λ l. absurd (omega (arith, leb-false n slots h))),
@@ -384,7 +415,8 @@ module _ (s : List ℕ) (k n : ℕ) where
       go : (b : Bool) → leb n slots ≡ b → more ≡ 0
       go true h = pick-true (leb n slots) _ _ _ h refl ∙ be _ _ fault.fileLayout (f .1 (leb-true n slots h))
       go false h =
-          pick-false (leb n slots) _ _ _ h refl ∙ be-not _ _ fault.fileLayout (λ z. omega (arith, leb-false n slots h, f .0 z))
+          pick-false (leb n slots) _ _ _ h refl
+          ∙ be-not _ _ fault.fileLayout (λ z. omega (arith, leb-false n slots h, f .0 z))
 
   lists-test : Test fault.fileLayout (tests (countRules s k n)) (KeyCount s k n)
   lists-test =
@@ -392,7 +424,7 @@ module _ (s : List ℕ) (k n : ℕ) where
         gives = search given depth 8;
         passed =
             λ e. record {
-              count = is _ _ fault.fileLayout (test-at 0 (countRules s k n) e refl) tt;
+              count = word-in _ _ fault.fileLayout (countRules s k n) e (search member depth 9) tt;
               more = more-passed (test-at 1 (countRules s k n) e refl);
             };
         passes = λ p. be _ _ fault.fileLayout (p .count) & more-passes (p .more) & refl;
@@ -408,7 +440,8 @@ module _ (d : Disk) (s : List ℕ) (h : ℕ) where
       (first (tests (countRules s h n)) (tests (emptyRules d s h n)))
   unfolding fileFault
   header-order =
-      ap (first (must (leb (sizeOf s h) (fileLimit d)) fault.fileLayout)) (tests-append (countRules s h n) (emptyRules d s h n))
+      ap (first (must (leb (sizeOf s h) (fileLimit d)) fault.fileLayout))
+      (tests-append (countRules s h n) (emptyRules d s h n))
 
   size-test : Test fault.fileLayout (must (leb (sizeOf s h) (fileLimit d)) fault.fileLayout) (sizeOf s h ≤ fileLimit d)
   size-test =
@@ -475,7 +508,11 @@ module _ (s : List ℕ) (k h n : ℕ) where
   types-test =
       record {
         gives = search given depth 8;
-        passed = λ e. record { type = is _ _ fault.blockType (test-at 0 types e refl) tt; kind = is _ _ fault.blockType (test-at 1 types e refl) tt };
+        passed =
+            λ e. record {
+              type = word-in _ _ fault.blockType types e (search member depth 9) tt;
+              kind = word-in _ _ fault.blockType types e (search member depth 9) tt;
+            };
         passes = λ p. be _ _ fault.blockType (p .type) & be _ _ fault.blockType (p .kind) & refl;
       }
 
@@ -483,7 +520,11 @@ module _ (s : List ℕ) (k h n : ℕ) where
   owns-test =
       record {
         gives = search given depth 8;
-        passed = λ e. (is _ _ fault.wrongTies (test-at 0 owns e refl) tt, is _ _ fault.wrongTies (test-at 1 owns e refl) tt);
+        passed =
+            λ e. (
+              word-in _ _ fault.wrongTies owns e (search member depth 9) tt,
+              word-in _ _ fault.wrongTies owns e (search member depth 9) tt,
+            );
         passes = λ p. be _ _ fault.wrongTies (p .0) & be _ _ fault.wrongTies (p .1) & refl;
       }
 
@@ -552,7 +593,8 @@ module _ (d : Disk) (s : List ℕ) (k h n named : ℕ) where
 
   abbrev rest : List ℕ
   rest =
-      must (eqb (wordOf s k 1) h) fault.dataLayout ∷ must (eqb (wordOf s k 2) n) fault.dataLayout ∷ must (eqb (wordOf s k 3) (heldOf d z n)) fault.dataLayout
+      must (eqb (wordOf s k 1) h) fault.dataLayout ∷ must (eqb (wordOf s k 2) n) fault.dataLayout
+      ∷ must (eqb (wordOf s k 3) (heldOf d z n)) fault.dataLayout
       ∷ dataLinks d s k z n named
 
   data-type-test : Test fault.blockType (must (eqb (wordOf s k 0) dataType) fault.blockType) (wordOf s k 0 ≡ dataType)
@@ -570,7 +612,8 @@ module _ (d : Disk) (s : List ℕ) (k h n named : ℕ) where
         gives = search given depth 12;
         passed = passed′;
         passes = λ p. be _ _ fault.dataLayout (p .block .parent) & be _ _ 15
-            (p .block .number) & be _ _ fault.dataLayout (p .block .held) & be _ _ fault.dataLayout (p .here) & end p (eqb n (blocksOf d s h)) refl
+            (p .block .number) & be _ _ fault.dataLayout (p .block .held) & be _ _ fault.dataLayout (p .here) & end p
+            (eqb n (blocksOf d s h)) refl
             & refl;
       }
     where
@@ -580,11 +623,11 @@ module _ (d : Disk) (s : List ℕ) (k h n named : ℕ) where
             block =
                 record {
                   type = b;
-                  parent = is _ _ fault.dataLayout (test-at 0 rest e refl) tt;
-                  number = is _ _ fault.dataLayout (test-at 1 rest e refl) tt;
-                  held = is _ _ fault.dataLayout (test-at 2 rest e refl) tt;
+                  parent = word-in _ _ fault.dataLayout rest e (search member depth 9) tt;
+                  number = word-in _ _ fault.dataLayout rest e (search member depth 9) tt;
+                  held = word-in _ _ fault.dataLayout rest e (search member depth 9) tt;
                 };
-            here = is _ _ fault.dataLayout (test-at 3 rest e refl) tt;
+            here = word-in _ _ fault.dataLayout rest e (search member depth 9) tt;
             last =
                 λ y. is _ _ fault.dataLayout (sym (pick-true (eqb n (blocksOf d s h)) _ _ _ (eq-eqb _ _ y) refl)
                 ∙ test-at 4 rest e refl) tt;
@@ -592,7 +635,8 @@ module _ (d : Disk) (s : List ℕ) (k h n named : ℕ) where
 
       end : DataTies d s k h n named → (t : Bool) → eqb n (blocksOf d s h) ≡ t
           → pick (eqb n (blocksOf d s h)) (must (eqb (wordOf s k 4) 0) fault.dataLayout) 0 ≡ 0
-      end p true e = pick-true (eqb n (blocksOf d s h)) _ _ _ e refl ∙ be _ _ fault.dataLayout (p .last (eqb-true _ _ e))
+      end p true e =
+          pick-true (eqb n (blocksOf d s h)) _ _ _ e refl ∙ be _ _ fault.dataLayout (p .last (eqb-true _ _ e))
       end p false e = pick-false (eqb n (blocksOf d s h)) _ _ _ e refl
 
   data-broken : (v : ℕ) → v ≢ 0 → dataFault d s k h z n named ≡ v → DataBreaks d s k h n named v

@@ -41,6 +41,22 @@ test-at i [] e h = absurd h
 test-at zero (x ∷ l) e h = h ∙ first-zero x (tests l) e .0
 test-at (suc i) (x ∷ l) e h = test-at i l (first-zero x (tests l) e .1) h
 
+-- the same by what the list has
+pub test-in : {t : ℕ} (l : List ℕ) → tests l ≡ 0 → t ∈ l → t ≡ 0
+test-in [] e h = absurd h
+test-in (x ∷ l) e (inl h) = h ∙ first-zero x (tests l) e .0
+test-in (x ∷ l) e (inr h) = test-in l (first-zero x (tests l) e .1) h
+
+-- that it has it is found
+pub ruleset member = (inl, inr, refl)
+
+-- so a word is what a test of it asks, or forbids
+pub word-in : (a b v : ℕ) (l : List ℕ) → tests l ≡ 0 → must (eqb a b) v ∈ l → T (ltb 0 v) → a ≡ b
+word-in a b v l e h p = is a b v (test-in l e h) p
+
+pub word-not-in : (a b v : ℕ) (l : List ℕ) → tests l ≡ 0 → never (eqb a b) v ∈ l → T (ltb 0 v) → a ≢ b
+word-not-in a b v l e h p = is-not a b v (test-in l e h) p
+
 infixr 5 _&_
 pub _&_ : {x n : ℕ} → x ≡ 0 → n ≡ 0 → first x n ≡ 0
 unfolding first

@@ -123,11 +123,13 @@ module _ (d : Disk) (s : List ℕ) (k slot : ℕ) (t : Bool) (h : t ≡ nameGood
   module _ (v : t ≡ true) (w : ℕ) (e : w ≡ slotOf d (nameOf s k)) where
     pub entry-strays : (w ≡ slot → ⊥) → fault.wrongSlot ≡ tests (entryName d s k slot)
     entry-strays q =
-        go fault.wrongSlot _ _ (must-true fault.badName t (nameGood s k) h v) (stop fault.wrongSlot _ _ tt (must-ne fault.wrongSlot w (slotOf d (nameOf s k)) slot e q))
+        go fault.wrongSlot _ _ (must-true fault.badName t (nameGood s k) h v)
+        (stop fault.wrongSlot _ _ tt (must-ne fault.wrongSlot w (slotOf d (nameOf s k)) slot e q))
 
     pub entry-hangs : w ≡ slot → 0 ≡ tests (entryName d s k slot)
     entry-hangs q =
-        go 0 _ _ (must-true fault.badName t (nameGood s k) h v) (go 0 _ _ (must-eq fault.wrongSlot w (slotOf d (nameOf s k)) slot e q) refl)
+        go 0 _ _ (must-true fault.badName t (nameGood s k) h v)
+        (go 0 _ _ (must-eq fault.wrongSlot w (slotOf d (nameOf s k)) slot e q) refl)
 
 -- ---- a file: its size z, its number of data blocks n, f the answer of its count and link
 
