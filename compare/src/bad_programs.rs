@@ -1,5 +1,5 @@
-//! What can be wrong with a program, with its bases or with the room it is lent: for every number of the build
-//! paper's section "Numbers" from 30 to 42 several causes, each drawn at random.
+//! What can be wrong with a program, with its bases or with the room it is lent: for every number from 30 to 42
+//! of docs/FORMAT.md, section "Numbers", several causes, each drawn at random.
 //!
 //! Harm is done to one place of something good, so the refusal due for it is known without a check. What is known
 //! beforehand reaches only so far; [`scratch`] does harm without knowing what comes of it.
@@ -453,7 +453,7 @@ pub const CAUSES: &[Cause] = &[
     }),
     cause(38, "offset whose last two bytes are out", |rng, words| bad_offset(rng, words, |bytes| bytes - 2)),
     cause(38, "offset at the end", |rng, words| bad_offset(rng, words, |bytes| bytes)),
-    cause(38, "offset behind the end", |rng, words| {
+    cause(38, "offset after the end", |rng, words| {
         let more = 2 * rng.below(1 << 20) as u32;
         bad_offset(rng, words, |bytes| bytes + more)
     }),

@@ -1,7 +1,7 @@
 //! The tests of one block, by the kind that its reference asks for.
 //!
-//! Each answers 0 if the block passes, else the number of the first rule it breaks, in the order that the build
-//! paper gives in section "Order of the walk". What needs more than the block and the place where it was met (key
+//! Each answers 0 if the block passes, else the number of the first rule it breaks, in the order that
+//! docs/FORMAT.md gives in section "Order of the walk". What needs more than the block and the place where it was met (key
 //! range, claims, double names) belongs to the walks.
 
 use crate::disk::Disk;

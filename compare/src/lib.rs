@@ -1,7 +1,7 @@
 //! A second opinion on the disks that the Rattle library reads.
 //!
 //! Everything here was written from the rules of the format alone, without a look at the library's code, so that a
-//! misreading has to be made twice before the two agree on it. Where the paper gives a rule as a step by step
+//! misreading has to be made twice before the two agree on it. Where docs/FORMAT.md gives a rule as a step by step
 //! recipe, this side prefers another way to the same number.
 //!
 //! What is judged, from the smallest piece upward:
@@ -12,7 +12,7 @@
 //! - [`sizes`]: how many blocks a file of some size needs and what each of them holds;
 //! - [`bitmap`]: where the free bit of a block stands;
 //! - [`blocks`]: the tests of one block, each answered by a refusal's number;
-//! - [`audit`]: the audit of a volume, which meets every block in the paper's order;
+//! - [`audit`]: the audit of a volume, which meets every block in the order of the walk;
 //! - [`declared`]: the same question asked of the volume as a whole, without an order;
 //! - [`lookup`]: finding a path, on any image;
 //! - [`reading`]: reading a file's bytes, on any image;

@@ -33,7 +33,7 @@ pub fn same(one: &[u8], other: &[u8]) -> bool {
 
 /// A name's hash, below 2048.
 ///
-/// The paper's recipe multiplies by 13 and cuts at every letter. Seen as a whole it is a number in base 13 whose
+/// The recipe of docs/FORMAT.md multiplies by 13 and cuts at every letter. Seen as a whole it is a number in base 13 whose
 /// digits are the length and the letters, so it is added up here from its last digit on. Letting 64 bits overflow
 /// does no harm, for 2048 divides 2^64, and one cut at the end is enough.
 pub fn hash(name: &[u8]) -> u32 {
@@ -93,7 +93,7 @@ mod tests {
         block[432..436].copy_from_slice(b"\x03Box");
         assert_eq!(name(&block), Some(&b"Box"[..]));
         block[432] = 4;
-        assert_eq!(name(&block), None, "the byte behind belongs to it now");
+        assert_eq!(name(&block), None, "the byte after it belongs to it now");
         block[432..].fill(b'n');
         for length in 0..=255 {
             block[432] = length;

@@ -1,6 +1,6 @@
 //! The check of a program file, and what it holds (docs/FORMAT.md, "The program file").
 //!
-//! The file is taken apart the way the paper builds it up: a header, then hunks; a hunk is perhaps a name, then a
+//! The file is taken apart the way docs/FORMAT.md builds it up: a header, then hunks; a hunk is perhaps a name, then a
 //! body, then whatever blocks follow, then its end. Every such piece has a function of its own that takes its words
 //! from the front of what is left. Since no word is looked at before the one in front of it has passed, the first
 //! complaint is the first fault in file order.

@@ -230,9 +230,9 @@ fn smaller_words(mut words: Vec<u32>, calls: &[Call], fails: &mut Fails) -> Vec<
     words
 }
 
-/// The words with a count at this place lowered, and as many words gone that stand `behind` it.
-fn lowered(words: &[u32], index: usize, behind: usize, by: u32) -> Option<Vec<u32>> {
-    let start = index + behind;
+/// The words with a count at this place lowered, and as many words gone that stand `after` it.
+fn lowered(words: &[u32], index: usize, after: usize, by: u32) -> Option<Vec<u32>> {
+    let start = index + after;
     let end = start.checked_add(by as usize).filter(|&end| by > 0 && end <= words.len())?;
     let mut fewer = [&words[..start], &words[end..]].concat();
     fewer[index] = words[index].checked_sub(by)?;
@@ -245,7 +245,7 @@ fn lower_counts(mut words: Vec<u32>, calls: &[Call], fails: &mut Fails) -> Vec<u
     while index < words.len() {
         let count = words[index];
         let ways = [count, count / 2, 1].into_iter().flat_map(|by| [(1, by), (2, by)]);
-        let fewer = ways.filter_map(|(behind, by)| lowered(&words, index, behind, by));
+        let fewer = ways.filter_map(|(after, by)| lowered(&words, index, after, by));
         match fewer.into_iter().find(|words| fails(&program(&bytes(words), calls))) {
             Some(fewer) => words = fewer,
             None => index += 1,

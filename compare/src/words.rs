@@ -1,6 +1,6 @@
 //! The words of a block: 128 numbers of 32 bits, highest byte first (docs/FORMAT.md, "What is built").
 //!
-//! Words are counted as the paper counts them: `word(block, 3)` is its w3.
+//! Words are counted as docs/FORMAT.md counts them: `word(block, 3)` is its w3.
 
 /// Words in a block.
 pub const BLOCK_WORDS: usize = 128;

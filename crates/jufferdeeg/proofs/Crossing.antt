@@ -26,8 +26,7 @@ pub reads : (s path : List ℕ) (o : ℕ) (output : List ℕ) (a : Reading) (r :
 reads s path o output a r output′ h e =
     record {
       answer = e ∙ ap readNumbers (h .answer);
-      call = subst (λ x. Reads floppy s path o output x output′)
-          (h .answer) h;
+      call = subst (λ x. Reads floppy s path o output x output′) (h .answer) h;
     }
 
 module _ (file : List ℕ) (m : List ℕ) (t : List Hunk) (w : List ℕ) (a : Answer) (r : ProgramNumbers) (m′ : List ℕ)
@@ -37,8 +36,7 @@ module _ (file : List ℕ) (m : List ℕ) (t : List Hunk) (w : List ℕ) (a : An
   loads bases h e =
       record {
         answer = e ∙ ap programNumbers (h .answer);
-        call = subst (λ x. Loads file bases m t w x m′ t′ w′)
-            (h .answer) h;
+        call = subst (λ x. Loads file bases m t w x m′ t′ w′) (h .answer) h;
       }
 
   pub moves : (old new : List ℕ) → Moves file old new m t w a m′ t′ w′ → r ≡ programNumbers a
@@ -46,6 +44,5 @@ module _ (file : List ℕ) (m : List ℕ) (t : List Hunk) (w : List ℕ) (a : An
   moves old new h e =
       record {
         answer = e ∙ ap programNumbers (h .answer);
-        call = subst (λ x. Moves file old new m t w x m′ t′ w′)
-            (h .answer) h;
+        call = subst (λ x. Moves file old new m t w x m′ t′ w′) (h .answer) h;
       }

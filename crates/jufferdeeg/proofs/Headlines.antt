@@ -6,6 +6,7 @@ use mathlib.Core.Logic.{_≢_, _⊎_, _↔_}
 use mathlib.Core.Bool.{false}
 use mathlib.Core.List.{List, [], _∷_, _++_}
 use lib.ListN.{length, getD, take, drop, replicate}
+use Rattle.answers.specs.Numbers as fault
 use Rattle.answers.specs.Members.{_∈_}
 use Rattle.answers.specs.Refusals.{refusal}
 use Rattle.answers.specs.declared.Refusal.{Refusal}
@@ -55,7 +56,7 @@ use Rattle.reading.proofs.Readings as readings
 use Rattle.reading.proofs.OnTrees as reads
 use Rattle.program.specs.declared.check.Answer.{Answer}
 use Rattle.program.specs.declared.check.Answer.the-variants.{Accepted, Refused}
-use Rattle.program.specs.Page as paper
+use Rattle.program.specs.Page as contents
 use Rattle.program.specs.Check.{checkRefusals, checkOf, numbersOf}
 use Rattle.program.specs.Verdicts as programs
 use Rattle.program.proofs.Unique as unique
@@ -110,7 +111,8 @@ module _ (d : Disk) (s : List ℕ) (n : ℕ) where
 
   -- 17: all but the bits is as the law says, and k is the lowest block whose bit is wrong
   pub audit-refused-17 : (k : ℕ)
-      → (audit.auditOf d s n ≡ audit.refuse 17 k) ↔ ((claimBytes d ≤ n) × Tree d s × Valid d s × FirstWrong d s k)
+      → (audit.auditOf d s n ≡ audit.refuse fault.wrongBit k)
+      ↔ ((claimBytes d ≤ n) × Tree d s × Valid d s × FirstWrong d s k)
   audit-refused-17 k = refusing.refused-17 d s n k
 
   -- a refused audit clears the claim area
@@ -147,7 +149,7 @@ module _ (d : Disk) (s path : List ℕ) where
   found-few k z n e = counting.found-few d s path k z n e
 
   -- 19 if and only if the chain has ended and no entry on it has the name; any refusal if and only if `Refuses` holds
-  pub missing-exactly : (i : ℕ) → (lookup.findOf d s path ≡ lookup.refuse 19 i) ↔ lookups.Missing d s path i
+  pub missing-exactly : (i : ℕ) → (lookup.findOf d s path ≡ lookup.refuse fault.notFound i) ↔ lookups.Missing d s path i
   missing-exactly i = missing.missing-exactly d s path i
 
   pub find-refused-exactly : (v k : ℕ) → (lookup.findOf d s path ≡ lookup.refuse v k) ↔ lookups.Refuses d s path v k
@@ -217,11 +219,11 @@ stars-hold = starred.stars-hold
 
 module _ (file : List ℕ) where
   -- accepted if and only if it is hunks written out, within the limits
-  pub page : ((t : ℕ) × (n : ℕ) × (checkOf file ≡ Accepted t n)) ↔ ((hs : List paper.Hunk) × paper.Holds file hs)
+  pub page : ((t : ℕ) × (n : ℕ) × (checkOf file ≡ Accepted t n)) ↔ ((hs : List contents.Hunk) × contents.Holds file hs)
   page = pages.page file
 
   -- there is one list of hunks at most that it holds
-  pub holds-same : (hs hs′ : List paper.Hunk) → paper.Holds file hs → paper.Holds file hs′ → hs ≡ hs′
+  pub holds-same : (hs hs′ : List contents.Hunk) → contents.Holds file hs → contents.Holds file hs′ → hs ≡ hs′
   holds-same hs hs′ h h′ = unique.holds-same file hs hs′ h h′
 
   -- refused if and only if `Says` holds of the file and the refusal
@@ -229,14 +231,14 @@ module _ (file : List ℕ) where
   check-refused-exactly f = faults.refused-exactly file f
 
   -- the file's word at the byte of each target is its offset in its hunk
-  pub targets-named : (hs : List paper.Hunk) → paper.Holds file hs → paper.Each (Named file hs) (fileTargets hs)
+  pub targets-named : (hs : List contents.Hunk) → contents.Holds file hs → contents.Each (Named file hs) (fileTargets hs)
   targets-named = targets.targets-named file
 
   -- a load, which is lent one list of bases: accepted if and only if the file holds hunks and `Takes` holds of them;
   -- refused if and only if `CallWhy` holds
   pub load-accepted-exactly : (bases : List ℕ) (m r w t n : ℕ)
       → (loadAnswer file bases m r w ≡ Accepted t n)
-      ↔ ((hs : List paper.Hunk) × paper.Holds file hs × Takes hs (bases ∷ []) m r w t n)
+      ↔ ((hs : List contents.Hunk) × contents.Holds file hs × Takes hs (bases ∷ []) m r w t n)
   load-accepted-exactly bases m r w t n = verdicts.load-accepted file bases m r w t n
 
   pub load-refused-exactly : (bases : List ℕ) (m r w : ℕ) (f : Refusal)
@@ -246,7 +248,7 @@ module _ (file : List ℕ) where
   -- a move, which is lent the old list and the new: likewise
   pub move-accepted-exactly : (old new : List ℕ) (m r w t n : ℕ)
       → (moveAnswer file old new m r w ≡ Accepted t n)
-      ↔ ((hs : List paper.Hunk) × paper.Holds file hs × Takes hs (old ∷ new ∷ []) m r w t n)
+      ↔ ((hs : List contents.Hunk) × contents.Holds file hs × Takes hs (old ∷ new ∷ []) m r w t n)
   move-accepted-exactly old new m r w t n = verdicts.move-accepted file old new m r w t n
 
   pub move-refused-exactly : (old new : List ℕ) (m r w : ℕ) (f : Refusal)
@@ -259,30 +261,30 @@ module _ (file : List ℕ) where
 module _ (file m : List ℕ) (t : List Hunk) (w : List ℕ) (x n : ℕ) (m1 : List ℕ) (t1 : List Hunk) (w1 : List ℕ) where
   -- the file holds hunks, and memory and table are theirs
   pub load-page : (bases : List ℕ) → Loads file bases m t w (Accepted x n) m1 t1 w1
-      → (hs : List paper.Hunk) × paper.Holds file hs × LoadedPage (pageRecords 0 0) hs bases m t x n m1 t1
+      → (hs : List contents.Hunk) × contents.Holds file hs × LoadedPage (pageRecords 0 0) hs bases m t x n m1 t1
   load-page = calls.load-page file m t w x n m1 t1 w1
 
   pub move-page : (old new : List ℕ) → Moves file old new m t w (Accepted x n) m1 t1 w1
-      → (hs : List paper.Hunk) × paper.Holds file hs × MovedPage (pageRecords 0 0) hs old new m t x n m1 t1
+      → (hs : List contents.Hunk) × contents.Holds file hs × MovedPage (pageRecords 0 0) hs old new m t x n m1 t1
   move-page = calls.move-page file m t w x n m1 t1 w1
 
   -- a load adds the base of its hunk to each target's stored word; a move adds new minus old base to what stood there
-  pub load-words : (bases : List ℕ) → Loads file bases m t w (Accepted x n) m1 t1 w1 → (hs : List paper.Hunk)
-      → paper.Holds file hs → Adds (imageOf hs) m1 (fileTargets hs) (amountOf bases)
+  pub load-words : (bases : List ℕ) → Loads file bases m t w (Accepted x n) m1 t1 w1 → (hs : List contents.Hunk)
+      → contents.Holds file hs → Adds (imageOf hs) m1 (fileTargets hs) (amountOf bases)
   load-words = calls.load-words file m t w x n m1 t1 w1
 
-  pub move-words : (old new : List ℕ) → Moves file old new m t w (Accepted x n) m1 t1 w1 → (hs : List paper.Hunk)
-      → paper.Holds file hs → Adds m m1 (fileTargets hs) (moved old new)
+  pub move-words : (old new : List ℕ) → Moves file old new m t w (Accepted x n) m1 t1 w1 → (hs : List contents.Hunk)
+      → contents.Holds file hs → Adds m m1 (fileTargets hs) (moved old new)
   move-words = calls.move-words file m t w x n m1 t1 w1
 
   -- outside the targets a load leaves the hunks' bytes, and after them what stood there; a move leaves every byte as
   -- it was
-  pub load-others : (bases : List ℕ) → Loads file bases m t w (Accepted x n) m1 t1 w1 → (hs : List paper.Hunk)
-      → paper.Holds file hs → (k : ℕ) → Outside k (fileTargets hs) → getD m1 k 0 ≡ getD (withHunks hs m) k 0
+  pub load-others : (bases : List ℕ) → Loads file bases m t w (Accepted x n) m1 t1 w1 → (hs : List contents.Hunk)
+      → contents.Holds file hs → (k : ℕ) → Outside k (fileTargets hs) → getD m1 k 0 ≡ getD (withHunks hs m) k 0
   load-others = calls.load-others file m t w x n m1 t1 w1
 
   pub move-others-stay : (old new : List ℕ) → Moves file old new m t w (Accepted x n) m1 t1 w1
-      → (hs : List paper.Hunk) → paper.Holds file hs
+      → (hs : List contents.Hunk) → contents.Holds file hs
       → (length m1 ≡ length m) × ((k : ℕ) → Outside k (fileTargets hs) → getD m1 k 0 ≡ getD m k 0)
   move-others-stay = calls.move-others-stay file m t w x n m1 t1 w1
 
@@ -411,7 +413,7 @@ module _ (s path : List ℕ) (o : ℕ) (output : List ℕ) (r : ReadNumbers) (ou
 module _ (file : List ℕ) (r : ProgramNumbers) (a : r ≡ checkNumbers file) where
   -- a check: the number is 0 if and only if the file holds hunks, so many that take so many bytes
   pub check-zero : (r .number ≡ 0)
-      ↔ ((hs : List paper.Hunk) × paper.Holds file hs × (r .hunks ≡ length hs) × (r .bytes ≡ 4 * paper.total hs))
+      ↔ ((hs : List contents.Hunk) × contents.Holds file hs × (r .hunks ≡ length hs) × (r .bytes ≡ 4 * contents.total hs))
   check-zero = seen.check-zero file r a
 
   -- another number v is given at place k if and only if `Says` holds of them
@@ -430,7 +432,7 @@ module _ (file m : List ℕ) (t : List Hunk) (w : List ℕ) (r : ProgramNumbers)
     (w′ : List ℕ) where
   -- a load: the number is 0 if and only if the file holds hunks and `Takes` holds of them, with their number and bytes
   pub load-zero : (bases : List ℕ) → LoadsNumbers file bases m t w r m′ t′ w′
-      → (r .number ≡ 0) ↔ ((hs : List paper.Hunk) × paper.Holds file hs
+      → (r .number ≡ 0) ↔ ((hs : List contents.Hunk) × contents.Holds file hs
       × Takes hs (bases ∷ []) (length m) (length t) (length w) (r .hunks) (r .bytes))
   load-zero = seen.load-zero file m t w r m′ t′ w′
 
@@ -454,7 +456,7 @@ module _ (file m : List ℕ) (t : List Hunk) (w : List ℕ) (r : ProgramNumbers)
 
   -- a move: likewise
   pub move-zero : (old new : List ℕ) → MovesNumbers file old new m t w r m′ t′ w′
-      → (r .number ≡ 0) ↔ ((hs : List paper.Hunk) × paper.Holds file hs
+      → (r .number ≡ 0) ↔ ((hs : List contents.Hunk) × contents.Holds file hs
       × Takes hs (old ∷ new ∷ []) (length m) (length t) (length w) (r .hunks) (r .bytes))
   move-zero = seen.move-zero file m t w r m′ t′ w′
 

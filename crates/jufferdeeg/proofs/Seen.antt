@@ -36,7 +36,7 @@ use Rattle.reading.proofs.Refusing as unread
 use Rattle.reading.proofs.AsNumbers as read-numbers
 use Rattle.program.specs.declared.check.Answer.{Answer}
 use Rattle.program.specs.declared.check.Answer.the-variants.{Accepted, Refused}
-use Rattle.program.specs.Page as paper
+use Rattle.program.specs.Page as contents
 use Rattle.program.specs.Check.{numbersOf, checkRefusals, checkOf, Checks}
 use Rattle.program.specs.Verdicts.{Says as Faults}
 use Rattle.program.proofs.Pages.{page-accepted, page}
@@ -275,7 +275,7 @@ accepted-values x r e (t, n, q) = let p = e ∙ ap programNumbers q in rw p q
 -- the file holds hunks, and these are their number and the bytes that they take
 abbrev pub HoldsAs : List ℕ → ProgramNumbers → Type 0
 HoldsAs file r =
-    (hs : List paper.Hunk) × paper.Holds file hs × (r .hunks ≡ length hs) × (r .bytes ≡ 4 * paper.total hs)
+    (hs : List contents.Hunk) × contents.Holds file hs × (r .hunks ≡ length hs) × (r .bytes ≡ 4 * contents.total hs)
 
 module _ (file : List ℕ) (r : ProgramNumbers) (a : r ≡ checkNumbers file) where
   checks : Checks file (checkOf file)
@@ -289,7 +289,7 @@ module _ (file : List ℕ) (r : ProgramNumbers) (a : r ≡ checkNumbers file) wh
   pub check-zero : (r .number ≡ 0) ↔ HoldsAs file r
   check-zero = (λ z. there (page file .0 (check-accepts .0 z)), back)
     where
-      there : (hs : List paper.Hunk) × paper.Holds file hs → HoldsAs file r
+      there : (hs : List contents.Hunk) × contents.Holds file hs → HoldsAs file r
       there (hs, h) = let q = a ∙ ap programNumbers (page-accepted file hs h) in (hs, h, rw q refl, rw q refl)
 
       back : HoldsAs file r → r .number ≡ 0
@@ -327,7 +327,7 @@ module _ (file m : List ℕ) (t : List Hunk) (w : List ℕ) (r : ProgramNumbers)
 
     -- the number is 0 if and only if the file holds hunks and `Takes` holds of them, with their number and bytes
     pub load-zero : (r .number ≡ 0)
-        ↔ ((hs : List paper.Hunk) × paper.Holds file hs × Takes hs (bases ∷ []) (length m) (length t) (length w)
+        ↔ ((hs : List contents.Hunk) × contents.Holds file hs × Takes hs (bases ∷ []) (length m) (length t) (length w)
         (r .hunks) (r .bytes))
     load-zero =
         let v = verdicts.load-accepted file bases (length m) (length t) (length w) (r .hunks) (r .bytes) in
@@ -370,7 +370,7 @@ module _ (file m : List ℕ) (t : List Hunk) (w : List ℕ) (r : ProgramNumbers)
 
     -- the number is 0 if and only if the file holds hunks and `Takes` holds of them, with their number and bytes
     pub move-zero : (r .number ≡ 0)
-        ↔ ((hs : List paper.Hunk) × paper.Holds file hs × Takes hs (old ∷ new ∷ []) (length m) (length t) (length w)
+        ↔ ((hs : List contents.Hunk) × contents.Holds file hs × Takes hs (old ∷ new ∷ []) (length m) (length t) (length w)
         (r .hunks) (r .bytes))
     move-zero =
         let v = verdicts.move-accepted file old new (length m) (length t) (length w) (r .hunks) (r .bytes) in

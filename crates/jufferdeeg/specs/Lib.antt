@@ -1,5 +1,7 @@
 -- What the contracts of `jufferdeeg` cite: the answers as structs of numbers, each by the definition that gives an
--- answer's numbers. audit, find and read
+-- answer's numbers.
+
+-- audit, find and read
 pub mod Volumes
 -- check, load and move
 pub mod Programs

@@ -7,6 +7,7 @@ use mathlib.Core.Bool.{Bool, true, false}
 use mathlib.Core.List.{List, [], _∷_, _++_}
 use native.Mathlib.Omega.{arith}
 use lib.ListN.{length}
+use Rattle.answers.specs.Numbers as fault
 use Rattle.answers.specs.Tests.{pick}
 use Rattle.answers.proofs.Clashes.{impossible}
 use Rattle.reach.specs.References.{_∈_, Reached, top, ref}
@@ -257,5 +258,5 @@ module _ (d : Disk) (s : List ℕ) (v : Tree d s) where
 
     -- A path that is too long is 18 at 0.
     pub reached-far : longestPath < length (pathOf s (rootOf d) k h)
-        → findOf d s (pathOf s (rootOf d) k h) ≡ refuse 18 0
+        → findOf d s (pathOf s (rootOf d) k h) ≡ refuse fault.pathForm 0
     reached-far l = refused-exactly d s (pathOf s (rootOf d) k h) 18 0 .1 (number-18 (v .long) (long l refl) refl)

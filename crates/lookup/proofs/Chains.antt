@@ -190,7 +190,6 @@ module _ (d : Disk) (s : List ℕ) (t : ℕ) (name : List ℕ) (p k : ℕ) (g : 
             let n : chainLimit d + 1 - (p + 1) ≡ chainLimit d - p = omega arith in
             record {
               few = more;
-              key = w ∙ ap (λ j. wordOf s j 124) (g .key)
-                  ∙ sym (position-next d s t name p (λ h. z (g .key ∙ h)));
+              key = w ∙ ap (λ j. wordOf s j 124) (g .key) ∙ sym (position-next d s t name p (λ h. z (g .key ∙ h)));
               rest = rw n (rw y at compared);
             }

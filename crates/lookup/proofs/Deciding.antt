@@ -10,6 +10,7 @@ use lib.Dec.{eqb, ltb}
 use lib.ListN.{length}
 use borrow.Author.Tests.{eq-eqb, ne-eqb, eqb-true, eqb-false, lt-ltb, le-ltb, ltb-true, ltb-false}
 use Rattle.reach.specs.References.{_∈_}
+use Rattle.answers.specs.Numbers as fault
 use Rattle.answers.specs.Tests.{pick}
 use Rattle.answers.specs.Refusals.{refusal}
 use Rattle.answers.specs.declared.Refusal.{Refusal}
@@ -44,7 +45,7 @@ bad-there n i v [] e = impossible cc
 bad-there n i v (c ∷ cs) e = go (isComponent c) refl e (bad-there (n + 1) i v cs)
   where
     go : (b : Bool) → isComponent c ≡ b
-        → pick b (componentsFault (n + 1) cs) (Failed (refusal 18 n)) ≡ Failed (refusal v i)
+        → pick b (componentsFault (n + 1) cs) (Failed (refusal fault.pathForm n)) ≡ Failed (refusal v i)
         → (componentsFault (n + 1) cs ≡ Failed (refusal v i) → (v ≡ 18) × BadComponent (n + 1) i cs)
         → (v ≡ 18) × BadComponent n i (c ∷ cs)
     go true q e ih = (ih e .0, further (ih e .1))
@@ -66,7 +67,7 @@ bad-there n i v (c ∷ cs) e = go (isComponent c) refl e (bad-there (n + 1) i v 
             good′ b (inl y) = rw y q
             good′ b (inr y) = w .good b y
     go false q e ih =
-        let x : refusal 18 n ≡ refusal v i = cc in
+        let x : refusal fault.pathForm n ≡ refusal v i = cc in
         let y : n + 0 ≡ n = omega arith in (
           sym (number-is x),
           record {
@@ -82,7 +83,7 @@ bad-there n i v (c ∷ cs) e = go (isComponent c) refl e (bad-there (n + 1) i v 
 
 bad-found : (n i : ℕ) (front : List (List ℕ)) (name : List ℕ) (back : List (List ℕ))
     → ((c : List ℕ) → c ∈ front → isComponent c ≡ true) → isComponent name ≡ false → i ≡ n + length front
-    → componentsFault n (front ++ (name ∷ back)) ≡ Failed (refusal 18 i)
+    → componentsFault n (front ++ (name ∷ back)) ≡ Failed (refusal fault.pathForm i)
 unfolding componentsFault pick
 bad-found n i [] name back g b e = let x : n + 0 ≡ n = omega arith in rw (b, e, x)
 bad-found n i (c ∷ front) name back g b e =
@@ -94,14 +95,16 @@ unfolding pathFault pick
 form-exactly path v i = (there (ltb longestPath (length path)) refl, λ h. back (h .0) (h .1))
   where
     there : (b : Bool) → ltb longestPath (length path) ≡ b
-        → pick b (Failed (refusal 18 0)) (componentsFault 0 (components path)) ≡ Failed (refusal v i)
+        → pick b (Failed (refusal fault.pathForm 0)) (componentsFault 0 (components path)) ≡ Failed (refusal v i)
         → (v ≡ 18) × BadForm path i
     there true q e =
-        let x : refusal 18 0 ≡ refusal v i = cc in (sym (number-is x), long (ltb-true _ _ q) (sym (place-is x)))
+        let x : refusal fault.pathForm 0 ≡ refusal v i = cc in
+        (sym (number-is x), long (ltb-true _ _ q) (sym (place-is x)))
     there false q e = let h = bad-there 0 i v (components path) e in (h .0, component (ltb-false _ _ q) (h .1))
 
     back : v ≡ 18 → BadForm path i
-        → pick (ltb longestPath (length path)) (Failed (refusal 18 0)) (componentsFault 0 (components path)) ≡ Failed
+        → pick (ltb longestPath (length path)) (Failed (refusal fault.pathForm 0))
+        (componentsFault 0 (components path)) ≡ Failed
         (refusal v i)
     back x (long l e) = rw (lt-ltb _ _ l, x, e)
     back x (component l w) =
@@ -115,7 +118,8 @@ unfolding componentsFault pick
 good-passed n [] e c m = absurd m
 good-passed n (b ∷ cs) e c m = go (isComponent b) refl e m (good-passed (n + 1) cs)
   where
-    go : (t : Bool) → isComponent b ≡ t → pick t (componentsFault (n + 1) cs) (Failed (refusal 18 n)) ≡ Passed
+    go : (t : Bool) → isComponent b ≡ t
+        → pick t (componentsFault (n + 1) cs) (Failed (refusal fault.pathForm n)) ≡ Passed
         → c ∈ (b ∷ cs) → (componentsFault (n + 1) cs ≡ Passed → (c : List ℕ) → c ∈ cs → isComponent c ≡ true)
         → isComponent c ≡ true
     go true q e (inl y) ih = rw y q
@@ -138,7 +142,7 @@ form-good path = (
 )
   where
     there : (b : Bool) → ltb longestPath (length path) ≡ b
-        → pick b (Failed (refusal 18 0)) (componentsFault 0 (components path)) ≡ Passed → GoodForm path
+        → pick b (Failed (refusal fault.pathForm 0)) (componentsFault 0 (components path)) ≡ Passed → GoodForm path
     there true q e = impossible cc
     there false q e = record { short = ltb-false _ _ q; good = good-passed 0 (components path) e }
 
@@ -146,9 +150,10 @@ form-good path = (
 
 -- what the answer r says
 pub data Why (d : Disk) (s path : List ℕ) (r : Found) : Type 0 where
-  image : length s ≢ imageBytes d → r ≡ refuse 1 0 → Why d s path r
+  image : length s ≢ imageBytes d → r ≡ refuse fault.imageLength 0 → Why d s path r
   form : length s ≡ imageBytes d → (f : Refusal) → pathFault path ≡ Failed f → r ≡ Refused f → Why d s path r
-  tag : length s ≡ imageBytes d → pathFault path ≡ Passed → wordAt s 0 ≢ tagOf d → r ≡ refuse 3 0 → Why d s path r
+  tag : length s ≡ imageBytes d → pathFault path ≡ Passed → wordAt s 0 ≢ tagOf d → r ≡ refuse fault.bootTag 0
+      → Why d s path r
   root : length s ≡ imageBytes d → pathFault path ≡ Passed → wordAt s 0 ≡ tagOf d → rootFault d s ≢ 0
       → r ≡ refuse (rootFault d s) (rootOf d) → Why d s path r
   leads-to : Opened d s path → Leads d s (rootOf d) 0 0 (components path) r → Why d s path r
@@ -176,8 +181,9 @@ module _ (d : Disk) (s path : List ℕ) where
     where
       go : (a : Bool) → eqb (length s) (imageBytes d) ≡ a → (f : Tested) → pathFault path ≡ f → (b : Bool)
           → eqb (wordAt s 0) (tagOf d) ≡ b → (c : Bool) → eqb (rootFault d s) 0 ≡ c
-          → Why d s path (pick a (and f (pick b (pick c looked (refuse (rootFault d s) (rootOf d))) (refuse 3 0)))
-          (refuse 1 0))
+          → Why d s path (pick a (and f
+          (pick b (pick c looked (refuse (rootFault d s) (rootOf d))) (refuse fault.bootTag 0)))
+          (refuse fault.imageLength 0))
       go false p f q b u c v = image (eqb-false _ _ p) refl
       go true p (Failed f) q b u c v = form (eqb-true _ _ p) f q refl
       go true p Passed q false u c v = tag (eqb-true _ _ p) q (eqb-false _ _ u) refl

@@ -8,6 +8,7 @@ use lib.Dec.{eqb, ltb}
 use lib.ListN.{length, take, drop, length-take, length-drop}
 use lib.Seq.{length-take-le}
 use borrow.Author.Tests.{eq-eqb, ne-eqb, ltb-true, ltb-false}
+use Rattle.answers.specs.Numbers as fault
 use Rattle.answers.specs.Tests.{pick}
 use Rattle.answers.specs.declared.Refusal.{Refusal}
 use Rattle.answers.specs.declared.Tested.{Tested}
@@ -50,12 +51,12 @@ came d s t name step k m e f =
 -- ---- the first component of xs ends at k, and `step` is what its search came to
 
 -- there is a component in whatever is split
-split-some : (s : List ℕ) (i n : ℕ) (ys : List ℕ) (k : ℕ) → fileAt s i n (split ys) k ≡ refuse 20 i
+split-some : (s : List ℕ) (i n : ℕ) (ys : List ℕ) (k : ℕ) → fileAt s i n (split ys) k ≡ refuse fault.wrongKind i
 unfolding split pick
 split-some s i n [] k = refl
 split-some s i n (y ∷ ys) k = go (eqb y 47) (split ys)
   where
-    go : (b : Bool) (cs : List (List ℕ)) → fileAt s i n (pick b ([] ∷ cs) (onto y cs)) k ≡ refuse 20 i
+    go : (b : Bool) (cs : List (List ℕ)) → fileAt s i n (pick b ([] ∷ cs) (onto y cs)) k ≡ refuse fault.wrongKind i
     go true cs = refl
     go false [] = refl
     go false (c ∷ cs) = refl
@@ -84,15 +85,16 @@ module _ (d : Disk) (s xs : List ℕ) (t i n k : ℕ) (at : FirstSlash xs k) (st
       go true h = q ∙ a (ltb-true _ _ h)
       go false h = q ∙ b (ltb-false _ _ h)
 
-  pub to-ended : (r : Found) → step ≡ Ended → r ≡ refuse 19 i → r ≡ lookupFrom d s t i n (split xs)
-  to-ended r f q = either r (refuse 19 i) q (λ l. rw f at (on-more l)) (λ l. rw f at (on-end l))
+  pub to-ended : (r : Found) → step ≡ Ended → r ≡ refuse fault.notFound i → r ≡ lookupFrom d s t i n (split xs)
+  to-ended r f q = either r (refuse fault.notFound i) q (λ l. rw f at (on-more l)) (λ l. rw f at (on-end l))
 
   pub to-fault : (r : Refusal) → step ≡ Fault r → Refused r ≡ lookupFrom d s t i n (split xs)
   to-fault r f = either (Refused r) (Refused r) refl (λ l. rw f at (on-more l)) (λ l. rw f at (on-end l))
 
   -- it came to the entry `key`; b is whether that is a directory
   module _ (key m : ℕ) (f : step ≡ At key m) (b : Bool) (g : b ≡ directory s key) where
-    at-more : k < length xs → pick b (below rest key (n + m)) (refuse 20 i) ≡ lookupFrom d s t i n (split xs)
+    at-more : k < length xs
+        → pick b (below rest key (n + m)) (refuse fault.wrongKind i) ≡ lookupFrom d s t i n (split xs)
     at-more l =
         rw (g, ← split-some s i (n + m) (take (length xs - (k + 1)) (drop (k + 1) xs)) key) (rw f at (on-more l))
 
@@ -111,7 +113,8 @@ module _ (d : Disk) (s xs : List ℕ) (t i n k : ℕ) (at : FirstSlash xs k) (st
     unfolding pick
     to-directory u l = rw u at (at-end l)
 
-    pub to-used : (r : Found) → b ≡ false → k < length xs → r ≡ refuse 20 i → r ≡ lookupFrom d s t i n (split xs)
+    pub to-used : (r : Found) → b ≡ false → k < length xs → r ≡ refuse fault.wrongKind i
+        → r ≡ lookupFrom d s t i n (split xs)
     unfolding pick
     to-used r u l q = q ∙ (rw u at (at-more l))
 
@@ -178,12 +181,12 @@ module _ (d : Disk) (s path : List ℕ) (fault : ℕ) (e : fault ≡ rootFault d
 -- ---- the tests before: n bytes are asked, `form` is what the path's form says, and b whether the tag is there
 
 module _ (d : Disk) (s path : List ℕ) (n : ℕ) (e : n ≡ imageBytes d) where
-  pub find-long : (r : Found) → (length s ≡ n → ⊥) → r ≡ refuse 1 0 → r ≡ findOf d s path
+  pub find-long : (r : Found) → (length s ≡ n → ⊥) → r ≡ refuse fault.imageLength 0 → r ≡ findOf d s path
   unfolding findOf pick
   find-long r q p = p ∙ (rw (← e, ne-eqb (length s) n q))
 
   module _ (l : length s ≡ n) (form : Tested) (f : form ≡ pathFault path) where
-    tested : and form (pick (eqb (wordAt s 0) (tagOf d)) (fromRoot d s path) (refuse 3 0)) ≡ findOf d s path
+    tested : and form (pick (eqb (wordAt s 0) (tagOf d)) (fromRoot d s path) (refuse fault.bootTag 0)) ≡ findOf d s path
     unfolding findOf pick
     tested = rw (← f, eq-eqb (length s) (imageBytes d) (l ∙ e))
 
@@ -191,10 +194,10 @@ module _ (d : Disk) (s path : List ℕ) (n : ℕ) (e : n ≡ imageBytes d) where
     find-form r q = rw q at tested
 
     module _ (p : form ≡ Passed) (b : Bool) (g : b ≡ eqb (wordAt s 0) (tagOf d)) where
-      tagged : pick b (fromRoot d s path) (refuse 3 0) ≡ findOf d s path
+      tagged : pick b (fromRoot d s path) (refuse fault.bootTag 0) ≡ findOf d s path
       tagged = rw g (rw p at tested)
 
-      pub find-tag : (r : Found) → b ≡ false → r ≡ refuse 3 0 → r ≡ findOf d s path
+      pub find-tag : (r : Found) → b ≡ false → r ≡ refuse fault.bootTag 0 → r ≡ findOf d s path
       unfolding pick
       find-tag r q h = h ∙ (rw q at tagged)
 

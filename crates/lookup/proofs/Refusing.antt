@@ -8,6 +8,7 @@ use native.Mathlib.Omega.{arith}
 use lib.Dec.{ltb}
 use lib.ListN.{length}
 use borrow.Author.Tests.{lt-ltb, le-ltb, ltb-true, ltb-false}
+use Rattle.answers.specs.Numbers as fault
 use Rattle.answers.specs.Tests.{must, first}
 use Rattle.answers.specs.Refusals.{refusal}
 use Rattle.answers.specs.declared.Tested.the-variants.{Failed}
@@ -66,8 +67,8 @@ module _ (d : Disk) (s : List ℕ) (t i p k : ℕ) where
 -- ---- each number
 
 module _ (d : Disk) (s path : List ℕ) where
-  behind-none : (n : ℕ) → 0 + n ≡ n
-  behind-none n = omega arith
+  zero-plus : (n : ℕ) → 0 + n ≡ n
+  zero-plus n = omega arith
 
   module _ (v k : ℕ) where
     -- v and k of a refusal that is the answer
@@ -94,12 +95,11 @@ module _ (d : Disk) (s path : List ℕ) where
           found = f;
           kind = u;
           more = b;
-          component = x .1
-              ∙ behind-none _;
+          component = x .1 ∙ zero-plus _;
         }) (x .0)
     refused-why (leads-to o (missing w p f q)) e =
         let x = same 19 (0 + length (w .front)) q e in
-        number-19 (record { opened = o; comes = w; position = p; over = f; component = x .1 ∙ behind-none _ }) (x .0)
+        number-19 (record { opened = o; comes = w; position = p; over = f; component = x .1 ∙ zero-plus _ }) (x .0)
     refused-why (leads-to o (fault w p f q)) e =
         go (key-says d s (w .parent) (slotOf d (w .name)) p (keyIn d s path w p) (f .fault))
       where
@@ -158,10 +158,10 @@ module _ (d : Disk) (s path : List ℕ) where
             fails h (a .1) (itself (key-inside d k .1 y) l (a .0))
         why (number-19 h a) =
             leads-to (h .opened) (missing (h .comes) (h .position) (h .over)
-            (rw (a, h .component, behind-none (length (h .comes .front)))))
+            (rw (a, h .component, zero-plus (length (h .comes .front)))))
         why (number-20 h a) =
             leads-to (h .opened) (used (h .comes) (h .position) (h .found) (h .kind) (h .more)
-            (rw (a, h .component, behind-none (length (h .comes .front)))))
+            (rw (a, h .component, zero-plus (length (h .comes .front)))))
 
     -- Every number is given exactly then, at that place.
     pub refused-exactly : (findOf d s path ≡ refuse v k) ↔ Refuses d s path v k
@@ -169,7 +169,7 @@ module _ (d : Disk) (s path : List ℕ) where
 
   -- 19 at component i if and only if its chain has ended, every entry on it passes its tests, and none has its folded
   -- name.
-  pub missing-exactly : (i : ℕ) → (findOf d s path ≡ refuse 19 i) ↔ Missing d s path i
+  pub missing-exactly : (i : ℕ) → (findOf d s path ≡ refuse fault.notFound i) ↔ Missing d s path i
   missing-exactly i = ((λ e. go (refused-exactly 19 i .0 e)), (λ h. refused-exactly 19 i .1 (number-19 h refl)))
     where
       go : Refuses d s path 19 i → Missing d s path i
@@ -184,7 +184,7 @@ module _ (d : Disk) (s path : List ℕ) where
       go (number-20 h a) = absurd (omega arith)
 
   -- 20 at component i if and only if it is a file with components after it.
-  pub used-exactly : (i : ℕ) → (findOf d s path ≡ refuse 20 i) ↔ AsDirectory d s path i
+  pub used-exactly : (i : ℕ) → (findOf d s path ≡ refuse fault.wrongKind i) ↔ AsDirectory d s path i
   used-exactly i = ((λ e. go (refused-exactly 20 i .0 e)), (λ h. refused-exactly 20 i .1 (number-20 h refl)))
     where
       go : Refuses d s path 20 i → AsDirectory d s path i
@@ -205,7 +205,7 @@ module _ (d : Disk) (s path : List ℕ) where
       → (findOf d s path ≡ Directory k n) ↔ (Opened d s path × Trail d s (rootOf d) (components path) k n)
   directory-exactly k n = (
     (λ e. go (find-why d s path) e),
-    (λ h. sym (why-find d s path (Directory k n) (leads-to (h .0) (holds k n (h .1) (rw (behind-none n)))))),
+    (λ h. sym (why-find d s path (Directory k n) (leads-to (h .0) (holds k n (h .1) (rw (zero-plus n)))))),
   )
     where
       go : Why d s path (findOf d s path) → findOf d s path ≡ Directory k n
@@ -230,7 +230,7 @@ module _ (d : Disk) (s path : List ℕ) where
     (λ e. go (find-why d s path) e),
     (λ h. sym (why-find d s path (File k z n)
         (leads-to (h .opened) (file (h .comes) (h .position) (h .found) (h .kind) (h .last)
-        (rw (h .count, h .size, h .key, behind-none n)))))),
+        (rw (h .count, h .size, h .key, zero-plus n)))))),
   )
     where
       go : Why d s path (findOf d s path) → findOf d s path ≡ File k z n → IsFile d s path k z n

@@ -10,6 +10,7 @@ use lib.Dec.{ltb}
 use lib.ListN.{length, getD, take, drop, length-drop}
 use lib.Seq.{slice, take-all}
 use borrow.Author.Tests.{eq-eqb, ne-eqb, le-leb, lt-leb, lt-ltb, le-ltb, ltb-true, ltb-false}
+use Rattle.answers.specs.Numbers as fault
 use Rattle.answers.specs.Tests.{pick}
 use Rattle.answers.specs.Refusals.{refusal}
 use Rattle.answers.specs.declared.Tested.{Tested}
@@ -84,18 +85,18 @@ module _ (xs : List ℕ) (k : ℕ) (at : FirstSlash xs k) where
     unfolding componentsFault pick
     form-end q l = rw (split-end l, ← g, q)
 
-    pub form-bad : good ≡ false → Failed (refusal 18 i) ≡ componentsFault i (split xs)
+    pub form-bad : good ≡ false → Failed (refusal fault.pathForm i) ≡ componentsFault i (split xs)
     unfolding componentsFault pick
     form-bad q = go (ltb k (length xs)) refl
       where
-        go : (t : Bool) → ltb k (length xs) ≡ t → Failed (refusal 18 i) ≡ componentsFault i (split xs)
+        go : (t : Bool) → ltb k (length xs) ≡ t → Failed (refusal fault.pathForm i) ≡ componentsFault i (split xs)
         go true e = rw (split-more (ltb-true _ _ e), ← g, q)
         go false e = rw (split-end (ltb-false _ _ e), ← g, q)
 
 -- ---- the form of a path
 
 module _ (path : List ℕ) where
-  pub path-long : longestPath < length path → Failed (refusal 18 0) ≡ pathFault path
+  pub path-long : longestPath < length path → Failed (refusal fault.pathForm 0) ≡ pathFault path
   unfolding pathFault pick
   path-long q = rw (lt-ltb _ _ q)
 
@@ -122,5 +123,6 @@ module _ (path : List ℕ) where
   pub path-short : (r : Tested) → r ≡ pathFault path → r ≡ Passed → length path ≤ longestPath
   unfolding pathFault
   path-short r e q =
-      ltb-false _ _ (pick-passed (ltb longestPath (length path)) (refusal 18 0) (componentsFault 0 (components path))
+      ltb-false _ _ (pick-passed (ltb longestPath (length path)) (refusal fault.pathForm 0)
+      (componentsFault 0 (components path))
       (sym e ∙ q) .0)

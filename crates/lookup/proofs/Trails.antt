@@ -5,6 +5,7 @@ use mathlib.Core.Bool.{Bool, true, false}
 use mathlib.Core.List.{List, [], _∷_, _++_, append-nil}
 use native.Mathlib.Omega.{arith}
 use lib.ListN.{length}
+use Rattle.answers.specs.Numbers as fault
 use Rattle.answers.specs.Tests.{pick}
 use Rattle.answers.proofs.Clashes.{impossible}
 use Rattle.volume.specs.declared.disk.Disk.{Disk}
@@ -33,9 +34,10 @@ pub data Leads (d : Disk) (s : List ℕ) (t i n : ℕ) (cs : List (List ℕ)) (r
   -- one before the last does
   used : (w : Comes d s t cs) (p : ℕ) → First d s (w .parent) (w .name) p
       → directory s (positionKey d s (w .parent) (w .name) p) ≡ false → (w .back ≡ [] → ⊥)
-      → r ≡ refuse 20 (i + length (w .front)) → Leads d s t i n cs r
+      → r ≡ refuse fault.wrongKind (i + length (w .front)) → Leads d s t i n cs r
   -- a chain has ended
-  missing : (w : Comes d s t cs) (p : ℕ) → Over d s (w .parent) (w .name) p → r ≡ refuse 19 (i + length (w .front))
+  missing : (w : Comes d s t cs) (p : ℕ) → Over d s (w .parent) (w .name) p
+      → r ≡ refuse fault.notFound (i + length (w .front))
       → Leads d s t i n cs r
   -- an entry fails its tests
   fault : (w : Comes d s t cs) (p : ℕ) → Fails d s (w .parent) (w .name) p
@@ -150,9 +152,9 @@ module _ (d : Disk) (s : List ℕ) where
           (positionKey d s (w .parent) (w .name) p)
       ends w p f e = to w ∙ (rw (search-first d s (w .parent) (w .name) p f, e))
 
-      behind : (k j m : ℕ) (l : List (List ℕ)) → (l ≡ [] → ⊥) → fileAt s j m l k ≡ refuse 20 j
-      behind k j m [] b = absurd (b refl)
-      behind k j m (x ∷ l) b = refl
+      used-is : (k j m : ℕ) (l : List (List ℕ)) → (l ≡ [] → ⊥) → fileAt s j m l k ≡ refuse fault.wrongKind j
+      used-is k j m [] b = absurd (b refl)
+      used-is k j m (x ∷ l) b = refl
 
       go : Leads d s t i n cs r → r ≡ lookupFrom d s t i n cs
       go (holds k m h q) = q ∙ sym (ap (lookupFrom d s t i n) (sym (append-nil cs)) ∙ along h i n [])
@@ -161,6 +163,6 @@ module _ (d : Disk) (s : List ℕ) where
           q ∙ (rw x (sym (ends w p f e
           ∙ ap (λ l. fileAt s (i + length (w .front)) (n + w .compared + (p + 1)) l
           (positionKey d s (w .parent) (w .name) p)) b)))
-      go (used w p f e b q) = q ∙ sym (ends w p f e ∙ behind _ _ _ (w .back) b)
+      go (used w p f e b q) = q ∙ sym (ends w p f e ∙ used-is _ _ _ (w .back) b)
       go (missing w p f q) = q ∙ sym (to w ∙ (rw (search-over d s (w .parent) (w .name) p f)))
       go (fault w p f q) = q ∙ sym (to w ∙ (rw (search-fails d s (w .parent) (w .name) p f)))

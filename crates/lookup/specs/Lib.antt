@@ -1,5 +1,7 @@
 -- What the contracts of `lookup` cite. To read what a lookup is: Paths, Search, Lookup; what its answers mean:
--- Trails, Verdicts. components, and the form of a path
+-- Trails, Verdicts.
+
+-- components, and the form of a path
 pub mod Paths
 -- one component in its directory
 pub mod Search

@@ -417,8 +417,7 @@ module _ (file : List ℕ) (whole : length file % 4 ≡ 0) (s : HeaderFits file)
               at = r .at;
               whole = k .whole;
               there = r .there;
-              said = r .said
-                  ∙ ap (λ (n : ℕ). refusal n (r .at)) x;
+              said = r .said ∙ ap (λ (n : ℕ). refusal n (r .at)) x;
             })
 
     says-word : WrongWord file f ⊎ MoreWords file f → HunkWord file f

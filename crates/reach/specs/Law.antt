@@ -43,8 +43,7 @@ module _ {Node S : Type 0} (G : Graph Node S) where
             record {
               root = root;
               key = key;
-              refs = λ n. pick (eqb (first (G .before n) (G .after n)) 0) (refs n)
-                  [];
+              refs = λ n. pick (eqb (first (G .before n) (G .after n)) 0) (refs n) [];
             };
         before = G .before;
         taken = G .taken;

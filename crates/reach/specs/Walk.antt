@@ -53,8 +53,7 @@ module _ {Node S : Type 0} (G : Graph Node S) where
   walk (suc f) c s (n ∷ ns) =
       elim (verdict c n) [
         | zero ↦ walk f (set c (key n) 1) (G .note n s) (refs n ++ ns)
-        | suc v ↦ refused (suc v)
-            (key n)
+        | suc v ↦ refused (suc v) (key n)
       ]
 
   -- each step claims a byte that was 0, so this fuel is never spent

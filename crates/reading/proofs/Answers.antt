@@ -49,8 +49,8 @@ module _ (bytes : List ℕ) (o : ℕ) (before : List ℕ) (m : ℕ) (after : Lis
       ∙ getD-take (length before) (drop o bytes) i 0 (omega (arith, long))
       ∙ getD-drop o bytes i 0
 
-  behind : (i : ℕ) → m ≤ i → getD after i 0 ≡ getD before i 0
-  behind i h =
+  rest-kept : (i : ℕ) → m ≤ i → getD after i 0 ≡ getD before i 0
+  rest-kept i h =
       let e : length p + (i - m) ≡ i = omega (arith, c .count) in
       let f : m + (i - m) ≡ i = omega arith in
       rw parts (ap (λ (j : ℕ). getD (p ++ drop m before) j 0) (sym e) ∙ getD-append-add p (drop m before) (i - m) 0
@@ -63,7 +63,7 @@ module _ (bytes : List ℕ) (o : ℕ) (before : List ℕ) (m : ℕ) (after : Lis
         room = omega (arith, long);
         there = λ i h. omega (arith, long);
         copied = front;
-        rest = behind;
+        rest = rest-kept;
       }
 
 module _ (d : Disk) (s : List ℕ) (h : ℕ) (long : length s ≡ imageBytes d) (p : blocksFault d s h ≡ Passed) where
@@ -109,8 +109,7 @@ module _ (d : Disk) (s path : List ℕ) where
                 compared = c;
                 found = e;
                 whole = tested-exactly d s k .0 p;
-                count = x
-                    ∙ count-found k z c e p o n;
+                count = x ∙ count-found k z c e p o n;
               }
           go (Failed r) p q = impossible cc
 

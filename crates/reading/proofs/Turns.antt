@@ -22,34 +22,34 @@ use Rattle.reading.proofs.Contents.{part-there, key-inside, key-first, 
 -- ---- the way to the block of an offset
 
 -- the key n + 1 steps after block h
-unfoldable pub behind : List ℕ → ℕ → ℕ → ℕ
-behind s h zero = wordOf s h 4
-behind s h (suc n) = wordOf s (behind s h n) 4
+unfoldable pub nthAfter : List ℕ → ℕ → ℕ → ℕ
+nthAfter s h zero = wordOf s h 4
+nthAfter s h (suc n) = wordOf s (nthAfter s h n) 4
 
 module _ (d : Disk) (s : List ℕ) (h o b n : ℕ) (long : length s ≡ imageBytes d) (t : Followed d s h)
     (l : o < sizeOf s h) (f : b ≡ dataBytes d) (e : n ≡ o / b) where
   few : n < length (keysOf d s h)
   few = rw (e, f) (block-there d s h long t o l)
 
-  behind-is : (i : ℕ) → i ≤ n → behind s h i ≡ getD (keysOf d s h) i 0
-  unfolding behind
-  behind-is zero p = key-first d s h long t
-  behind-is (suc i) p = rw (behind-is i (omega arith)) (key-next d s h long t i (omega (arith, few)))
+  nth-after-is : (i : ℕ) → i ≤ n → nthAfter s h i ≡ getD (keysOf d s h) i 0
+  unfolding nthAfter
+  nth-after-is zero p = key-first d s h long t
+  nth-after-is (suc i) p = rw (nth-after-is i (omega arith)) (key-next d s h long t i (omega (arith, few)))
 
-  pub seek-holds : (i k : ℕ) → i < n → k ≡ behind s h i → Holds s k
-  seek-holds i k p q = omega (arith, q ∙ behind-is i (omega arith), key-inside d s h long t i (omega (arith, few)))
+  pub seek-holds : (i k : ℕ) → i < n → k ≡ nthAfter s h i → Holds s k
+  seek-holds i k p q = omega (arith, q ∙ nth-after-is i (omega arith), key-inside d s h long t i (omega (arith, few)))
 
-  pub seek-ends : (i k : ℕ) → i ≤ n → n ≤ i → k ≡ behind s h i → k ≡ getD (keysOf d s h) (o / dataBytes d) 0
+  pub seek-ends : (i k : ℕ) → i ≤ n → n ≤ i → k ≡ nthAfter s h i → k ≡ getD (keysOf d s h) (o / dataBytes d) 0
   seek-ends i k p q r =
       let g : i ≡ o / dataBytes d = rw (← f) (omega arith) in
-      r ∙ behind-is i p ∙ ap (λ (j : ℕ). getD (keysOf d s h) j 0) g
+      r ∙ nth-after-is i p ∙ ap (λ (j : ℕ). getD (keysOf d s h) j 0) g
 
-pub seek-starts : (s : List ℕ) (h k : ℕ) → k ≡ wordOf s h 4 → k ≡ behind s h 0
-unfolding behind
+pub seek-starts : (s : List ℕ) (h k : ℕ) → k ≡ wordOf s h 4 → k ≡ nthAfter s h 0
+unfolding nthAfter
 seek-starts s h k e = e
 
-pub seek-goes : (s : List ℕ) (h k i k′ : ℕ) → k ≡ behind s h i → k′ ≡ wordOf s k 4 → k′ ≡ behind s h (i + 1)
-unfolding behind
+pub seek-goes : (s : List ℕ) (h k i k′ : ℕ) → k ≡ nthAfter s h i → k′ ≡ wordOf s k 4 → k′ ≡ nthAfter s h (i + 1)
+unfolding nthAfter
 seek-goes s h k i k′ e f = rw (add-one i, ← e) f
 
 pub seek-fits : (o b i : ℕ) → i < o / b → o < 2 ^ 64 → i + 1 < 2 ^ 64

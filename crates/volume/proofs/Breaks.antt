@@ -60,8 +60,7 @@ module _ (s : List ℕ) (r : ℕ) where
         passed =
             λ e. record {
               zeros = zeros′ e;
-              table = word-in _ _ fault.rootWords (rootWords s r) e
-                  (search member depth 9) tt;
+              table = word-in _ _ fault.rootWords (rootWords s r) e (search member depth 9) tt;
             };
         passes = passes′;
       }

@@ -69,8 +69,7 @@ pub record Hangs (s : List ℕ) (t i k : ℕ) : Type 0 where
 
 -- ---- a directory, block t, the root too
 
--- its entries know it, hang in their own names' slots, and no two have equal folded names
-
+-- w125 of each entry is its key, each hangs in the slot of its own name, and no two have equal folded names
 pub record Directory (d : Disk) (s : List ℕ) (t : ℕ) : Type 0 where
   pub parent : (i k : ℕ) → Hangs s t i k → wordOf s k 125 ≡ t
   pub slot : (i k : ℕ) → Hangs s t i k → slotOf d (nameOf s k) ≡ i

@@ -1,5 +1,7 @@
 -- What the contracts of `volume` cite, and the law of a volume. To read the law: Disks, Blocks, Names, Files, Bitmap,
--- References, Law. a disk's own numbers
+-- References, Law.
+
+-- a disk's own numbers
 pub mod Disks
 -- a block and its words
 pub mod Blocks
@@ -17,7 +19,7 @@ pub mod Law
 pub mod Rules
 -- what each number says of a block, in the law's words
 pub mod Breaks
--- the starred worked cases
+-- the worked cases
 pub mod Stars
 -- the floppy's numbers, as docs/FORMAT.md writes them
 pub mod Floppy

@@ -1,4 +1,4 @@
--- The worked cases that docs/FORMAT.md stars, in one list.
+-- The worked cases of docs/FORMAT.md, of names, sizes and bits, in one list.
 use Prim.Native.Nat.{ℕ}
 use mathlib.Core.Path.{_≡_}
 use mathlib.Core.List.{List, [], _∷_, map}

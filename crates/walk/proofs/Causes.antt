@@ -85,8 +85,7 @@ module _ (d : Disk) (s : List ℕ) where
             slot = c .1;
             position = q;
             there = refl;
-            some = chain-some s (slotWord s t i) p q (omega arith)
-                (λ z. c .3 (sym (c .2) ∙ z));
+            some = chain-some s (slotWord s t i) p q (omega arith) (λ z. c .3 (sym (c .2) ∙ z));
           }) l (o q l) f e
       go (inr (inr (a, w, q, header-14 x e))) =
           number-14 (record { reached = r; kind = file-kind d s k (a .entry) q }) x e

@@ -41,10 +41,10 @@ module _ (d : Disk) (s : List ℕ) where
     n = here d s h m
 
     -- the list block after b
-    behind-coherent : (j : ℕ) → q ≡ j → Spread d s h j b m c → wordOf s b 126 ≢ 0
+    next-coherent : (j : ℕ) → q ≡ j → Spread d s h j b m c → wordOf s b 126 ≢ 0
         → Coherent (list (wordOf s b 126) h (m + n) (before s b c n))
-    behind-coherent zero f p w = absurd (w (p .0 .more .1 (omega (arith, e, f))))
-    behind-coherent (suc j) f p w =
+    next-coherent zero f p w = absurd (w (p .0 .more .1 (omega (arith, e, f))))
+    next-coherent (suc j) f p w =
         let g : j ≡ listBlocks (blocksOf d s h - (m + n)) = omega (arith, e, f) in
         (p .2, subst (λ y. Spread d s h y (wordOf s b 126) (m + n) (before s b c n)) g (p .3))
 
@@ -59,7 +59,7 @@ module _ (d : Disk) (s : List ℕ) where
             (subst (DataSound d s) (w .3) (run-nodes d s h b m c .0 (spread-first d s h q b m c p .1) x a))
         go (inr a) =
             let r = in-linked (wordOf s b 126) (λ k. list k h (m + n) (before s b c n)) x a in
-            subst Coherent (sym (r .1)) (behind-coherent q refl p (r .0))
+            subst Coherent (sym (r .1)) (next-coherent q refl p (r .0))
 
   module _ (k : ℕ) (r : Reached (references d s) (to Kind.entry k)) (file : directory s k ≡ false → File d s k) where
     contents-coherent : (b : Bool) → directory s k ≡ b → (x : Node) → x ∈ contents d s k b → Coherent x

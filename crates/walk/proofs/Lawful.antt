@@ -59,8 +59,7 @@ module _ (d : Disk) (s : List ℕ) (v : Tree d s) where
           slot = c .1;
           position = q;
           there = refl;
-          some = chain-some s (slotWord s t i) p q (omega arith)
-              some;
+          some = chain-some s (slotWord s t i) p q (omega arith) some;
         } in
         let f = held-by t (c .0) .names i i (K q) k g hangs (same-map d (nameOf s (K q)) (nameOf s k) e) in
         chain-apart d s t i (c .0) (c .1) (v .owned) q p l some (f ∙ sym (c .2))

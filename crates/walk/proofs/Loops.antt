@@ -76,7 +76,7 @@ module _ (d : Disk) (s : List ℕ) (b : KeyBlock) where
     pub within : b .done + count ≤ blocksOf d s (b .header)
     pub few : b .done + count ≤ mostBlocks
     pub upto : i ≤ count
-    pub behind : last ≡ before s (b .key) (b .last) i
+    pub previous : last ≡ before s (b .key) (b .last) i
     pub inside : last < d .blocks
     pub keys : (q : ℕ) → q < i → keyWord s (b .key) q < d .blocks
 
@@ -91,7 +91,7 @@ module _ (d : Disk) (s : List ℕ) (b : KeyBlock) where
         within = w;
         few = number-few d s b (r .file) _ y w;
         upto = omega arith;
-        behind = refl;
+        previous = refl;
         inside = r .file .last;
         keys = λ q h. absurd (omega arith);
       }
@@ -103,7 +103,7 @@ module _ (d : Disk) (s : List ℕ) (b : KeyBlock) where
       turn-next =
           let e : count - i ≡ suc (count - (i + 1)) = omega arith in
           let n : b .done + i + 1 ≡ suc (b .done + i) = omega arith in
-          rw (e, n, add-one i, v .behind) refl
+          rw (e, n, add-one i, v .previous) refl
 
       pub turn-again : (k : ℕ) → k ≡ keyWord s (b .key) i → k < d .blocks → Turn count k (i + 1)
       turn-again k e l =
@@ -113,7 +113,7 @@ module _ (d : Disk) (s : List ℕ) (b : KeyBlock) where
             within = v .within;
             few = v .few;
             upto = omega arith;
-            behind = rw (add-one i) e;
+            previous = rw (add-one i) e;
             inside = l;
             keys = λ x p. go x p (decLt x i);
           }

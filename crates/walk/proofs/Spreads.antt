@@ -104,8 +104,8 @@ module _ (d : Disk) (s : List ℕ) (h : ℕ) where
   abbrev Counted : ℕ → ℕ → ℕ → Type 0
   Counted q b r = (i x n : ℕ) → n ≡ r - slots * i → At i x (b ∷ listsFrom s b q) → KeyCount s x n
 
-  abbrev Behind : ℕ → ℕ → Type 0
-  Behind q b = (x : ℕ) → x ∈ listsFrom s b q → ListBlock s h x
+  abbrev Later : ℕ → ℕ → Type 0
+  Later q b = (x : ℕ) → x ∈ listsFrom s b q → ListBlock s h x
 
   abbrev keys : ℕ → ℕ → ℕ → List ℕ
   keys q b r = keysFrom s r (b ∷ listsFrom s b q)
@@ -119,7 +119,7 @@ module _ (d : Disk) (s : List ℕ) (h : ℕ) where
       let g = keys-last s b c 0 (here m) ∙ ap (before s b c) (zero-add (here m)) in
       rw (f, ← g) (run-append m c (m + here m) (keysDown s b 0 (here m)) ys (ap (m +_) (down-long s b 0 (here m))))
 
-  law-spread : (q b m c r : ℕ) → r ≡ N - m → Counted q b r → Behind q b → Run m c (keys q b r) → Spread q b m c
+  law-spread : (q b m c r : ℕ) → r ≡ N - m → Counted q b r → Later q b → Run m c (keys q b r) → Spread q b m c
   unfolding keysFrom listsFrom
   law-spread zero b m c r e l f k = (l 0 b (N - m) (omega arith) refl, run-here m c b r [] e .0 k .0)
   law-spread (suc q) b m c r e l f k =
@@ -132,7 +132,7 @@ module _ (d : Disk) (s : List ℕ) (h : ℕ) where
             (λ i x n z a. l (suc i) x n (omega arith) a) (λ x a. f x (inr a)) (w .1),
       )
 
-  spread-law : (q b m c r : ℕ) → r ≡ N - m → Spread q b m c → Counted q b r × Behind q b × Run m c (keys q b r)
+  spread-law : (q b m c r : ℕ) → r ≡ N - m → Spread q b m c → Counted q b r × Later q b × Run m c (keys q b r)
   unfolding keysFrom listsFrom
   spread-law zero b m c r e p = (counted, (λ x a. absurd a), run-here m c b r [] e .1 (p .1, tt))
     where
@@ -142,15 +142,15 @@ module _ (d : Disk) (s : List ℕ) (h : ℕ) where
   spread-law (suc q) b m c r e p =
       let g : r - slots ≡ N - (m + here m) = omega arith in
       let w = spread-law q (wordOf s b 126) (m + here m) (before s b c (here m)) (r - slots) g (p .3) in
-      (counted (w .0), behind (w .1), run-here m c b r (keys q (wordOf s b 126) (r - slots)) e .1 (p .1, w .2))
+      (counted (w .0), later (w .1), run-here m c b r (keys q (wordOf s b 126) (r - slots)) e .1 (p .1, w .2))
     where
       counted : Counted q (wordOf s b 126) (r - slots) → Counted (suc q) b r
       counted l zero x n z a = let f : n ≡ N - m = omega arith in rw (f, a) (p .0)
       counted l (suc i) x n z a = l i x n (omega arith) a
 
-      behind : Behind q (wordOf s b 126) → Behind (suc q) b
-      behind f x (inl a) = rw a (p .2)
-      behind f x (inr a) = f x a
+      later : Later q (wordOf s b 126) → Later (suc q) b
+      later f x (inl a) = rw a (p .2)
+      later f x (inr a) = f x a
 
   -- ---- the whole file
 

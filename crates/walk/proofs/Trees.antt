@@ -47,8 +47,8 @@ module _ (d : Disk) (s : List ℕ) (fine : TreePasses d s) where
         run-nodes d s h b m c .1 (λ x a. sound x
         (r x (in-left x (keyNodes s h b m c 0 n) (listLink (wordOf s b 126) h (m + n) (before s b c n)) a)))
 
-    behind-reached : wordOf s b 126 ≢ 0 → NodeReached d s (list (wordOf s b 126) h (m + n) (before s b c n))
-    behind-reached w =
+    next-reached : wordOf s b 126 ≢ 0 → NodeReached d s (list (wordOf s b 126) h (m + n) (before s b c n))
+    next-reached w =
         let x = list (wordOf s b 126) h (m + n) (before s b c n) in
         r x (in-right x (keyNodes s h b m c 0 n) (listLink (wordOf s b 126) h (m + n) (before s b c n))
         (linked-in (wordOf s b 126) (λ k. list k h (m + n) (before s b c n)) w))
@@ -61,7 +61,7 @@ module _ (d : Disk) (s : List ℕ) (fine : TreePasses d s) where
   spread-reached h (suc q) b m c e r l =
       let n = here d s h m in
       let x = list (wordOf s b 126) h (m + n) (before s b c n) in
-      let a = behind-reached h b m c r (λ z. omega (arith, e, l .more .0 z)) in
+      let a = next-reached h b m c r (λ z. omega (arith, e, l .more .0 z)) in
       let f = list-passed s (wordOf s b 126) h (blocksOf d s h - (m + n)) (fine x a .1) in (
         l,
         run-reached h b m c r,

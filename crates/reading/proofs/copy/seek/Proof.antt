@@ -2,12 +2,12 @@
 use Prim.Native.Nat.{_≤_, _-_}
 use mathlib.Core.Path.{_≡_}
 use borrow.Author.Needs.{needs}
-use Rattle.reading.proofs.Turns.{behind, seek-fits, seek-starts, seek-goes, seek-holds, seek-ends}
+use Rattle.reading.proofs.Turns.{nthAfter, seek-fits, seek-starts, seek-goes, seek-holds, seek-ends}
 use Rattle.reading.proofs.copy.seek.Statement.{statement}
 use Rattle.reading.proofs.copy.seek.Tie as tie
 
 abbrev Inv-loop : tie.InvT-loop
-Inv-loop image header offset n key₀ i₀ key i = (i ≤ n) × (key ≡ behind image header i)
+Inv-loop image header offset n key₀ i₀ key i = (i ≤ n) × (key ≡ nthAfter image header i)
 
 abbrev μ-loop : tie.MeasureT-loop
 μ-loop image header offset n key₀ i₀ key i = n - i
