@@ -15,9 +15,9 @@
  *   it refused, number says why, place says where, and all else in the struct is 0.
  * - Words of an image, of a program file and of the memory that a program is loaded into have their highest byte
  *   first. Bases, records and answers are numbers of the machine.
- * - Stack, not proved but measured, on both processors (examples/c/stack.c): an audit takes up to 1 MiB, for the
- *   deepest volume that there can be, which is 590 bytes for each directory within a directory; find and read take
- *   up to 32 KiB, the other calls up to 4 KiB. */
+ * - Stack, not proved but measured, on both processors (examples/c/stack.c): an audit took up to 0.65 MiB, for the
+ *   deepest volume that there can be, so lend it 1 MiB; find and read took less than 32 KiB, the other calls less
+ *   than 4 KiB. */
 #ifndef JUFFERDEEG_H
 #define JUFFERDEEG_H
 
@@ -121,8 +121,9 @@ struct jufferdeeg_find_numbers {
     uint32_t compared; /* how many entries were looked at */
 };
 
-/* Finds what a path leads to, on any image. The names of a path are split by '/'; upper and lower case of a to z
- * are the same; the empty path is the root.
+/* Finds what a path leads to, on any image. A path is components with one '/' between two of them, none before the
+ * first or after the last, and has at most 255 bytes. A component has 1 to 30 bytes, none of them '/' or ':'. The
+ * empty path has no component: it is the root. Upper and lower case of a to z are the same.
  *
  * Lent: the image; the path, without an end mark.
  * Left: nothing is written.
@@ -166,9 +167,14 @@ struct jufferdeeg_program_numbers {
  * Numbers: 0, 30 to 39: the file's first fault. */
 struct jufferdeeg_program_numbers jufferdeeg_check(const uint8_t *file, size_t file_bytes);
 
+/* What a hunk is: kind of struct jufferdeeg_hunk. */
+#define JUFFERDEEG_CODE 0x3E9u
+#define JUFFERDEEG_DATA 0x3EAu
+#define JUFFERDEEG_BSS 0x3EBu
+
 /* One for each hunk of a loaded program. */
 struct jufferdeeg_hunk {
-    uint32_t kind;  /* 0x3E9 code, 0x3EA data, 0x3EB bss */
+    uint32_t kind;  /* JUFFERDEEG_CODE, JUFFERDEEG_DATA or JUFFERDEEG_BSS */
     uint32_t place; /* its first byte in the lent memory */
     uint32_t size;  /* in words of 4 bytes */
     uint32_t base;  /* the address that it was loaded for */
@@ -179,7 +185,8 @@ struct jufferdeeg_hunk {
  * the base of the hunk that the relocation names is added, modulo 2^32.
  *
  * Lent: the file; the bases, exactly one for each hunk, in their order; memory and a work area, each of the bytes that
- * the check says or more; a table, of a record for each hunk or more. What these three hold does not matter.
+ * the check says or more; a table, of a record for each hunk or more. What these three hold does not matter. All of
+ * the lent work area is cleared, before and after, so lend no more of it than the check says.
  * A base is a multiple of 4; base plus bytes of the hunk are at most 2^32; no two hunks share an address. A hunk of
  * 0 words has none, and may stand anywhere.
  * Left: accepted, the loaded bytes and the hunks' records, and the rest of memory and table as it was; refused, no

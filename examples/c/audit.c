@@ -7,8 +7,17 @@
 static uint8_t image[JUFFERDEEG_IMAGE_BYTES + 1], claim[JUFFERDEEG_CLAIM_BYTES], why[JUFFERDEEG_REASON_BYTES];
 
 int main(int argc, char **argv) {
-    FILE *f = argc == 2 ? fopen(argv[1], "rb") : NULL;
-    size_t image_bytes = f == NULL ? 0 : fread(image, 1, sizeof image, f);
+    if (argc != 2) {
+        fprintf(stderr, "audit needs an IMAGE\n");
+        return 2;
+    }
+    FILE *f = fopen(argv[1], "rb");
+    if (f == NULL) {
+        fprintf(stderr, "audit: %s: cannot be opened\n", argv[1]);
+        return 2;
+    }
+    size_t image_bytes = fread(image, 1, sizeof image, f);
+    fclose(f);
     struct jufferdeeg_audit_numbers a = jufferdeeg_audit(image, image_bytes, claim, sizeof claim);
     if (a.number == 0) {
         printf("a volume: %u directories, %u files, %u blocks free\n", a.directories, a.files, a.free);

@@ -145,6 +145,10 @@ int main(int argc, char **argv) {
     read_file(image_bytes, argv[2], 4);
     size_t file_bytes = read_file(image_bytes, argv[2], 0);
     check("half of it", file_bytes / 8 * 4);
-    load_and_move(file_bytes, check("it", file_bytes));
+    uint32_t hunks = check("it", file_bytes);
+    if (hunks == 0) {
+        return 1; /* it is no program */
+    }
+    load_and_move(file_bytes, hunks);
     return 0;
 }

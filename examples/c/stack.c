@@ -18,8 +18,9 @@
 #define STACK_BYTES (4 << 20)
 #define PAINT 0xA5
 
-/* What jufferdeeg.h says. For an audit, less what the two directories would take that this volume lacks. */
-#define AUDIT_MOST ((1 << 20) - 2 * 590)
+/* What jufferdeeg.h says; for an audit, what it says to lend, less what the two directories would take that this
+ * volume lacks: 336 bytes each on x86-64, 368 on aarch64. */
+#define AUDIT_MOST ((1 << 20) - 2 * 368)
 #define FIND_MOST (32 << 10)
 #define OTHERS_MOST (4 << 10)
 

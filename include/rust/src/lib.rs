@@ -17,6 +17,9 @@
 //! # Ok::<(), std::io::Error>(())
 //! ```
 
+/// The version of this crate, as `JUFFERDEEG_VERSION` of the header.
+pub const VERSION: &str = env!("CARGO_PKG_VERSION");
+
 /// The length of an image.
 pub const IMAGE_BYTES: usize = 901_120;
 /// The length of the shortest claim area.
@@ -34,87 +37,105 @@ pub const DIRECTORY: u32 = 2;
 /// `kind` of [`FindNumbers`] for a file.
 pub const FILE: u32 = 0xFFFF_FFFD;
 
-/// The numbers of refusals.
+/// `kind` of [`Hunk`] for code.
+pub const CODE: u32 = 0x3E9;
+/// `kind` of [`Hunk`] for data.
+pub const DATA: u32 = 0x3EA;
+/// `kind` of [`Hunk`] for bss.
+pub const BSS: u32 = 0x3EB;
+
+/// The numbers of refusals. In brackets the place: the key of a block, or a key just as it was read; a component of
+/// the path, counted from 0; the byte of a word of the program file; an entry of the bases, counted from 0.
 pub mod fault {
-    /// The image is not as long as its disk.
+    /// `[0]` the image is not 901,120 bytes long.
     pub const IMAGE_LENGTH: u32 = 1;
-    /// The claim area is too short.
+    /// `[0]` the claim area is short.
     pub const CLAIM_AREA: u32 = 2;
-    /// The boot tag is another.
+    /// `[0]` the boot tag is not that of the old file system.
     pub const BOOT_TAG: u32 = 3;
-    /// A fixed word of the root.
+    /// `[880]` a word of the root that has one value only is wrong.
     pub const ROOT_WORDS: u32 = 4;
-    /// A key outside the volume.
+    /// `[key]` it is not in 2 to 1,759.
     pub const BAD_KEY: u32 = 5;
-    /// A block that is claimed already; in a lookup, a chain that is too long.
+    /// `[key]` audit: it is claimed already; find, read: its chain is too long.
     pub const CLAIMED_TWICE: u32 = 6;
-    /// The words of a block do not add up to 0.
+    /// `[block]` its words do not add up to 0.
     pub const BLOCK_SUM: u32 = 7;
-    /// The types of a block.
+    /// `[block]` a type word is wrong.
     pub const BLOCK_TYPE: u32 = 8;
-    /// An entry that is a link.
+    /// `[block]` an entry is a link.
     pub const LINK: u32 = 9;
-    /// Own key, parent, or w126 of a directory.
+    /// `[block]` own key, parent, or a directory's last link is wrong.
     pub const WRONG_TIES: u32 = 10;
-    /// A name that may not be one.
+    /// `[block]` its name is not allowed.
     pub const BAD_NAME: u32 = 11;
-    /// An entry in another slot than its name's.
+    /// `[block]` an entry hangs in another slot than its name's.
     pub const WRONG_SLOT: u32 = 12;
-    /// A name that an earlier entry of the directory has.
+    /// `[block]` an earlier entry of the directory has its name.
     pub const DOUBLE_NAME: u32 = 13;
-    /// Size, count or links of a file.
+    /// `[block]` size, key count, list link, or an empty file's first data key.
     pub const FILE_LAYOUT: u32 = 14;
-    /// The words of a data block, or its key.
+    /// `[block]` the words of a data block; or the one before it names another.
     pub const DATA_LAYOUT: u32 = 15;
-    /// The root's words beside the bitmap key.
+    /// `[880]` the root's bitmap words are wrong.
     pub const BITMAP_WORDS: u32 = 16;
-    /// A bit of the bitmap.
+    /// `[block]` the lowest whose bit of the bitmap is wrong.
     pub const WRONG_BIT: u32 = 17;
-    /// The form of a path.
+    /// `[component]` it may not be one; `[0]` the path is longer than 255 bytes.
     pub const PATH_FORM: u32 = 18;
-    /// No entry has the name.
+    /// `[component]` there is no such name.
     pub const NOT_FOUND: u32 = 19;
-    /// A file used as a directory, or a directory that is read.
+    /// `[component]` a file used as a directory, or a directory that is read.
     pub const WRONG_KIND: u32 = 20;
-    /// A program file that is empty or not made of words.
+    /// `[0]` the program file is empty, or not made of whole words.
     pub const FILE_LENGTH: u32 = 30;
-    /// A word that is needed after the end.
+    /// `[length of the file]` a word is needed after its end.
     pub const EARLY_END: u32 = 31;
-    /// A word of the header.
+    /// `[byte]` the first word, the hunk count, or the first or last hunk number.
     pub const HEADER_WORD: u32 = 32;
-    /// A library is named.
+    /// `[4]` the file names a library.
     pub const LIBRARY: u32 = 33;
-    /// A hunk's size.
+    /// `[byte]` a hunk's size is above 65,536 words.
     pub const HUNK_SIZE: u32 = 34;
-    /// A block type that may not stand there.
+    /// `[byte]` a block of this type may not stand here.
     pub const MISPLACED_BLOCK: u32 = 35;
-    /// A body that is longer than its hunk.
+    /// `[byte]` a hunk's count of words is above its size.
     pub const BODY_LENGTH: u32 = 36;
-    /// The type of a symbol.
+    /// `[byte]` a symbol's type is not allowed.
     pub const SYMBOL_TYPE: u32 = 37;
-    /// A hunk number or an offset.
+    /// `[byte]` a hunk number or an offset is not allowed.
     pub const BAD_TARGET: u32 = 38;
-    /// A word after the last hunk.
+    /// `[byte]` there is more after the last hunk.
     pub const TRAILING_WORDS: u32 = 39;
-    /// A list of bases.
+    /// `[entry]` a base that is not allowed; `[the first]` not one for each hunk.
     pub const BAD_BASE: u32 = 40;
-    /// Memory, table or work area.
+    /// `[0]` memory, table or work area is short.
     pub const SHORT_ROOM: u32 = 41;
-    /// A target too near an earlier one of its hunk.
+    /// `[byte]` an offset is less than 4 bytes from an earlier one of its hunk.
     pub const NEAR_TARGETS: u32 = 42;
 }
+
+// The fields' comments are of the form that compare/tests/archive.rs leaves out when it reads these structs.
 
 /// The answer of [`audit`].
 #[repr(C)]
 #[derive(Clone, Copy, Debug, Default, PartialEq, Eq)]
 pub struct AuditNumbers {
+    /** 0, or the number of the refusal, see [`fault`]: then all else but the place is 0. */
     pub number: u32,
+    /** Where it refused; 0 if it did not. */
     pub place: usize,
+    /** Directories below the root. */
     pub directories: u32,
+    /** Files. */
     pub files: u32,
+    /** List blocks of files. */
     pub list_blocks: u32,
+    /** Data blocks of files. */
     pub data_blocks: u32,
+    /** Blocks in use, the root and the bitmap block among them. */
     pub used: u32,
+    /** Free blocks: used and free are 1,758 together. */
     pub free: u32,
 }
 
@@ -122,11 +143,17 @@ pub struct AuditNumbers {
 #[repr(C)]
 #[derive(Clone, Copy, Debug, Default, PartialEq, Eq)]
 pub struct FindNumbers {
+    /** 0, or the number of the refusal, see [`fault`]: then all else but the place is 0. */
     pub number: u32,
+    /** Where it refused; 0 if it did not. */
     pub place: usize,
+    /** [`DIRECTORY`] or [`FILE`]. */
     pub kind: u32,
+    /** The key of its block. */
     pub key: u32,
+    /** The size of a file, as its header says; 0 for a directory. */
     pub size: u32,
+    /** How many entries were looked at. */
     pub compared: u32,
 }
 
@@ -134,18 +161,25 @@ pub struct FindNumbers {
 #[repr(C)]
 #[derive(Clone, Copy, Debug, Default, PartialEq, Eq)]
 pub struct ReadNumbers {
+    /** 0, or the number of the refusal, see [`fault`]: then all else but the place is 0. */
     pub number: u32,
+    /** Where it refused; 0 if it did not. */
     pub place: usize,
+    /** How many bytes were copied. */
     pub count: usize,
 }
 
-/// One record of a hunk table.
+/// One for each hunk of a loaded program.
 #[repr(C)]
 #[derive(Clone, Copy, Debug, Default, PartialEq, Eq)]
 pub struct Hunk {
+    /** [`CODE`], [`DATA`] or [`BSS`]. */
     pub kind: u32,
+    /** Its first byte in the lent memory. */
     pub place: u32,
+    /** In words of 4 bytes. */
     pub size: u32,
+    /** The address that it was loaded for. */
     pub base: u32,
 }
 
@@ -153,9 +187,13 @@ pub struct Hunk {
 #[repr(C)]
 #[derive(Clone, Copy, Debug, Default, PartialEq, Eq)]
 pub struct ProgramNumbers {
+    /** 0, or the number of the refusal, see [`fault`]: then all else but the place is 0. */
     pub number: u32,
+    /** Where it refused; 0 if it did not. */
     pub place: usize,
+    /** How many hunks the program has. */
     pub hunks: u32,
+    /** How much of the memory they take. */
     pub bytes: usize,
 }
 
@@ -197,17 +235,22 @@ pub fn reason(number: u32) -> String {
     String::from_utf8_lossy(&room[..bytes]).into_owned()
 }
 
-/// Audits an image. Deep directories take stack: up to 1 MiB, for the deepest volume that there can be.
+/// Audits an image. Deep directories take stack: up to 0.65 MiB was measured, for the deepest volume that there can
+/// be, so lend it 1 MiB.
 pub fn audit(image: &[u8], claim: &mut [u8]) -> AuditNumbers {
     unsafe { c::jufferdeeg_audit(image.as_ptr(), image.len(), claim.as_mut_ptr(), claim.len()) }
 }
 
 /// Finds what a path leads to.
+///
+/// A path is components with one `/` between two of them, none before the first or after the last, and has at most 255
+/// bytes. A component has 1 to 30 bytes, none of them `/` or `:`. The empty path has no component: it is the root.
+/// Upper and lower case of a to z are the same.
 pub fn find(image: &[u8], path: &[u8]) -> FindNumbers {
     unsafe { c::jufferdeeg_find(image.as_ptr(), image.len(), path.as_ptr(), path.len()) }
 }
 
-/// Reads a file from an offset on.
+/// Reads a file from an offset on, until the file or the output ends. The path is as for [`find`].
 pub fn read(image: &[u8], path: &[u8], offset: usize, output: &mut [u8]) -> ReadNumbers {
     let (room, bytes) = (output.as_mut_ptr(), output.len());
     unsafe { c::jufferdeeg_read(image.as_ptr(), image.len(), path.as_ptr(), path.len(), offset, room, bytes) }
@@ -218,7 +261,13 @@ pub fn check(file: &[u8]) -> ProgramNumbers {
     unsafe { c::jufferdeeg_check(file.as_ptr(), file.len()) }
 }
 
-/// Loads a program file for the given bases.
+/// Loads a program file for the given bases: the hunks' addresses on the machine that will run it.
+///
+/// The bases are exactly one for each hunk, in their order. A base is a multiple of 4; base plus bytes of the hunk are
+/// at most 2^32; no two hunks share an address. A hunk of 0 words has none, and may stand anywhere.
+///
+/// Memory and work area each have the bytes that [`check`] says or more, the table a record for each hunk or more. All
+/// of the lent work area is cleared, before and after, so lend no more of it than the check says.
 #[rustfmt::skip]
 pub fn load(file: &[u8], bases: &[u32], memory: &mut [u8], table: &mut [Hunk], work: &mut [u8]) -> ProgramNumbers {
     unsafe {
@@ -227,7 +276,7 @@ pub fn load(file: &[u8], bases: &[u32], memory: &mut [u8], table: &mut [Hunk], w
     }
 }
 
-/// Moves a loaded program from the old bases to the new ones. (`move` is a word of Rust's.)
+/// Moves a loaded program from the old bases to the new ones, each as for [`load`]. (`move` is a word of Rust's.)
 #[rustfmt::skip]
 pub fn move_program(file: &[u8], old: &[u32], new: &[u32],
                     memory: &mut [u8], table: &mut [Hunk], work: &mut [u8]) -> ProgramNumbers {
