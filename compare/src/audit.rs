@@ -1,9 +1,9 @@
 //! The audit of a volume: every block that it reaches is met once, claimed and tested (docs/FORMAT.md,
 //! "Order of the walk").
 //!
-//! The walk of docs/FORMAT.md goes down into every directory it meets. Here nothing calls itself: entries that are known of
-//! and not yet visited wait on one pile, the next one on top. What a visit turns up is put above what was waiting
-//! before.
+//! The walk of docs/FORMAT.md goes down into every directory it meets. Here nothing calls itself: entries that are
+//! known of and not yet visited wait on one pile, the next one on top. What a visit turns up is put above what was
+//! waiting before.
 
 use std::collections::BTreeSet;
 

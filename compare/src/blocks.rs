@@ -1,8 +1,8 @@
 //! The tests of one block, by the kind that its reference asks for.
 //!
-//! Each answers 0 if the block passes, else the number of the first rule it breaks, in the order that
-//! docs/FORMAT.md gives in section "Order of the walk". What needs more than the block and the place where it was met (key
-//! range, claims, double names) belongs to the walks.
+//! Each answers 0 if the block passes, else the number of the first rule it breaks, in the order that docs/FORMAT.md
+//! gives in section "Order of the walk". What needs more than the block and the place where it was met (key range,
+//! claims, double names) belongs to the walks.
 
 use crate::disk::Disk;
 use crate::names::{name, slot};

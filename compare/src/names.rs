@@ -33,9 +33,9 @@ pub fn same(one: &[u8], other: &[u8]) -> bool {
 
 /// A name's hash, below 2048.
 ///
-/// The recipe of docs/FORMAT.md multiplies by 13 and cuts at every letter. Seen as a whole it is a number in base 13 whose
-/// digits are the length and the letters, so it is added up here from its last digit on. Letting 64 bits overflow
-/// does no harm, for 2048 divides 2^64, and one cut at the end is enough.
+/// The recipe of docs/FORMAT.md multiplies by 13 and cuts at every letter. Seen as a whole it is a number in base 13
+/// whose digits are the length and the letters, so it is added up here from its last digit on. Letting 64 bits
+/// overflow does no harm, for 2048 divides 2^64, and one cut at the end is enough.
 pub fn hash(name: &[u8]) -> u32 {
     let digits = name.iter().rev().map(|&byte| u64::from(fold(byte)));
     let (total, _) = digits.chain([name.len() as u64]).fold((0u64, 1u64), |(total, weight), digit| {

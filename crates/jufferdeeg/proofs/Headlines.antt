@@ -231,7 +231,8 @@ module _ (file : List ℕ) where
   check-refused-exactly f = faults.refused-exactly file f
 
   -- the file's word at the byte of each target is its offset in its hunk
-  pub targets-named : (hs : List contents.Hunk) → contents.Holds file hs → contents.Each (Named file hs) (fileTargets hs)
+  pub targets-named : (hs : List contents.Hunk) → contents.Holds file hs
+      → contents.Each (Named file hs) (fileTargets hs)
   targets-named = targets.targets-named file
 
   -- a load, which is lent one list of bases: accepted if and only if the file holds hunks and `Takes` holds of them;
@@ -413,7 +414,8 @@ module _ (s path : List ℕ) (o : ℕ) (output : List ℕ) (r : ReadNumbers) (ou
 module _ (file : List ℕ) (r : ProgramNumbers) (a : r ≡ checkNumbers file) where
   -- a check: the number is 0 if and only if the file holds hunks, so many that take so many bytes
   pub check-zero : (r .number ≡ 0)
-      ↔ ((hs : List contents.Hunk) × contents.Holds file hs × (r .hunks ≡ length hs) × (r .bytes ≡ 4 * contents.total hs))
+      ↔ ((hs : List contents.Hunk) × contents.Holds file hs × (r .hunks ≡ length hs)
+      × (r .bytes ≡ 4 * contents.total hs))
   check-zero = seen.check-zero file r a
 
   -- another number v is given at place k if and only if `Says` holds of them

@@ -370,7 +370,8 @@ module _ (file m : List ℕ) (t : List Hunk) (w : List ℕ) (r : ProgramNumbers)
 
     -- the number is 0 if and only if the file holds hunks and `Takes` holds of them, with their number and bytes
     pub move-zero : (r .number ≡ 0)
-        ↔ ((hs : List contents.Hunk) × contents.Holds file hs × Takes hs (old ∷ new ∷ []) (length m) (length t) (length w)
+        ↔ ((hs : List contents.Hunk) × contents.Holds file hs × Takes hs (old ∷ new ∷ []) (length m) (length t)
+        (length w)
         (r .hunks) (r .bytes))
     move-zero =
         let v = verdicts.move-accepted file old new (length m) (length t) (length w) (r .hunks) (r .bytes) in

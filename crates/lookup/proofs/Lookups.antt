@@ -158,25 +158,25 @@ module _ (d : Disk) (s xs : List ℕ) (t i n k : ℕ) (l : Looks d s xs t i n) (
           counted = omega arith;
         }
 
--- ---- the root: `fault` is what its tests say
+-- ---- the root: `number` is what its tests say
 
-module _ (d : Disk) (s path : List ℕ) (fault : ℕ) (e : fault ≡ rootFault d s) (root : ℕ) (f : root ≡ rootOf d) where
-  pub root-refused : (r : Found) → (fault ≡ 0 → ⊥) → r ≡ refuse fault root → r ≡ fromRoot d s path
+module _ (d : Disk) (s path : List ℕ) (number : ℕ) (e : number ≡ rootFault d s) (root : ℕ) (f : root ≡ rootOf d) where
+  pub root-refused : (r : Found) → (number ≡ 0 → ⊥) → r ≡ refuse number root → r ≡ fromRoot d s path
   unfolding fromRoot pick
-  root-refused r q p = p ∙ (rw (← e, ne-eqb fault 0 q, f))
+  root-refused r q p = p ∙ (rw (← e, ne-eqb number 0 q, f))
 
-  pub root-empty : fault ≡ 0 → length path ≡ 0 → Directory root 0 ≡ fromRoot d s path
+  pub root-empty : number ≡ 0 → length path ≡ 0 → Directory root 0 ≡ fromRoot d s path
   unfolding fromRoot pick lookupFrom
-  root-empty q z = rw (← e, eq-eqb fault 0 q, f) (go path z)
+  root-empty q z = rw (← e, eq-eqb number 0 q, f) (go path z)
     where
       go : (xs : List ℕ) → length xs ≡ 0 → Directory (rootOf d) 0 ≡ lookupFrom d s (rootOf d) 0 0 (components xs)
       go [] z = refl
       go (x ∷ xs) z = absurd (omega arith)
 
-  pub root-looks : (r : Found) → fault ≡ 0 → (length path ≡ 0 → ⊥) → r ≡ lookupFrom d s root 0 0 (split path)
+  pub root-looks : (r : Found) → number ≡ 0 → (length path ≡ 0 → ⊥) → r ≡ lookupFrom d s root 0 0 (split path)
       → r ≡ fromRoot d s path
   unfolding fromRoot pick
-  root-looks r q z p = rw (← e, eq-eqb fault 0 q, ← path-components path z, ← f) p
+  root-looks r q z p = rw (← e, eq-eqb number 0 q, ← path-components path z, ← f) p
 
 -- ---- the tests before: n bytes are asked, `form` is what the path's form says, and b whether the tag is there
 

@@ -30,7 +30,7 @@ use Rattle.lookup.specs.Verdicts.{number-18, number-3, of-root, number-5
 use Rattle.lookup.specs.Verdicts.{number-20}
 use Rattle.lookup.proofs.Chains.{faultAt}
 use Rattle.lookup.proofs.Positions.{positions-few}
-use Rattle.lookup.proofs.Trails.{holds, file, used, missing, fault}
+use Rattle.lookup.proofs.Trails.{holds, file, used, missing, failing}
 use Rattle.lookup.proofs.Deciding.{form-exactly, form-good, number-is, place-is, Why, image, form, tag, root}
 use Rattle.lookup.proofs.Deciding.{leads-to, find-why, why-find}
 
@@ -100,7 +100,7 @@ module _ (d : Disk) (s path : List ℕ) where
     refused-why (leads-to o (missing w p f q)) e =
         let x = same 19 (0 + length (w .front)) q e in
         number-19 (record { opened = o; comes = w; position = p; over = f; component = x .1 ∙ zero-plus _ }) (x .0)
-    refused-why (leads-to o (fault w p f q)) e =
+    refused-why (leads-to o (failing w p f q)) e =
         go (key-says d s (w .parent) (slotOf d (w .name)) p (keyIn d s path w p) (f .fault))
       where
         x : (v ≡ faultAt d s (w .parent) (w .name) p) × (k ≡ keyIn d s path w p)
@@ -137,7 +137,7 @@ module _ (d : Disk) (s path : List ℕ) where
         fails : (h : Stands d s path k) → v ≢ 0
             → Says d s (h .comes .parent) (slotOf d (h .comes .name)) (h .position) k v → Why d s path (refuse v k)
         fails h z y =
-            leads-to (h .opened) (fault (h .comes) (h .position)
+            leads-to (h .opened) (failing (h .comes) (h .position)
             (record { some = λ g. h .some (sym (h .key) ∙ g); fault = λ g. z (sym at ∙ g); others = h .others })
             (rw (at, h .key)))
           where
@@ -222,7 +222,7 @@ module _ (d : Disk) (s path : List ℕ) where
       go (leads-to o (file w p f u b q)) e = impossible cc
       go (leads-to o (used w p f u b q)) e = impossible cc
       go (leads-to o (missing w p f q)) e = impossible cc
-      go (leads-to o (fault w p f q)) e = impossible cc
+      go (leads-to o (failing w p f q)) e = impossible cc
 
   -- A file is found if and only if it is what the last component leads to.
   pub file-exactly : (k z n : ℕ) → (findOf d s path ≡ File k z n) ↔ IsFile d s path k z n
@@ -254,4 +254,4 @@ module _ (d : Disk) (s path : List ℕ) where
           }
       go (leads-to o (used w p f u b q)) e = impossible cc
       go (leads-to o (missing w p f q)) e = impossible cc
-      go (leads-to o (fault w p f q)) e = impossible cc
+      go (leads-to o (failing w p f q)) e = impossible cc

@@ -40,7 +40,7 @@ pub data Leads (d : Disk) (s : List ℕ) (t i n : ℕ) (cs : List (List ℕ)) (r
       → r ≡ refuse fault.notFound (i + length (w .front))
       → Leads d s t i n cs r
   -- an entry fails its tests
-  fault : (w : Comes d s t cs) (p : ℕ) → Fails d s (w .parent) (w .name) p
+  failing : (w : Comes d s t cs) (p : ℕ) → Fails d s (w .parent) (w .name) p
       → r ≡ refuse (faultAt d s (w .parent) (w .name) p) (positionKey d s (w .parent) (w .name) p)
       → Leads d s t i n cs r
 
@@ -98,7 +98,7 @@ module _ (d : Disk) (s : List ℕ) where
       deeper i n r (missing w p′ g q) =
           let x : i + 1 + length (w .front) ≡ i + suc (length (w .front)) = omega arith in
           missing (further w) p′ g (rw x at q)
-      deeper i n r (fault w p′ g q) = fault (further w) p′ g q
+      deeper i n r (failing w p′ g q) = failing (further w) p′ g q
 
   pub leads : (t i n : ℕ) (cs : List (List ℕ)) → Leads d s t i n cs (lookupFrom d s t i n cs)
   unfolding lookupFrom pick
@@ -132,7 +132,7 @@ module _ (d : Disk) (s : List ℕ) where
           → Leads d s t i n (c ∷ cs) (lookupFrom d s t i n (c ∷ cs))
       go (at p f q) ih = which (directory s (positionKey d s t c p)) p f refl ih
       go (ended p f q) ih = missing (first t c cs) p f (rw (q, here))
-      go (faulty p f q) ih = fault (first t c cs) p f (rw q)
+      go (faulty p f q) ih = failing (first t c cs) p f (rw q)
 
   -- ---- and what decides it determines it
 
@@ -165,4 +165,4 @@ module _ (d : Disk) (s : List ℕ) where
           (positionKey d s (w .parent) (w .name) p)) b)))
       go (used w p f e b q) = q ∙ sym (ends w p f e ∙ used-is _ _ _ (w .back) b)
       go (missing w p f q) = q ∙ sym (to w ∙ (rw (search-over d s (w .parent) (w .name) p f)))
-      go (fault w p f q) = q ∙ sym (to w ∙ (rw (search-fails d s (w .parent) (w .name) p f)))
+      go (failing w p f q) = q ∙ sym (to w ∙ (rw (search-fails d s (w .parent) (w .name) p f)))
