@@ -36,12 +36,12 @@ page-numbers : (p i : ℕ) (hs : List page.Hunk) (bases : List ℕ)
     → numbersIn (pageRecords p i hs bases) ≡ recordNumbers p i hs bases
 unfolding pageRecords numbersIn
 page-numbers p i [] bases = refl
-page-numbers p i (h ∷ hs) bases = rw (page-numbers (p + 4 * h .size) (i + 1) hs bases)
+page-numbers p i (h ∷ hs) bases = rw (page-numbers (p + 4 * h .space .size) (i + 1) hs bases)
 
 length-page : (p i : ℕ) (hs : List page.Hunk) (bases : List ℕ) → length (pageRecords p i hs bases) ≡ length hs
 unfolding pageRecords
 length-page p i [] bases = refl
-length-page p i (h ∷ hs) bases = ap suc (length-page (p + 4 * h .size) (i + 1) hs bases)
+length-page p i (h ∷ hs) bases = ap suc (length-page (p + 4 * h .space .size) (i + 1) hs bases)
 
 module _ (file : List ℕ) (hs : List page.Hunk) (pr : Program hs) (whole : length file % 4 ≡ 0)
     (e : wordsAt file 0 (length file / 4) ≡ written hs) where

@@ -11,5 +11,5 @@ use Rattle.hunks.specs.declared.Hunk.{Hunk}
 unfoldable pub pageRecords : ℕ → ℕ → List page.Hunk → List ℕ → List Hunk
 pageRecords p i [] bases = []
 pageRecords p i (h ∷ hs) bases =
-    record { kind = kindOf (h .body); place = p; size = h .size; base = amountOf bases i }
-    ∷ pageRecords (p + 4 * h .size) (i + 1) hs bases
+    record { kind = kindOf (h .body); place = p; size = h .space .size; base = amountOf bases i }
+    ∷ pageRecords (p + 4 * h .space .size) (i + 1) hs bases

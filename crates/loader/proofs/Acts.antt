@@ -22,7 +22,8 @@ use Rattle.program.specs.declared.reader.Mode.{Mode}
 use Rattle.program.specs.declared.reader.Mode.the-variants as mode
 use Rattle.program.specs.declared.reader.Next.{Next}
 use Rattle.program.specs.declared.reader.Next.the-variants.{On}
-use Rattle.program.specs.Header.{totalOf, sizeOf}
+use Rattle.program.specs.Spaces.{Space}
+use Rattle.program.specs.Header.{totalOf, spaceOf, sizeOf}
 use Rattle.program.specs.Reader.{turn, stepOf}
 use Rattle.program.specs.Acts.{asks, actOf, pass}
 use Rattle.program.specs.Cursors.{HeaderFits, CursorFits, ModeFits, placeOf}
@@ -63,30 +64,31 @@ notAdd = tagQuiet ∷ tagBody ∷ tagStore ∷ []
 zero-le : {n : ℕ} → 0 ≤ n
 zero-le = omega arith
 
-place-up : (size : ℕ → ℕ) (i j : ℕ) → i ≤ j → placeOf size i ≤ placeOf size j
+place-up : (space : ℕ → Space) (i j : ℕ) → i ≤ j → placeOf space i ≤ placeOf space j
 unfolding placeOf
-place-up size zero j h = zero-le
-place-up size (suc i) zero h = absurd (omega arith)
-place-up size (suc i) (suc j) h = go (decLt i j) (λ q. place-up size (suc i) j q)
+place-up space zero j h = zero-le
+place-up space (suc i) zero h = absurd (omega arith)
+place-up space (suc i) (suc j) h = go (decLt i j) (λ q. place-up space (suc i) j q)
   where
-    go : Dec (i < j) → (suc i ≤ j → placeOf size (suc i) ≤ placeOf size j) → placeOf size (suc i) ≤ placeOf size (suc j)
+    go : Dec (i < j) → (suc i ≤ j → placeOf space (suc i) ≤ placeOf space j)
+        → placeOf space (suc i) ≤ placeOf space (suc j)
     go (yes q) f = omega (arith, f (omega arith))
     go (no q) f = let e : i ≡ j = omega arith in rw e (omega arith)
 
-opened : (size : ℕ → ℕ) (i : ℕ) → placeOf size (suc i) ≡ placeOf size i + 4 * size i
+opened : (space : ℕ → Space) (i : ℕ) → placeOf space (suc i) ≡ placeOf space i + 4 * space i .size
 unfolding placeOf
-opened size i = refl
+opened space i = refl
 
 module _ (file : List ℕ) (c : Cursor) (at w : ℕ) (d : Cursor) (s : CursorFits file c) where
   inside : c .hunk < totalOf file → c .place + 4 * sizeOf file (c .hunk) ≤ loadedOf file
   inside h =
-      omega (arith, s .place, place-up (sizeOf file) (suc (c .hunk)) (totalOf file) h, opened (sizeOf file) (c .hunk))
+      omega (arith, s .place, place-up (spaceOf file) (suc (c .hunk)) (totalOf file) h, opened (spaceOf file) (c .hunk))
 
   low : c .place < 4294967296
   low = omega (arith, s .low, s .hunks, s .header .few)
 
   fits-in : (m : Mode) → ModeFits (totalOf file) (c .hunk) (c .stored) m
-      → turn (totalOf file) (sizeOf file) c w m ≡ On d → ActFits (loadedOf file) (totalOf file) (asks c at w m)
+      → turn (totalOf file) (spaceOf file) c w m ≡ On d → ActFits (loadedOf file) (totalOf file) (asks c at w m)
   unfolding pick
   fits-in mode.Begin h e = go (eqb w type.name)
     where
@@ -106,7 +108,7 @@ module _ (file : List ℕ) (c : Cursor) (at w : ℕ) (d : Cursor) (s : CursorFit
   fits-in (mode.Skip n a) h e = tt
   fits-in mode.End h e = tt
 
-  pub act-fits : stepOf (totalOf file) (sizeOf file) c w ≡ On d → ActFits (loadedOf file) (totalOf file) (actOf c at w)
+  pub act-fits : stepOf (totalOf file) (spaceOf file) c w ≡ On d → ActFits (loadedOf file) (totalOf file) (actOf c at w)
   unfolding stepOf actOf
   act-fits = fits-in (c .mode) (s .mode)
 
@@ -117,34 +119,34 @@ more-room m n t u (Store p w) h k f = omega arith
 more-room m n t u (Add p z b) h k f = (omega (arith, f .0), omega (arith, f .1))
 
 fits : (file : List ℕ) (c : Cursor) (at w : ℕ) (r : Next) (d : Cursor) (a : Act) (n t : ℕ) → CursorFits file c
-    → r ≡ stepOf (totalOf file) (sizeOf file) c w → r ≡ On d → a ≡ actOf c at w → loadedOf file ≤ n → totalOf file ≤ t
+    → r ≡ stepOf (totalOf file) (spaceOf file) c w → r ≡ On d → a ≡ actOf c at w → loadedOf file ≤ n → totalOf file ≤ t
     → ActFits n t a
 fits file c at w r d a n t s q e x h k =
     more-room (loadedOf file) n (totalOf file) t a h k (rw x (act-fits file c at w d s (sym q ∙ e)))
 
 -- the same in the loop of a pass, as its code asks it
 module _ (file : List ℕ) (c : Cursor) (at w : ℕ) (r : Next) (d : Cursor) (a : Act) (i : Reads file c at)
-    (q : r ≡ stepOf (totalOf file) (sizeOf file) c w) (e : r ≡ On d) (x : a ≡ actOf c at w) where
+    (q : r ≡ stepOf (totalOf file) (spaceOf file) c w) (e : r ≡ On d) (x : a ≡ actOf c at w) where
   pub reads-fits : (n t : ℕ) → loadedOf file ≤ n → totalOf file ≤ t → ActFits n t a
   reads-fits n t = fits file c at w r d a n t (i .fits) q e x
 
 pub act-room : (g : List ℕ → Act → List ℕ) (file m₀ m : List ℕ) (c : Cursor) (at w : ℕ) (r : Next) (d : Cursor)
     (a : Act) (t : ℕ)
-    → Passing g file m₀ m c at → r ≡ stepOf (totalOf file) (sizeOf file) c w → r ≡ On d → a ≡ actOf c at w
+    → Passing g file m₀ m c at → r ≡ stepOf (totalOf file) (spaceOf file) c w → r ≡ On d → a ≡ actOf c at w
     → loadedOf file ≤ length m₀ → totalOf file ≤ t → ActFits (length m) t a
 act-room g file m₀ m c at w r d a t i q e x h k =
     reads-fits file c at w r d a (i .reads) q e x (length m) t (omega (arith, i .long)) k
 
-place-low : (file : List ℕ) → HeaderFits file → (i : ℕ) → i ≤ totalOf file → placeOf (sizeOf file) i ≤ i * 262144
+place-low : (file : List ℕ) → HeaderFits file → (i : ℕ) → i ≤ totalOf file → placeOf (spaceOf file) i ≤ i * 262144
 unfolding placeOf
 place-low file s zero h = omega arith
-place-low file s (suc i) h = omega (arith, place-low file s i (omega arith), s .small i (omega arith))
+place-low file s (suc i) h = omega (arith, place-low file s i (omega arith), s .spaces i (omega arith) .size)
 
 loaded-low : (file : List ℕ) → HeaderFits file → loadedOf file ≤ 4294967296
 loaded-low file s = omega (arith, place-low file s (totalOf file) (omega arith), s .few)
 
 pub record-fits : (file : List ℕ) (c : Cursor) (at w : ℕ) (r : Next) (d : Cursor) (a : Act) → Reads file c at
-    → r ≡ stepOf (totalOf file) (sizeOf file) c w → r ≡ On d → a ≡ actOf c at w → HeaderFits file
+    → r ≡ stepOf (totalOf file) (spaceOf file) c w → r ≡ On d → a ≡ actOf c at w → HeaderFits file
     → ActFits 4294967296 (totalOf file) a
 record-fits file c at w r d a i q e x s =
     reads-fits file c at w r d a i q e x 4294967296 (totalOf file) (loaded-low file s) (omega arith)

@@ -23,7 +23,7 @@ use Rattle.program.specs.declared.reader.Mode.{Mode}
 use Rattle.program.specs.declared.reader.Mode.the-variants as mode
 use Rattle.program.specs.declared.reader.Next.{Next}
 use Rattle.program.specs.declared.reader.Next.the-variants.{On, Bad}
-use Rattle.program.specs.Header.{totalOf, sizeOf, startAt, heads}
+use Rattle.program.specs.Header.{totalOf, spaceOf, startAt, heads}
 use Rattle.program.specs.Reader.{start, stepOf}
 use Rattle.program.specs.Check.{endedOf, next, walk, wordsFrom, and, checkOf}
 use Rattle.program.specs.Cursors.{HeaderFits, CursorFits, ModeFits, placeOf}
@@ -47,12 +47,12 @@ record OfAllHunks (file : List ℕ) (t n : ℕ) : Type 0 where
   bytes : n ≡ loadedOf file
 
 module _ (file : List ℕ) (t n : ℕ) where
-  ended-all : (c : Cursor) (m : Mode) → c .place ≡ placeOf (sizeOf file) (c .hunk)
+  ended-all : (c : Cursor) (m : Mode) → c .place ≡ placeOf (spaceOf file) (c .hunk)
       → ModeFits (totalOf file) (c .hunk) (c .stored) m → endedOf (length file) c m ≡ Accepted t n
       → OfAllHunks file t n
   ended-all c mode.End p h e =
       let q = same-numbers (c .hunk) (c .place) t n e in
-      record { hunks = sym (q .0) ∙ h; bytes = sym (q .1) ∙ p ∙ ap (placeOf (sizeOf file)) h }
+      record { hunks = sym (q .0) ∙ h; bytes = sym (q .1) ∙ p ∙ ap (placeOf (spaceOf file)) h }
   ended-all c mode.Begin p h e = not-accepted e
   ended-all c mode.NameLength p h e = not-accepted e
   ended-all c mode.Body p h e = not-accepted e
@@ -67,17 +67,17 @@ module _ (file : List ℕ) (t n : ℕ) where
   ended-all c (mode.Skip x a) p h e = not-accepted e
 
   walk-all : (at : ℕ) (c : Cursor) (ws : List ℕ) → CursorFits file c
-      → walk (totalOf file) (sizeOf file) (length file) at c ws ≡ Accepted t n → OfAllHunks file t n
+      → walk (totalOf file) (spaceOf file) (length file) at c ws ≡ Accepted t n → OfAllHunks file t n
   unfolding walk
   walk-all at c [] s e = ended-all c (c .mode) (s .place) (s .mode) e
   walk-all at c (w ∷ ws) s e =
-      go (stepOf (totalOf file) (sizeOf file) c w) refl e
+      go (stepOf (totalOf file) (spaceOf file) c w) refl e
       (λ d x y. walk-all (at + 4) d ws (step-fits file c w d s x) y)
     where
-      go : (r : Next) → stepOf (totalOf file) (sizeOf file) c w ≡ r
-          → next r at (λ d. walk (totalOf file) (sizeOf file) (length file) (at + 4) d ws) ≡ Accepted t n
-          → ((d : Cursor) → stepOf (totalOf file) (sizeOf file) c w ≡ On d
-          → walk (totalOf file) (sizeOf file) (length file) (at + 4) d ws ≡ Accepted t n → OfAllHunks file t n)
+      go : (r : Next) → stepOf (totalOf file) (spaceOf file) c w ≡ r
+          → next r at (λ d. walk (totalOf file) (spaceOf file) (length file) (at + 4) d ws) ≡ Accepted t n
+          → ((d : Cursor) → stepOf (totalOf file) (spaceOf file) c w ≡ On d
+          → walk (totalOf file) (spaceOf file) (length file) (at + 4) d ws ≡ Accepted t n → OfAllHunks file t n)
           → OfAllHunks file t n
       go (On d) x y f = f d x y
       go (Bad v) x y f = not-accepted y

@@ -11,7 +11,7 @@ use Rattle.program.specs.declared.act.Act.the-variants.{Quiet, Body, Store, Add
 use Rattle.program.specs.declared.reader.Cursor.{Cursor}
 use Rattle.program.specs.declared.reader.Next.{Next}
 use Rattle.program.specs.declared.reader.Next.the-variants.{On, Bad}
-use Rattle.program.specs.Header.{totalOf, sizeOf, startAt}
+use Rattle.program.specs.Header.{totalOf, spaceOf, startAt}
 use Rattle.program.specs.Reader.{start, stepOf}
 use Rattle.program.specs.Check.{wordsFrom}
 use Rattle.program.specs.Acts.{actOf, then, acts, actsOf, pass}
@@ -29,17 +29,17 @@ Inside n t (a ∷ us) = ActFits n t a × Inside n t us
 
 module _ (file : List ℕ) where
   inside : (at : ℕ) (c : Cursor) (ws : List ℕ) → CursorFits file c
-      → Inside (loadedOf file) (totalOf file) (acts (totalOf file) (sizeOf file) at c ws)
+      → Inside (loadedOf file) (totalOf file) (acts (totalOf file) (spaceOf file) at c ws)
   unfolding acts
   inside at c [] s = tt
   inside at c (w ∷ ws) s =
-      go (stepOf (totalOf file) (sizeOf file) c w) refl (λ d e. inside (at + 4) d ws (step-fits file c w d s e))
+      go (stepOf (totalOf file) (spaceOf file) c w) refl (λ d e. inside (at + 4) d ws (step-fits file c w d s e))
     where
-      go : (r : Next) → stepOf (totalOf file) (sizeOf file) c w ≡ r
-          → ((d : Cursor) → stepOf (totalOf file) (sizeOf file) c w ≡ On d
-          → Inside (loadedOf file) (totalOf file) (acts (totalOf file) (sizeOf file) (at + 4) d ws))
+      go : (r : Next) → stepOf (totalOf file) (spaceOf file) c w ≡ r
+          → ((d : Cursor) → stepOf (totalOf file) (spaceOf file) c w ≡ On d
+          → Inside (loadedOf file) (totalOf file) (acts (totalOf file) (spaceOf file) (at + 4) d ws))
           → Inside (loadedOf file) (totalOf file)
-          (then r (actOf c at w) (λ d. acts (totalOf file) (sizeOf file) (at + 4) d ws))
+          (then r (actOf c at w) (λ d. acts (totalOf file) (spaceOf file) (at + 4) d ws))
       go (On d) e f = (act-fits file c at w d s e, f d e)
       go (Bad v) e f = tt
 

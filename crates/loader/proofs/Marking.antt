@@ -27,7 +27,7 @@ use Rattle.program.specs.declared.reader.Mode.{Mode}
 use Rattle.program.specs.declared.reader.Mode.the-variants as mode
 use Rattle.program.specs.declared.reader.Next.{Next}
 use Rattle.program.specs.declared.reader.Next.the-variants.{On, Bad}
-use Rattle.program.specs.Header.{totalOf, sizeOf}
+use Rattle.program.specs.Header.{totalOf, spaceOf}
 use Rattle.program.specs.Reader.{start, stepOf}
 use Rattle.program.specs.Acts.{asks, actOf, actsFrom}
 use Rattle.program.specs.Cursors.{HeaderFits}
@@ -293,7 +293,7 @@ module _ (file work₀ work : List ℕ) (c : Cursor) (at : ℕ) (i : Clashes fil
   mark-long a b n k = length-mark work n a b k ∙ i .long
 
   module _ (w : ℕ) (r : Next) (l : at < length file) (p : w ≡ wordAt file at)
-      (q : r ≡ stepOf (totalOf file) (sizeOf file) c w) where
+      (q : r ≡ stepOf (totalOf file) (spaceOf file) c w) where
     pub clash-bad : (v : ℕ) → r ≡ Bad v → Passed ≡ clashOf file
     unfolding clash targets
     clash-bad v e =

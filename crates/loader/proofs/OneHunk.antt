@@ -135,14 +135,14 @@ module _ (file : List ℕ) (places sizes : ℕ → ℕ) where
       let rest : List ℕ = joined hunkWords hs in
       let o : i + 0 ≡ i = omega arith in
       let ep : places i ≡ p = omega (arith, rw o at (g 0)) in
-      let es : sizes i ≡ h .size = rw o at (z 0) in
+      let es : sizes i ≡ h .space .size = rw o at (z 0) in
       let en : n ≤ sizes i = omega (arith, es, stored-fit (h .body), f .0 .body) in
       let q : hunkWords h ++ rest ≡ front ++ (parts ++ (type.end ∷ rest)) = simp append-assoc in
       let s = split file (hunkWords h) rest at m e in
       let u = split file front (parts ++ (type.end ∷ rest)) at m (e ∙ q) in
-      each-append Stands (hunkAt i p at h) (hunksAt (i + 1) (p + 4 * h .size) (at + 4 * length (hunkWords h)) hs)
+      each-append Stands (hunkAt i p at h) (hunksAt (i + 1) (p + 4 * h .space .size) (at + 4 * length (hunkWords h)) hs)
       (parts-stand t n i p ep en (h .parts) (type.end ∷ rest) _ _ (f .0 .parts) (u .others))
-      (hunks-stand t hs (i + 1) (p + 4 * h .size) _ _ (f .1)
+      (hunks-stand t hs (i + 1) (p + 4 * h .space .size) _ _ (f .1)
       (λ k. let y : i + suc k ≡ i + 1 + k = omega arith in omega (arith, rw y at (g (suc k))))
       (λ k. let y : i + suc k ≡ i + 1 + k = omega arith in rw y at (z (suc k)))
       (s .others))

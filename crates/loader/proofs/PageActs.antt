@@ -25,11 +25,13 @@ use Rattle.program.specs.Page.{Name, Body, Group, Symbol, Part, Hunk, none, nam
 use Rattle.program.specs.Page.{symbols, debug, joined, nameWords, bodyWords, groupWords, symbolWords, partWords}
 use Rattle.program.specs.Page.{hunkWords, written, Each, bodyCount, storedWords, OffsetFits, GroupFits, SymbolFits}
 use Rattle.program.specs.Page.{PartFits, HunkFits, Program}
-use Rattle.program.specs.Header.{totalOf, sizeOf, startAt}
+use Rattle.program.specs.Spaces.{Space}
+use Rattle.program.specs.Header.{totalOf, spaceOf, startAt}
 use Rattle.program.specs.Reader.{resume, skip, storedFrom, turn, stepOf}
 use Rattle.program.specs.Acts.{asks, actOf, then, acts, actsOf}
-use Rattle.program.proofs.Taken.{cursor, Sized, sized-le}
-use Rattle.program.proofs.Pages.{is-total, all-sized, rest-words}
+use Rattle.program.proofs.Spaces.{size-same}
+use Rattle.program.proofs.Taken.{cursor, AllSpaces, spaces-le}
+use Rattle.program.proofs.Pages.{is-total, all-spaces, rest-words}
 use Rattle.loader.specs.Pages.{PageTarget, kindOf, offsetsAt, groupsAt, partsAt, hunkAt}
 
 -- ---- acts without the quiet ones
@@ -63,7 +65,8 @@ hunkActs h p at x l = act.Body h p (kindOf (x .body)) ∷ storing p 0 (storedWor
 -- hunks from number h on, the first of them at byte p, from byte `at` of the file on
 abbrev pub pageActs : ℕ → ℕ → ℕ → List Hunk → List Act
 pageActs h p at [] = []
-pageActs h p at (x ∷ xs) = hunkActs h p at x (pageActs (h + 1) (p + 4 * x .size) (at + 4 * length (hunkWords x)) xs)
+pageActs h p at (x ∷ xs) =
+    hunkActs h p at x (pageActs (h + 1) (p + 4 * x .space .size) (at + 4 * length (hunkWords x)) xs)
 
 adding-append : (xs ys : List PageTarget) (l : List Act) → adding (xs ++ ys) l ≡ adding xs (adding ys l)
 adding-append [] ys l = refl
@@ -72,24 +75,24 @@ adding-append (x ∷ xs) ys l =
 
 -- ---- the reader, piece by piece: a piece stands at byte `at`, and what follows it at byte `to`
 
-module _ (t : ℕ) (size : ℕ → ℕ) where
+module _ (t : ℕ) (space : ℕ → Space) where
   abbrev Gives : Cursor → ℕ → List ℕ → List Act → Type 0
-  Gives c at ws l = plain (acts t size at c ws) ≡ l
+  Gives c at ws l = plain (acts t space at c ws) ≡ l
 
   abbrev Goes : Next → ℕ → List ℕ → List Act → Type 0
   Goes (On d) at ws l = Gives d at ws l
   Goes (Bad v) at ws l = ⊥
 
   goes : (r : Next) (at : ℕ) (ws : List ℕ) (a : Act) (l : List Act) → Goes r (at + 4) ws l
-      → plain (then r a (λ d. acts t size (at + 4) d ws)) ≡ plain1 a l
+      → plain (then r a (λ d. acts t space (at + 4) d ws)) ≡ plain1 a l
   unfolding plain
   goes (On d) at ws a l g = ap (plain1 a) g
   goes (Bad v) at ws a l g = absurd g
 
-  step : (c : Cursor) (w at : ℕ) (ws : List ℕ) (l : List Act) → Goes (turn t size c w (c .mode)) (at + 4) ws l
-      → plain (acts t size at c (w ∷ ws)) ≡ plain1 (asks c at w (c .mode)) l
+  step : (c : Cursor) (w at : ℕ) (ws : List ℕ) (l : List Act) → Goes (turn t space c w (c .mode)) (at + 4) ws l
+      → plain (acts t space at c (w ∷ ws)) ≡ plain1 (asks c at w (c .mode)) l
   unfolding acts stepOf actOf
-  step c w at ws l g = goes (stepOf t size c w) at ws (actOf c at w) l g
+  step c w at ws l g = goes (stepOf t space c w) at ws (actOf c at w) l g
 
   module _ (h p s : ℕ) where
     abbrev Here : Mode → ℕ → List ℕ → List Act → Type 0
@@ -247,19 +250,19 @@ module _ (t : ℕ) (size : ℕ → ℕ) where
         (stored-on h p (suc (length us)) rest us u 0 at to l e (omega arith) g)
 
     body-on : (b : Body) (s : ℕ) (rest : List ℕ) (at to : ℕ) (l : List Act) → at + 4 * length (bodyWords b) ≡ to
-        → bodyCount b ≤ size h → Gives (cursor mode.Part h p (length (storedWords b))) to rest l
+        → bodyCount b ≤ space h .size → Gives (cursor mode.Part h p (length (storedWords b))) to rest l
         → Gives (cursor mode.Body h p s) at (bodyWords b ++ rest)
         (act.Body h p (kindOf b) ∷ storing p 0 (storedWords b) l)
     unfolding pick
     body-on (code ws) s rest at to l e k g =
         step _ _ at _ _ (step _ _ (at + 4) _ _
-        (rw (le-ltb (size h) (length ws) k) (all-stored mode.Part rest ws (at + 4 + 4) to l (omega arith) g)))
+        (rw (le-ltb (space h .size) (length ws) k) (all-stored mode.Part rest ws (at + 4 + 4) to l (omega arith) g)))
     body-on (stores ws) s rest at to l e k g =
         step _ _ at _ _ (step _ _ (at + 4) _ _
-        (rw (le-ltb (size h) (length ws) k) (all-stored mode.Part rest ws (at + 4 + 4) to l (omega arith) g)))
+        (rw (le-ltb (space h .size) (length ws) k) (all-stored mode.Part rest ws (at + 4 + 4) to l (omega arith) g)))
     body-on (bss m) s rest at to l e k g =
         let q : at + 4 + 4 ≡ to = omega arith in
-        step _ _ at _ _ (step _ _ (at + 4) _ _ (rw (le-ltb (size h) m k, q) g))
+        step _ _ at _ _ (step _ _ (at + 4) _ _ (rw (le-ltb (space h .size) m k, q) g))
 
     -- no name
     begin-body : (s w at : ℕ) (ws : List ℕ) (l : List Act) → eqb w type.name ≡ false
@@ -268,7 +271,7 @@ module _ (t : ℕ) (size : ℕ → ℕ) where
     begin-body s w at ws l e g = rw e g
 
     begin-on : (x : Name) (b : Body) (s : ℕ) (rest : List ℕ) (at to : ℕ) (l : List Act)
-        → at + 4 * length (nameWords x ++ bodyWords b) ≡ to → bodyCount b ≤ size h
+        → at + 4 * length (nameWords x ++ bodyWords b) ≡ to → bodyCount b ≤ space h .size
         → Gives (cursor mode.Part h p (length (storedWords b))) to rest l
         → Gives (cursor mode.Begin h p s) at (nameWords x ++ (bodyWords b ++ rest))
         (act.Body h p (kindOf b) ∷ storing p 0 (storedWords b) l)
@@ -295,13 +298,13 @@ module _ (t : ℕ) (size : ℕ → ℕ) where
       (joined partWords (x .parts)) + 1
   hunk-length x = simp length-append (omega arith)
 
-  hunk-on : (h p : ℕ) (x : Hunk) (rest : List ℕ) (at : ℕ) (l : List Act) → x .size ≡ size h → HunkFits t x
-      → Front (h + 1) (p + 4 * size h) (at + 4 * length (hunkWords x)) rest l
+  hunk-on : (h p : ℕ) (x : Hunk) (rest : List ℕ) (at : ℕ) (l : List Act) → x .space ≡ space h → HunkFits t x
+      → Front (h + 1) (p + 4 * space h .size) (at + 4 * length (hunkWords x)) rest l
       → Gives (cursor mode.Begin h p 0) at (hunkWords x ++ rest) (hunkActs h p at x l)
   unfolding pick
   hunk-on h p x rest at l e f g =
       let n : ℕ = length (storedWords (x .body)) in
-      let k : bodyCount (x .body) ≤ size h = omega (arith, f .body) in
+      let k : bodyCount (x .body) ≤ space h .size = omega (arith, size-same e, f .body) in
       let mid : ℕ = at + 4 * length (nameWords (x .name) ++ bodyWords (x .body)) in
       let end : ℕ = mid + 4 * length (joined partWords (x .parts)) in
       let q : end + 4 ≡ at + 4 * length (hunkWords x) = omega (arith, hunk-length x) in
@@ -309,14 +312,15 @@ module _ (t : ℕ) (size : ℕ → ℕ) where
       simp append-assoc (begin-on h p (x .name) (x .body) 0 (joined partWords (x .parts) ++ (type.end ∷ rest)) at mid
       _ refl k y)
 
-  hunks-on : (hs : List Hunk) (h p at : ℕ) → Sized t size h hs → Front h p at (joined hunkWords hs) (pageActs h p at hs)
+  hunks-on : (hs : List Hunk) (h p at : ℕ) → AllSpaces t space h hs
+      → Front h p at (joined hunkWords hs) (pageActs h p at hs)
   unfolding pick acts plain
   hunks-on [] h p at f = refl
   hunks-on (x ∷ xs) h p at f =
-      let k = sized-le t size (h + 1) xs (f .2) in
+      let k = spaces-le t space (h + 1) xs (f .2) in
       rw (ne-eqb h t (omega arith), f .0)
       (hunk-on h p x (joined hunkWords xs) at _ (f .0) (f .1)
-      (hunks-on xs (h + 1) (p + 4 * size h) (at + 4 * length (hunkWords x)) (f .2)))
+      (hunks-on xs (h + 1) (p + 4 * space h .size) (at + 4 * length (hunkWords x)) (f .2)))
 
 -- what such a file asks for
 pub page-acts : (file : List ℕ) (hs : List Hunk) → Program hs → length file % 4 ≡ 0
@@ -324,6 +328,6 @@ pub page-acts : (file : List ℕ) (hs : List Hunk) → Program hs → length fil
 unfolding pick
 page-acts file hs p whole e =
     let l : 0 ≡ totalOf file → ⊥ = λ z. omega (arith, is-total file hs p whole e, p .least) in
-    let g = hunks-on (totalOf file) (sizeOf file) hs 0 0 (startAt file) (all-sized file hs p whole e) in
+    let g = hunks-on (totalOf file) (spaceOf file) hs 0 0 (startAt file) (all-spaces file hs p whole e) in
     let q : startAt file ≡ 20 + 4 * length hs = omega (arith, is-total file hs p whole e) in
     rw (rest-words file hs p whole e) (rw (ne-eqb 0 (totalOf file) l) at g) ∙ ap (λ (k : ℕ). pageActs 0 0 k hs) q

@@ -10,9 +10,11 @@ use Rattle.answers.specs.Refusals.{refusal}
 use Rattle.answers.specs.declared.Refusal.{Refusal}
 use Rattle.answers.specs.declared.Tested.the-variants.{Passed, Failed}
 use Rattle.program.specs.Page.{Hunk, Holds}
-use Rattle.program.specs.Header.{totalOf, sizeOf}
-use Rattle.program.proofs.Taken.{Sized}
-use Rattle.program.proofs.Pages.{is-total, all-sized}
+use Rattle.program.specs.Spaces.{Space}
+use Rattle.program.specs.Header.{totalOf, spaceOf, sizeOf}
+use Rattle.program.proofs.Taken.{AllSpaces}
+use Rattle.program.proofs.Spaces.{size-same}
+use Rattle.program.proofs.Pages.{is-total, all-spaces}
 use Rattle.loader.specs.Bases.{basesFault}
 use Rattle.loader.specs.Pages.{sizeAt}
 use Rattle.loader.specs.Verdicts.{Shared, GoodEntry, BadEntry, GoodBases, BadBases}
@@ -41,13 +43,14 @@ module _ (size other : ℕ → ℕ) (bases : List ℕ) (i : ℕ) (same : (k : �
   same-bad (inr (inr (j, l, s))) =
       inr (inr (j, l, same-shared size other bases i j (same i (omega arith)) (same j (omega arith)) s))
 
-sized-at : (t : ℕ) (size : ℕ → ℕ) (hs : List Hunk) (h i : ℕ) → Sized t size h hs → i < length hs
-    → size (h + i) ≡ sizeAt hs i
-sized-at t size [] h i f l = absurd (omega arith)
-sized-at t size (x ∷ xs) h zero f l = let z : h + 0 ≡ h = omega arith in ap size z ∙ sym (f .0)
-sized-at t size (x ∷ xs) h (suc i) f l =
+sized-at : (t : ℕ) (space : ℕ → Space) (hs : List Hunk) (h i : ℕ) → AllSpaces t space h hs → i < length hs
+    → space (h + i) .size ≡ sizeAt hs i
+sized-at t space [] h i f l = absurd (omega arith)
+sized-at t space (x ∷ xs) h zero f l =
+    let z : h + 0 ≡ h = omega arith in size-same (ap space z ∙ sym (f .0))
+sized-at t space (x ∷ xs) h (suc i) f l =
     let z : h + suc i ≡ h + 1 + i = omega arith in
-    ap size z ∙ sized-at t size xs (h + 1) i (f .2) (omega arith)
+    size-same (ap space z) ∙ sized-at t space xs (h + 1) i (f .2) (omega arith)
 
 -- ---- of a file that holds hunks
 
@@ -59,8 +62,8 @@ module _ (file : List ℕ) (hs : List Hunk) (held : Holds file hs) where
   pub held-size : (i : ℕ) → i < length hs → sizeOf file i ≡ sizeAt hs i
   held-size i l =
       let z : 0 + i ≡ i = omega arith in
-      ap (sizeOf file) (sym z) ∙ sized-at (totalOf file) (sizeOf file) hs 0 i
-      (all-sized file hs (held .fits) (held .whole) (held .words)) l
+      ap (sizeOf file) (sym z) ∙ sized-at (totalOf file) (spaceOf file) hs 0 i
+      (all-spaces file hs (held .fits) (held .whole) (held .words)) l
 
   module _ (bases : List ℕ) where
     page-good : (i : ℕ) → i < length hs → GoodEntry (sizeOf file) bases i ↔ GoodEntry (sizeAt hs) bases i

@@ -13,11 +13,13 @@ use Rattle.program.specs.declared.act.Act.the-variants.{Quiet, Body, Store, Add
 use Rattle.program.specs.Page.{Hunk, code, stores, bss, joined, hunkWords, written, Each, bodyCount, storedWords}
 use Rattle.program.specs.Page.{HunkFits, Program, total}
 use Rattle.program.specs.Page as page
-use Rattle.program.specs.Header.{totalOf, sizeOf}
+use Rattle.program.specs.Spaces.{Space}
+use Rattle.program.specs.Header.{totalOf, spaceOf, sizeOf}
 use Rattle.program.specs.Acts.{actsOf, pass}
 use Rattle.program.specs.Cursors.{placeOf}
-use Rattle.program.proofs.Taken.{Sized}
-use Rattle.program.proofs.Pages.{is-total, all-sized}
+use Rattle.program.proofs.Taken.{AllSpaces}
+use Rattle.program.proofs.Spaces.{size-same}
+use Rattle.program.proofs.Pages.{is-total, all-spaces}
 use Rattle.loader.specs.Memory.{loadedOf, storeOne, withStored, targets, targetsOf, amountOf, bodiesOf, loadOf}
 use Rattle.loader.specs.Memory.{moved, moveOf}
 use Rattle.loader.specs.Table.{recordOne, withRecords, recordsOf}
@@ -81,27 +83,29 @@ zeros-three a b c n more e =
 -- ---- records
 
 module _ (file bases : List ℕ) (t : ℕ) where
-  records-on : (hs : List Hunk) (h p at : ℕ) (done more : List ℕ) → Sized t (sizeOf file) h hs → length done ≡ 4 * h
+  records-on : (hs : List Hunk) (h p at : ℕ) (done more : List ℕ) → AllSpaces t (spaceOf file) h hs
+      → length done ≡ 4 * h
       → withRecords file bases (done ++ (replicate (4 * length hs) 0 ++ more)) (pageActs h p at hs) ≡ done
       ++ (recordNumbers p h hs bases ++ more)
   unfolding pass
   records-on [] h p at done more f e = refl
   records-on (x ∷ xs) h p at done more f e =
-      let four : List ℕ = kindOf (x .body) ∷ p ∷ x .size ∷ amountOf bases h ∷ [] in
+      let four : List ℕ = kindOf (x .body) ∷ p ∷ x .space .size ∷ amountOf bases h ∷ [] in
       let k : length (done ++ four) ≡ 4 * (h + 1) = omega (arith, length-append done four) in
       let more′ : List ℕ = replicate (4 * length xs) 0 ++ more in
-      let q : List Act = pageActs (h + 1) (p + 4 * x .size) (at + 4 * length (hunkWords x)) xs in
-      let r = records-on xs (h + 1) (p + 4 * x .size) (at + 4 * length (hunkWords x)) (done ++ four) more (f .2) k in
+      let q : List Act = pageActs (h + 1) (p + 4 * x .space .size) (at + 4 * length (hunkWords x)) xs in
+      let r =
+      records-on xs (h + 1) (p + 4 * x .space .size) (at + 4 * length (hunkWords x)) (done ++ four) more (f .2) k in
       ap (λ (u : List ℕ). withRecords file bases (done ++ u) (pageActs h p at (x ∷ xs))) (four-more (length xs) more)
       ∙ pass-storing (recordOne file bases) (λ u a b. refl) _ p 0 (storedWords (x .body)) (adding (hunkAt h p at x) q)
       ∙ pass-adding (recordOne file bases) (λ u a b c. refl) _ (hunkAt h p at x) q
       ∙ ap (λ (u : List ℕ). withRecords file bases u q)
       (four-at done more′ 0 0 0 0 (kindOf (x .body)) p (sizeOf file h) (amountOf bases h) (4 * h) e)
-      ∙ rw (← f .0) (rw (append-assoc done four more′, append-assoc done four) at r)
+      ∙ rw (← size-same (f .0)) (rw (append-assoc done four more′, append-assoc done four) at r)
 
 pub length-numbers : (p i : ℕ) (hs : List Hunk) (bases : List ℕ) → length (recordNumbers p i hs bases) ≡ 4 * length hs
 length-numbers p i [] bases = refl
-length-numbers p i (x ∷ xs) bases = omega (arith, length-numbers (p + 4 * x .size) (i + 1) xs bases)
+length-numbers p i (x ∷ xs) bases = omega (arith, length-numbers (p + 4 * x .space .size) (i + 1) xs bases)
 
 -- ---- memory
 
@@ -127,10 +131,10 @@ stored-fit (code ws) = omega arith
 stored-fit (stores ws) = omega arith
 stored-fit (bss n) = omega arith
 
-length-hunk : (t : ℕ) (x : Hunk) → HunkFits t x → length (hunkBytes x) ≡ 4 * x .size
+length-hunk : (t : ℕ) (x : Hunk) → HunkFits t x → length (hunkBytes x) ≡ 4 * x .space .size
 length-hunk t x f =
     let ws : List ℕ = storedWords (x .body) in
-    let n : ℕ = 4 * (x .size - length ws) in
+    let n : ℕ = 4 * (x .space .size - length ws) in
     omega (
       arith,
       stored-fit (x .body),
@@ -145,24 +149,24 @@ length-image t [] f = refl
 length-image t (x ∷ xs) f =
     omega (arith, length-append (hunkBytes x) (imageOf xs), length-hunk t x (f .0), length-image t xs (f .1))
 
-bodies-on : (t : ℕ) (size : ℕ → ℕ) (hs : List Hunk) (h p at : ℕ) (done more : List ℕ) → Sized t size h hs
+bodies-on : (t : ℕ) (space : ℕ → Space) (hs : List Hunk) (h p at : ℕ) (done more : List ℕ) → AllSpaces t space h hs
     → length done ≡ p
     → withStored (done ++ (replicate (4 * total hs) 0 ++ more)) (pageActs h p at hs) ≡ done ++ (imageOf hs ++ more)
 unfolding pass
-bodies-on t size [] h p at done more f e = refl
-bodies-on t size (x ∷ xs) h p at done more f e =
+bodies-on t space [] h p at done more f e = refl
+bodies-on t space (x ∷ xs) h p at done more f e =
     let ws : List ℕ = storedWords (x .body) in
-    let b : ℕ = x .size - length ws in
-    let q : List Act = pageActs (h + 1) (p + 4 * x .size) (at + 4 * length (hunkWords x)) xs in
+    let b : ℕ = x .space .size - length ws in
+    let q : List Act = pageActs (h + 1) (p + 4 * x .space .size) (at + 4 * length (hunkWords x)) xs in
     let more′ : List ℕ = replicate (4 * total xs) 0 ++ more in
     let fit = stored-fit (x .body) in
     let room = f .1 .body in
-    let z : 4 * (x .size + total xs) ≡ 4 * length ws + (4 * b + 4 * total xs) = omega arith in
+    let z : 4 * (x .space .size + total xs) ≡ 4 * length ws + (4 * b + 4 * total xs) = omega arith in
     let a : length done ≡ p + 4 * 0 = omega arith in
-    let k : length (done ++ hunkBytes x) ≡ p + 4 * x .size =
+    let k : length (done ++ hunkBytes x) ≡ p + 4 * x .space .size =
     omega (arith, length-append done (hunkBytes x), length-hunk t x (f .1)) in
     let r =
-    bodies-on t size xs (h + 1) (p + 4 * x .size) (at + 4 * length (hunkWords x)) (done ++ hunkBytes x) more
+    bodies-on t space xs (h + 1) (p + 4 * x .space .size) (at + 4 * length (hunkWords x)) (done ++ hunkBytes x) more
     (f .2) k in
     ap (λ (u : List ℕ). withStored (done ++ u) (pageActs h p at (x ∷ xs)))
     (zeros-three (4 * length ws) (4 * b) (4 * total xs) _ more z)
@@ -170,14 +174,14 @@ bodies-on t size (x ∷ xs) h p at done more f e =
     ∙ pass-adding storeOne (λ u c d b. refl) _ (hunkAt h p at x) q
     ∙ simp append-assoc (simp append-assoc at r)
 
-place-total : (t : ℕ) (size : ℕ → ℕ) (hs : List Hunk) (h : ℕ) → Sized t size h hs
-    → placeOf size t ≡ placeOf size h + 4 * total hs
+place-total : (t : ℕ) (space : ℕ → Space) (hs : List Hunk) (h : ℕ) → AllSpaces t space h hs
+    → placeOf space t ≡ placeOf space h + 4 * total hs
 unfolding placeOf
-place-total t size [] h f = let e : h ≡ t = f in ap (placeOf size) (sym e) ∙ omega arith
-place-total t size (x ∷ xs) h f =
+place-total t space [] h f = let e : h ≡ t = f in ap (placeOf space) (sym e) ∙ omega arith
+place-total t space (x ∷ xs) h f =
     let q : h + 1 ≡ suc h = omega arith in
-    let r : placeOf size (h + 1) ≡ placeOf size h + 4 * size h = ap (placeOf size) q in
-    omega (arith, place-total t size xs (h + 1) (f .2), r, f .0)
+    let r : placeOf space (h + 1) ≡ placeOf space h + 4 * space h .size = ap (placeOf space) q in
+    omega (arith, place-total t space xs (h + 1) (f .2), r, size-same (f .0))
 
 -- ---- targets
 
@@ -205,11 +209,11 @@ unfolding targets
 targets-page h p at [] = refl
 targets-page h p at (x ∷ xs) =
     let to : ℕ = at + 4 * length (hunkWords x) in
-    let q : List Act = pageActs (h + 1) (p + 4 * x .size) to xs in
+    let q : List Act = pageActs (h + 1) (p + 4 * x .space .size) to xs in
     targets-storing p 0 (storedWords (x .body)) (adding (hunkAt h p at x) q)
     ∙ targets-adding (hunkAt h p at x) q
-    ∙ ap (λ (u : List Target). map bare (hunkAt h p at x) ++ u) (targets-page (h + 1) (p + 4 * x .size) to xs)
-    ∙ sym (map-append bare (hunkAt h p at x) (hunksAt (h + 1) (p + 4 * x .size) to xs))
+    ∙ ap (λ (u : List Target). map bare (hunkAt h p at x) ++ u) (targets-page (h + 1) (p + 4 * x .space .size) to xs)
+    ∙ sym (map-append bare (hunkAt h p at x) (hunksAt (h + 1) (p + 4 * x .space .size) to xs))
 
 -- ---- of a file
 
@@ -218,7 +222,7 @@ module _ (file : List ℕ) (hs : List Hunk) (pr : Program hs) (whole : length fi
   -- the bytes that the hunks take
   pub page-loaded : loadedOf file ≡ 4 * total hs
   unfolding placeOf
-  page-loaded = omega (arith, place-total (totalOf file) (sizeOf file) hs 0 (all-sized file hs pr whole e))
+  page-loaded = omega (arith, place-total (totalOf file) (spaceOf file) hs 0 (all-spaces file hs pr whole e))
 
   records-room : (bases : List ℕ) (n : ℕ) → 4 * length hs ≤ n
       → take (4 * totalOf file) (withRecords file bases (replicate n 0) (actsOf file)) ≡ recordNumbers 0 0 hs bases
@@ -233,7 +237,7 @@ module _ (file : List ℕ) (hs : List Hunk) (pr : Program hs) (whole : length fi
       (pass-plain (recordOne file bases) (λ t. refl) (replicate n 0) (actsOf file)
       ∙ ap (withRecords file bases (replicate n 0)) (page-acts file hs pr whole e)
       ∙ ap (λ (t : List ℕ). withRecords file bases t (pageActs 0 0 (20 + 4 * length hs) hs)) u
-      ∙ records-on file bases (totalOf file) hs 0 0 _ [] (replicate (n - k) 0) (all-sized file hs pr whole e) refl)
+      ∙ records-on file bases (totalOf file) hs 0 0 _ [] (replicate (n - k) 0) (all-spaces file hs pr whole e) refl)
       ∙ take-at (recordNumbers 0 0 hs bases) (replicate (n - k) 0) (4 * totalOf file) q
 
   -- the records
@@ -247,7 +251,8 @@ module _ (file : List ℕ) (hs : List Hunk) (pr : Program hs) (whole : length fi
       rw page-loaded
       (pass-plain storeOne (λ u. refl) _ (actsOf file)
       ∙ ap (withStored (replicate (4 * total hs) 0 ++ drop (4 * total hs) m)) (page-acts file hs pr whole e)
-      ∙ bodies-on (totalOf file) (sizeOf file) hs 0 0 _ [] (drop (4 * total hs) m) (all-sized file hs pr whole e) refl)
+      ∙ bodies-on (totalOf file) (spaceOf file) hs 0 0 _ [] (drop (4 * total hs) m) (all-spaces file hs pr whole e)
+      refl)
 
   -- loaded memory
   pub page-load : (bases m : List ℕ)

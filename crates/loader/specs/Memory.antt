@@ -7,13 +7,13 @@ use Rattle.words.specs.Word.{setWord, addAt}
 use Rattle.words.specs.Shift.{Target, shiftAll}
 use Rattle.program.specs.declared.act.Act.{Act}
 use Rattle.program.specs.declared.act.Act.the-variants.{Quiet, Body, Store, Add}
-use Rattle.program.specs.Header.{totalOf, sizeOf}
+use Rattle.program.specs.Header.{totalOf, spaceOf}
 use Rattle.program.specs.Acts.{actsOf, pass}
 use Rattle.program.specs.Cursors.{placeOf}
 
 -- the bytes that the hunks take
 abbrev pub loadedOf : List ℕ → ℕ
-loadedOf file = placeOf (sizeOf file) (totalOf file)
+loadedOf file = placeOf (spaceOf file) (totalOf file)
 
 -- memory with the word of an act stored, and of all acts
 abbrev pub storeOne : List ℕ → Act → List ℕ

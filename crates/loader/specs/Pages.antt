@@ -23,7 +23,7 @@ kindOf (bss n) = type.bss
 abbrev pub recordNumbers : ℕ → ℕ → List Hunk → List ℕ → List ℕ
 recordNumbers p i [] bases = []
 recordNumbers p i (h ∷ hs) bases =
-    kindOf (h .body) ∷ p ∷ h .size ∷ amountOf bases i ∷ recordNumbers (p + 4 * h .size) (i + 1) hs bases
+    kindOf (h .body) ∷ p ∷ h .space .size ∷ amountOf bases i ∷ recordNumbers (p + 4 * h .space .size) (i + 1) hs bases
 
 -- ---- memory, with no amount added yet
 
@@ -33,7 +33,9 @@ wordBytes w = w / 16777216 % 256 ∷ w / 65536 % 256 ∷ w / 256 % 256 ∷ w % 2
 
 -- the stored words, and zeros up to the size
 abbrev pub hunkBytes : Hunk → List ℕ
-hunkBytes h = joined wordBytes (storedWords (h .body)) ++ replicate (4 * (h .size - length (storedWords (h .body)))) 0
+hunkBytes h =
+    joined wordBytes (storedWords (h .body))
+    ++ replicate (4 * (h .space .size - length (storedWords (h .body)))) 0
 
 abbrev pub imageOf : List Hunk → List ℕ
 imageOf hs = joined hunkBytes hs
@@ -75,9 +77,10 @@ hunkAt i p at h = partsAt i p (at + 4 * length (nameWords (h .name) ++ bodyWords
 -- of hunks from number i on, the first at byte p of memory and at byte `at` of the file
 abbrev pub hunksAt : ℕ → ℕ → ℕ → List Hunk → List PageTarget
 hunksAt i p at [] = []
-hunksAt i p at (h ∷ hs) = hunkAt i p at h ++ hunksAt (i + 1) (p + 4 * h .size) (at + 4 * length (hunkWords h)) hs
+hunksAt i p at (h ∷ hs) =
+    hunkAt i p at h ++ hunksAt (i + 1) (p + 4 * h .space .size) (at + 4 * length (hunkWords h)) hs
 
--- all targets in file order: the hunks follow five words and a size for each
+-- all targets in file order: the hunks follow five words and a space for each
 abbrev pub fileTargets : List Hunk → List PageTarget
 fileTargets hs = hunksAt 0 0 (20 + 4 * length hs) hs
 
@@ -88,7 +91,7 @@ bare t = record { loadedAt = t .loadedAt; key = t .named; byte = t .byte }
 -- hunk i's size in words
 abbrev pub sizeAt : List Hunk → ℕ → ℕ
 sizeAt [] i = 0
-sizeAt (h ∷ hs) zero = h .size
+sizeAt (h ∷ hs) zero = h .space .size
 sizeAt (h ∷ hs) (suc i) = sizeAt hs i
 
 -- hunk i's first byte in memory: the hunks before it stand end to end

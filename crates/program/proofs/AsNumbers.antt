@@ -16,6 +16,7 @@ use Rattle.answers.specs.declared.Tested.the-variants.{Passed, Failed}
 use Rattle.answers.proofs.Members.{has, listed, unlisted}
 use Rattle.answers.proofs.Given.{Given, given}
 use Rattle.answers.proofs.Clashes.{impossible}
+use Rattle.program.specs.Spaces.{Space}
 use Rattle.program.specs.declared.check.Answer.{Answer}
 use Rattle.program.specs.declared.check.Answer.the-variants.{Accepted, Refused}
 use Rattle.program.specs.declared.reader.Cursor.{Cursor}
@@ -65,8 +66,8 @@ either P false x y p q = q
 body-steps : (c : Cursor) (w : ℕ) → Steps (bodyOf c w)
 body-steps c w = either Steps _ _ _ tt (either Steps _ _ _ tt (either Steps _ _ _ tt (one fault.misplacedBlock tt)))
 
-module _ (t : ℕ) (size : ℕ → ℕ) where
-  turn-steps : (c : Cursor) (w : ℕ) (m : Mode) → Steps (turn t size c w m)
+module _ (t : ℕ) (space : ℕ → Space) where
+  turn-steps : (c : Cursor) (w : ℕ) (m : Mode) → Steps (turn t space c w m)
   turn-steps c w mode.Begin = either Steps _ _ _ tt (body-steps c w)
   turn-steps c w mode.NameLength = either Steps _ _ _ tt tt
   turn-steps c w mode.Body = body-steps c w
@@ -105,11 +106,11 @@ module _ (t : ℕ) (size : ℕ → ℕ) where
   next-answers (On d) at f h g = g d
   next-answers (Bad v) at f h g = h
 
-  walk-answers : (end at : ℕ) (c : Cursor) (ws : List ℕ) → Answers (walk t size end at c ws)
+  walk-answers : (end at : ℕ) (c : Cursor) (ws : List ℕ) → Answers (walk t space end at c ws)
   unfolding walk stepOf
   walk-answers end at c [] = ended-answers end c (c .mode)
   walk-answers end at c (w ∷ ws) =
-      next-answers (stepOf t size c w) at _ (turn-steps c w (c .mode)) (λ d. walk-answers end (at + 4) d ws)
+      next-answers (stepOf t space c w) at _ (turn-steps c w (c .mode)) (λ d. walk-answers end (at + 4) d ws)
 
 -- ---- the header
 

@@ -7,6 +7,7 @@ use mathlib.Core.List.{List, [], _∷_, _++_, append-assoc, append-nil}
 use native.Mathlib.Omega.{arith}
 use lib.ListN.{length}
 use borrow.Author.Tests.{lt-ltb, le-ltb, lt-leb, eq-eqb, ne-eqb}
+use Rattle.program.specs.Spaces.{Space}
 use Rattle.program.specs.Types as type
 use Rattle.words.specs.Word.{wordAt, wordsAt}
 use Rattle.answers.specs.Tests.{pick}
@@ -21,9 +22,9 @@ use Rattle.program.specs.Page.{Hunk, joined, groupWords, symbolWords, pa
 use Rattle.program.specs.Begun.{PartBegun, Begun, aPart, aCount, aNumber, anOffset, aSymbol, symbolWord}
 use Rattle.program.specs.Begun.{debugLength, debugWord, first, nameLength, nameWord, aBody, bodyLength}
 use Rattle.program.specs.Begun.{bodyWord, afterBody, partSoFar, soFar, PartBegunFits, BegunFits}
-use Rattle.program.specs.Header.{totalOf, sizeOf, startAt}
+use Rattle.program.specs.Header.{totalOf, spaceOf, startAt}
 use Rattle.program.specs.Reader.{turn, stepOf}
-use Rattle.program.specs.Verdicts.{Stand, OfSizes, Before, AllHunks}
+use Rattle.program.specs.Verdicts.{Stand, OfSpaces, Before, AllHunks}
 use Rattle.program.proofs.Coming.{Comes, begins, takes}
 use Rattle.program.proofs.Taken.{cursor, Goes, Front, skipped, passing, skipping, offsetting, groups-on}
 use Rattle.program.proofs.Taken.{symbols-on, parts-on, storing, type-on, begin-on, fronts-on}
@@ -91,50 +92,50 @@ unended (afterBody x b ps q) e = go q e
 
 -- ---- a begun hunk's words are taken
 
-module _ (t : ℕ) (size : ℕ → ℕ) (Taken : Cursor → List ℕ → Type 0)
-    (step : (c : Cursor) (w : ℕ) (ws : List ℕ) → Goes Taken (turn t size c w (c .mode)) ws → Taken c (w ∷ ws))
+module _ (t : ℕ) (space : ℕ → Space) (Taken : Cursor → List ℕ → Type 0)
+    (step : (c : Cursor) (w : ℕ) (ws : List ℕ) → Goes Taken (turn t space c w (c .mode)) ws → Taken c (w ∷ ws))
     (h p : ℕ) where
   part-begun : (s : ℕ) (q : PartBegun) (rest : List ℕ) → PartBegunFits t s q → Taken (cursor (partMode q) h p s) rest
       → Taken (cursor mode.Part h p s) (partSoFar q ++ rest)
   unfolding pick
   part-begun s aPart rest f g = g
-  part-begun s (aCount gs) rest f g = step _ _ _ (groups-on t size Taken step h p s gs rest f g)
+  part-begun s (aCount gs) rest f g = step _ _ _ (groups-on t space Taken step h p s gs rest f g)
   part-begun s (aNumber gs n) rest f g =
       step _ _ _ (rw (append-assoc (joined groupWords gs) (n ∷ []) rest)
-      (groups-on t size Taken step h p s gs (n ∷ rest) (f .0)
+      (groups-on t space Taken step h p s gs (n ∷ rest) (f .0)
       (step _ n _ (rw (ne-eqb n 0 (omega (arith, f .1))) g))))
   part-begun s (anOffset gs n k os) rest f g =
       let y : Taken (cursor (mode.Number (n - 1)) h p s) (k ∷ os ++ rest) =
-      step _ k _ (rw (lt-ltb k t (f .1)) (offsetting t size Taken step h p s k rest os n (f .3) (f .2) g)) in
+      step _ k _ (rw (lt-ltb k t (f .1)) (offsetting t space Taken step h p s k rest os n (f .3) (f .2) g)) in
       step _ _ _ (rw (append-assoc (joined groupWords gs) (n ∷ k ∷ os) rest)
-      (groups-on t size Taken step h p s gs (n ∷ k ∷ os ++ rest) (f .0)
+      (groups-on t space Taken step h p s gs (n ∷ k ∷ os ++ rest) (f .0)
       (step _ n _ (rw (ne-eqb n 0 (omega (arith, f .3))) y))))
-  part-begun s (aSymbol us) rest f g = step _ _ _ (symbols-on t size Taken step h p s us rest f g)
+  part-begun s (aSymbol us) rest f g = step _ _ _ (symbols-on t space Taken step h p s us rest f g)
   part-begun s (symbolWord us n ws) rest f g =
       let z : n + 1 - 1 ≡ n = omega arith in
-      let y = passing t size Taken step h p s after.Symbol rest ws (n + 1) (f .3) g in
+      let y = passing t space Taken step h p s after.Symbol rest ws (n + 1) (f .3) g in
       step _ _ _ (rw (append-assoc (joined symbolWords us) (n ∷ ws) rest)
-      (symbols-on t size Taken step h p s us (n ∷ ws ++ rest) (f .0)
+      (symbols-on t space Taken step h p s us (n ∷ ws ++ rest) (f .0)
       (step _ n _ (rw (ne-eqb n 0 (omega (arith, f .1)), lt-leb 16777216 n (f .2)) (rw z at y)))))
   part-begun s debugLength rest f g = step _ _ _ g
   part-begun s (debugWord n ws) rest f g =
-      step _ _ _ (step _ _ _ (skipping t size Taken step h p s mode.DebugLength after.Part rest ws n f g))
+      step _ _ _ (step _ _ _ (skipping t space Taken step h p s mode.DebugLength after.Part rest ws n f g))
 
-  begun-on : (b : Begun) (rest : List ℕ) → BegunFits t (size h) b → Taken (cursorIn b h p) rest
+  begun-on : (b : Begun) (rest : List ℕ) → BegunFits t (space h .size) b → Taken (cursorIn b h p) rest
       → Taken (cursor mode.Begin h p 0) (soFar b ++ rest)
   unfolding pick
   begun-on first rest f g = g
   begun-on nameLength rest f g = step _ _ _ g
   begun-on (nameWord n ws) rest f g =
-      step _ _ _ (step _ _ _ (skipping t size Taken step h p 0 mode.NameLength after.Body rest ws n f g))
+      step _ _ _ (step _ _ _ (skipping t space Taken step h p 0 mode.NameLength after.Body rest ws n f g))
   begun-on (aBody ws) rest f g =
-      step _ _ _ (step _ _ _ (skipped t size Taken step h p 0 mode.NameLength after.Body rest ws g))
-  begun-on (bodyLength x k) rest f g = simp append-assoc (type-on t size Taken step h p x k 0 rest f g)
+      step _ _ _ (step _ _ _ (skipped t space Taken step h p 0 mode.NameLength after.Body rest ws g))
+  begun-on (bodyLength x k) rest f g = simp append-assoc (type-on t space Taken step h p x k 0 rest f g)
   begun-on (bodyWord x k n ws) rest f g =
-      let y = storing t size Taken step h p n rest ws 0 (length ws) (omega arith) (f .2) g in
-      simp append-assoc (type-on t size Taken step h p x k 0 (n ∷ ws ++ rest) (stored (f .0))
+      let y = storing t space Taken step h p n rest ws 0 (length ws) (omega arith) (f .2) g in
+      simp append-assoc (type-on t space Taken step h p x k 0 (n ∷ ws ++ rest) (stored (f .0))
       (step _ n _ (rw (
-        le-ltb (size h) n (f .1),
+        le-ltb (space h .size) n (f .1),
         ne-eqb k type.bss (kept (f .0)),
         ne-eqb 0 n (omega (arith, f .2)),
       ) y)))
@@ -148,8 +149,8 @@ module _ (t : ℕ) (size : ℕ → ℕ) (Taken : Cursor → List ℕ → Type 0)
       kept (inr e) = omega arith
   begun-on (afterBody x b ps q) rest f g =
       let n = length (storedWords b) in
-      simp append-assoc (begin-on t size Taken step h p x b 0 (joined partWords ps ++ (partSoFar q ++ rest)) (f .0)
-      (parts-on t size Taken step h p n ps (partSoFar q ++ rest) (f .1) (part-begun n q rest (f .2) g)))
+      simp append-assoc (begin-on t space Taken step h p x b 0 (joined partWords ps ++ (partSoFar q ++ rest)) (f .0)
+      (parts-on t space Taken step h p n ps (partSoFar q ++ rest) (f .1) (part-begun n q rest (f .2) g)))
 
 -- ---- so the reader comes there
 
@@ -158,29 +159,29 @@ abbrev Leads : List ℕ → ℕ → Type 0 → Cursor → List ℕ → Type 0
 Leads file end G c ws = (at : ℕ) → Comes file c at → at + 4 * length ws ≡ end → wordsAt file at (length ws) ≡ ws → G
 
 module _ (file : List ℕ) (end : ℕ) (within : end ≤ length file) (G : Type 0) where
-  lead : (r : Next) (c : Cursor) (w : ℕ) (ws : List ℕ) → stepOf (totalOf file) (sizeOf file) c w ≡ r
+  lead : (r : Next) (c : Cursor) (w : ℕ) (ws : List ℕ) → stepOf (totalOf file) (spaceOf file) c w ≡ r
       → Goes (Leads file end G) r ws
       → Leads file end G c (w ∷ ws)
   unfolding wordsAt
   lead (On d) c w ws e g at r l x =
       let v : wordAt file at ≡ w = cc in
-      g (at + 4) (takes r (omega arith) (ap (stepOf (totalOf file) (sizeOf file) c) v ∙ e)) (omega arith) (cc)
+      g (at + 4) (takes r (omega arith) (ap (stepOf (totalOf file) (spaceOf file) c) v ∙ e)) (omega arith) (cc)
   lead (Bad n) c w ws e g at r l x = absurd g
 
   along : (c : Cursor) (w : ℕ) (ws : List ℕ)
-      → Goes (Leads file end G) (turn (totalOf file) (sizeOf file) c w (c .mode)) ws → Leads file end G c (w ∷ ws)
+      → Goes (Leads file end G) (turn (totalOf file) (spaceOf file) c w (c .mode)) ws → Leads file end G c (w ∷ ws)
   unfolding stepOf
-  along c w ws g = lead (turn (totalOf file) (sizeOf file) c w (c .mode)) c w ws refl g
+  along c w ws g = lead (turn (totalOf file) (spaceOf file) c w (c .mode)) c w ws refl g
 
   -- after whole hunks
   hunks-lead : 1 ≤ totalOf file → (hs : List Hunk) (rest : List ℕ) → length hs ≤ totalOf file
-      → OfSizes (totalOf file) (sizeOf file) 0 hs
+      → OfSpaces (totalOf file) (spaceOf file) 0 hs
       → Stand file (joined hunkWords hs ++ rest) end
       → Front (Leads file end G) (totalOf file) (length hs) (4 * total hs) rest → G
   unfolding pick
   hunks-lead some hs rest l z s g =
       let y =
-      fronts-on (totalOf file) (sizeOf file) (Leads file end G) along hs 0 0 (length hs) (4 * total hs) rest z
+      fronts-on (totalOf file) (spaceOf file) (Leads file end G) along hs 0 0 (length hs) (4 * total hs) rest z
       (omega arith) l (omega arith) g in
       (rw (ne-eqb 0 (totalOf file) (omega arith)) at y) (startAt file) begins (sym (s .reaches)) (s .words)
 
@@ -193,7 +194,7 @@ module _ (file : List ℕ) (some : 1 ≤ totalOf file) (hs : List Hunk) (at : �
   before-comes b s =
       let G : Type 0 = Comes file (cursorOf hs b) at in
       let y =
-      begun-on (totalOf file) (sizeOf file) (Leads file at G) (along file at (s .stand .within) G) (length hs)
+      begun-on (totalOf file) (spaceOf file) (Leads file at G) (along file at (s .stand .within) G) (length hs)
       (4 * total hs) b [] (s .begun) (here file at (s .stand .within) G (cursorOf hs b) (λ r. r)) in
       hunks-lead file at (s .stand .within) G some hs (soFar b) (omega (arith, s .next)) (s .hunks) (s .stand)
       (rw (ne-eqb (length hs) (totalOf file) (omega (arith, s .next))) (rw append-nil at y))

@@ -20,7 +20,7 @@ use Rattle.program.specs.declared.reader.Mode.the-variants.{Count, Numbe
 use Rattle.program.specs.declared.reader.Mode.the-variants.{End}
 use Rattle.program.specs.declared.reader.Next.{Next}
 use Rattle.program.specs.declared.reader.Next.the-variants.{On, Bad}
-use Rattle.program.specs.Header.{totalOf, sizeOf}
+use Rattle.program.specs.Header.{totalOf, spaceOf, sizeOf}
 use Rattle.program.specs.Reader.{start, on, resume, skip, bodyOf, storedFrom, lengthOf, endOf, partOf, countOf}
 use Rattle.program.specs.Reader.{numberOf, offsetOf, symbolOf, turn, stepOf}
 use Rattle.program.specs.Cursors.{HeaderFits, placeOf, ModeFits, CursorFits}
@@ -94,7 +94,7 @@ module _ (file : List ℕ) (c : Cursor) (w : ℕ) (d : Cursor) (s : CursorFits f
           mode = (h, omega (arith, eqb-false i n q));
         }))
 
-    length-fits : (kind : ℕ) → lengthOf (sizeOf file) c kind w ≡ On d → CursorFits file d
+    length-fits : (kind : ℕ) → lengthOf (spaceOf file) c kind w ≡ On d → CursorFits file d
     length-fits kind =
         pick-on (ltb (sizeOf file (c .hunk)) w) (Bad fault.bodyLength)
         (storedFrom (record {
@@ -107,10 +107,10 @@ module _ (file : List ℕ) (c : Cursor) (w : ℕ) (d : Cursor) (s : CursorFits f
         (λ q. stored-fits (pick (eqb kind type.bss) 0 w) 0 zero-le
         (pick-less (eqb kind type.bss) (ltb-false (sizeOf file (c .hunk)) w q)))
 
-    end-fits : endOf (totalOf file) (sizeOf file) c ≡ On d → CursorFits file d
+    end-fits : endOf (totalOf file) (spaceOf file) c ≡ On d → CursorFits file d
     unfolding placeOf pick
     end-fits e =
-        let z = s .header .small (c .hunk) h in
+        let z = s .header .spaces (c .hunk) h .size in
         subst (CursorFits file) (on-on _ d e)
         (record {
           header = s .header;
@@ -126,15 +126,15 @@ module _ (file : List ℕ) (c : Cursor) (w : ℕ) (d : Cursor) (s : CursorFits f
         go true q = eqb-true (c .hunk + 1) (totalOf file) q
         go false q = let x = eqb-false (c .hunk + 1) (totalOf file) q in omega (arith, x)
 
-    part-fits : partOf (totalOf file) (sizeOf file) c w ≡ On d → CursorFits file d
+    part-fits : partOf (totalOf file) (spaceOf file) c w ≡ On d → CursorFits file d
     part-fits =
-        let z : Next = pick (eqb w type.end) (endOf (totalOf file) (sizeOf file) c) (Bad fault.misplacedBlock) in
+        let z : Next = pick (eqb w type.end) (endOf (totalOf file) (spaceOf file) c) (Bad fault.misplacedBlock) in
         let y : Next = pick (eqb w type.debug) (on c DebugLength) z in
         let x : Next = pick (eqb w type.symbols) (on c Symbol) y in
         pick-on (eqb w type.relocation) (on c Count) x (On d) (λ _. kept Count h)
         (λ _. pick-on (eqb w type.symbols) (on c Symbol) y (On d) (λ _. kept Symbol h)
         (λ _. pick-on (eqb w type.debug) (on c DebugLength) z (On d) (λ _. kept DebugLength h)
-        (λ _. pick-on (eqb w type.end) (endOf (totalOf file) (sizeOf file) c) (Bad fault.misplacedBlock) (On d)
+        (λ _. pick-on (eqb w type.end) (endOf (totalOf file) (spaceOf file) c) (Bad fault.misplacedBlock) (On d)
         (λ _. end-fits) (λ _. bad-on fault.misplacedBlock d))))
 
     count-fits : countOf c w ≡ On d → CursorFits file d
@@ -177,7 +177,7 @@ module _ (file : List ℕ) (c : Cursor) (w : ℕ) (d : Cursor) (s : CursorFits f
         (λ _. bad-on fault.symbolType d) (λ _. kept (Skip w after.Symbol) h))
 
   turn-fits : (m : Mode) → ModeFits (totalOf file) (c .hunk) (c .stored) m
-      → turn (totalOf file) (sizeOf file) c w m ≡ On d → CursorFits file d
+      → turn (totalOf file) (spaceOf file) c w m ≡ On d → CursorFits file d
   turn-fits Begin h =
       pick-on (eqb w type.name) (on c NameLength) (bodyOf c w) (On d) (λ _. kept NameLength h) (λ _. body-fits h)
   turn-fits NameLength h = skip-fits h w after.Body
@@ -193,7 +193,7 @@ module _ (file : List ℕ) (c : Cursor) (w : ℕ) (d : Cursor) (s : CursorFits f
   turn-fits (Skip n a) h = skip-fits h n a
   turn-fits End h = bad-on fault.trailingWords d
 
-  pub step-fits : stepOf (totalOf file) (sizeOf file) c w ≡ On d → CursorFits file d
+  pub step-fits : stepOf (totalOf file) (spaceOf file) c w ≡ On d → CursorFits file d
   unfolding stepOf
   step-fits = turn-fits (c .mode) (s .mode)
 

@@ -16,8 +16,10 @@ use Rattle.answers.proofs.Tests.{must-passed, pick-passed}
 use Rattle.answers.specs.declared.Tested.{Tested}
 use Rattle.answers.specs.declared.Tested.the-variants.{Passed}
 use Rattle.answers.proofs.Clashes.{impossible}
+use Rattle.program.specs.Spaces.{spaceIn, SpaceFits, spaceFault}
 use Rattle.program.specs.Header.{totalOf, headFault, judge, heads}
 use Rattle.program.specs.Verdicts.{HeadPasses}
+use Rattle.program.proofs.Spaces.{fits-passes, passed-fits}
 
 -- ---- words
 
@@ -94,9 +96,9 @@ module _ (t w : ℕ) where
   unfolding pick must
   fault-4 e = rw (eq-eqb (w + 1) t e)
 
-  size-test : (i : ℕ) → headFault t (5 + i) w ≡ must (leb w type.largestHunk) 34
+  space-test : (i : ℕ) → headFault t (5 + i) w ≡ spaceFault (spaceIn w)
   unfolding pick
-  size-test i =
+  space-test i =
       rw (
         ne-eqb (5 + i) 0 (omega arith),
         ne-eqb (5 + i) 1 (omega arith),
@@ -105,9 +107,8 @@ module _ (t w : ℕ) where
         ne-eqb (5 + i) 4 (omega arith),
       )
 
-  pub fault-size : (i : ℕ) → w ≤ type.largestHunk → headFault t (5 + i) w ≡ 0
-  unfolding must
-  fault-size i l = size-test i ∙ rw (le-leb w type.largestHunk l)
+  pub fault-space : (i : ℕ) → SpaceFits (spaceIn w) → headFault t (5 + i) w ≡ 0
+  fault-space i f = space-test i ∙ fits-passes (spaceIn w) f
 
   -- ---- what they say
 
@@ -136,8 +137,8 @@ module _ (t w : ℕ) where
   unfolding pick
   is-4 e = eqb-true (w + 1) t (must-passed _ _ e tt)
 
-  pub is-size : (i : ℕ) → headFault t (5 + i) w ≡ 0 → w ≤ type.largestHunk
-  is-size i e = leb-true w type.largestHunk (must-passed _ _ (sym (size-test i) ∙ e) tt)
+  pub is-space : (i : ℕ) → headFault t (5 + i) w ≡ 0 → SpaceFits (spaceIn w)
+  is-space i e = passed-fits (spaceIn w) (sym (space-test i) ∙ e)
 
 judge-pass : (v at : ℕ) (r : Tested) → judge v at r ≡ Passed → (v ≡ 0) × (r ≡ Passed)
 judge-pass zero at r e = (refl, e)

@@ -10,9 +10,9 @@ use Rattle.words.specs.Word.{wordAt}
 use Rattle.answers.specs.Tests.{pick}
 use Rattle.answers.specs.Refusals.{refusal}
 use Rattle.answers.specs.declared.Tested.the-variants.{Passed, Failed}
-use Rattle.program.specs.Header.{totalOf, sizeOf, headFault, judge, heads}
+use Rattle.program.specs.Header.{totalOf, spaceOf, headFault, judge, heads}
 use Rattle.program.specs.Cursors.{HeaderFits}
-use Rattle.program.proofs.Heading.{each-passes, is-2, is-size}
+use Rattle.program.proofs.Heading.{each-passes, is-2, is-space}
 
 module _ (file : List ℕ) (i n : ℕ) where
   pub heads-short : 0 < n → length file < 4 * i + 4 → heads file i n ≡ Failed (refusal fault.earlyEnd (length file))
@@ -48,7 +48,7 @@ few-hunks file e =
     (omega (arith, each-passes file 5 0 e 4 (omega arith) (omega arith) .0), f .0, f .1)
 
 pub header-fits : (file : List ℕ) → heads file 0 5 ≡ Passed → heads file 5 (totalOf file) ≡ Passed → HeaderFits file
-unfolding sizeOf
+unfolding spaceOf
 header-fits file e g =
     let f = few-hunks file e in
     let last = each-passes file (totalOf file) 5 g (4 + totalOf file) (omega (arith, f .1)) (omega arith) in
@@ -56,8 +56,8 @@ header-fits file e g =
       few = f .2;
       some = f .1;
       long = omega (arith, last .0);
-      small =
-          λ i h. is-size (totalOf file) (sizeOf file i) i
+      spaces =
+          λ i h. is-space (totalOf file) (wordAt file (20 + 4 * i)) i
           (subst (λ (p : ℕ). headFault (totalOf file) (5 + i) (wordAt file p) ≡ 0) (omega arith)
           (each-passes file (totalOf file) 5 g (5 + i) (omega arith) (omega arith) .1));
     }

@@ -1,6 +1,8 @@
 -- Laws of what specs/ defines, for this crate and those above it.
 -- answers that differ
 pub mod Answers
+-- spaces, their words and their tests
+pub mod Spaces
 -- the header's words, and its tests both ways
 pub mod Heading
 -- the header in code, and what holds after it

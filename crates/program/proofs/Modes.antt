@@ -13,6 +13,7 @@ use borrow.Author.Tests.{eq-eqb}
 use Rattle.answers.specs.Numbers as fault
 use Rattle.answers.specs.Tests.{pick}
 use Rattle.program.proofs.reader.Mode.{the-type}
+use Rattle.program.specs.Spaces.{Space}
 use Rattle.program.specs.declared.act.Act.{Act}
 use Rattle.program.specs.declared.act.Act.the-variants as act
 use Rattle.program.specs.declared.check.Answer.{Answer}
@@ -91,10 +92,11 @@ rest-open end c (Skip n a) h = refl
 
 -- ---- by the mode that a branch knows
 
-pub by-mode : (t : ℕ) (size : ℕ → ℕ) (c : Cursor) (w : ℕ) (m : Mode) (r : Next) → c .mode ≡ m → r ≡ turn t size c w m
-    → r ≡ stepOf t size c w
+pub by-mode : (t : ℕ) (space : ℕ → Space) (c : Cursor) (w : ℕ) (m : Mode) (r : Next) → c .mode ≡ m
+    → r ≡ turn t space c w m
+    → r ≡ stepOf t space c w
 unfolding stepOf
-by-mode t size c w m r e h = h ∙ sym (ap (turn t size c w) e)
+by-mode t space c w m r e h = h ∙ sym (ap (turn t space c w) e)
 
 pub by-act : (c : Cursor) (at w : ℕ) (m : Mode) (r : Act) → c .mode ≡ m → r ≡ asks c at w m → r ≡ actOf c at w
 unfolding actOf
@@ -116,4 +118,4 @@ pub stored-fits : (file : List ℕ) (c : Cursor) (i : ℕ) → CursorFits file c
 stored-fits file c i s e =
     let h : (c .hunk < totalOf file) × (i < c .stored) =
     subst (ModeFits (totalOf file) (c .hunk) (c .stored)) e (s .mode) in
-    omega (arith, h .1, s .fits, s .header .small (c .hunk) (h .0))
+    omega (arith, h .1, s .fits, s .header .spaces (c .hunk) (h .0) .size)

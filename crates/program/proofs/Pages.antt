@@ -1,9 +1,9 @@
 -- A program file is what the page says: the check accepts the files whose words are hunks within the limits, written
 -- out, and no others. Assumes nothing.
 use Prim.Native.Nat.{ℕ, zero, suc, _+_, _*_, _-_, _/_, _%_, _<_, _≤_}
-use mathlib.Core.Path.{_≡_, refl, sym, ap, _∙_}
+use mathlib.Core.Path.{_≡_, refl, sym, ap, subst, _∙_}
 use mathlib.Core.Logic.{_⊎_, inl, inr, _↔_}
-use mathlib.Core.List.{List, [], _∷_, map}
+use mathlib.Core.List.{List, [], _∷_}
 use mathlib.Core.Bool.{Bool, true, false}
 use native.Mathlib.Omega.{arith}
 use lib.ListN.{length, length-map, getD}
@@ -17,53 +17,54 @@ use Rattle.answers.specs.declared.Tested.the-variants.{Passed, Failed}
 use Rattle.program.specs.declared.check.Answer.{Answer}
 use Rattle.program.specs.declared.check.Answer.the-variants.{Accepted, Refused}
 use Rattle.program.specs.declared.reader.Cursor.{Cursor}
-use Rattle.program.specs.Page.{Hunk, joined, hunkWords, headWords, written, Each, HunkFits, Program, Holds, total}
-use Rattle.program.specs.Header.{totalOf, sizeOf, startAt, headFault, heads}
+use Rattle.program.specs.Page.{Hunk, joined, hunkWords, spaceWords, headWords, written, Each, HunkFits}
+use Rattle.program.specs.Page.{Program, Holds, total}
+use Rattle.program.specs.Spaces.{Space, spaceWord, spaceIn, SpaceFits}
+use Rattle.program.specs.Header.{totalOf, spaceOf, startAt, headFault, heads}
 use Rattle.program.specs.Check.{walkOf, and, checkOf}
 use Rattle.program.specs.Cursors.{HeaderFits}
-use Rattle.program.specs.Verdicts.{OfSizes, AllHunks}
+use Rattle.program.specs.Verdicts.{OfSpaces, AllHunks}
 use Rattle.program.proofs.Answers.{not-accepted}
-use Rattle.program.proofs.Taken.{Sized, hunks-on}
+use Rattle.program.proofs.Spaces.{word-back, space-back}
+use Rattle.program.proofs.Taken.{AllSpaces, hunks-on}
 use Rattle.program.proofs.Beginnings.{unended}
 use Rattle.program.proofs.Standing.{cons, Within, Past, comes-stands}
 use Rattle.program.proofs.Stops.{Ends, ended, Stops, walk-stops}
 use Rattle.program.proofs.Heads.{header-fits}
 use Rattle.program.proofs.Heading.{words-add, Split, split, heads-pass, fault-0, fault-1, fault-2, fault-3}
-use Rattle.program.proofs.Heading.{fault-4, fault-size, is-0, is-1, is-3, is-4, each-passes}
+use Rattle.program.proofs.Heading.{fault-4, fault-space, is-0, is-1, is-3, is-4, each-passes}
 
--- ---- sizes
+-- ---- spaces
 
-abbrev sizes : List Hunk → List ℕ
-sizes hs = map (λ h. h .size) hs
-
-sized-of : (t : ℕ) (size : ℕ → ℕ) (hs : List Hunk) (h : ℕ) → Each (HunkFits t) hs → h + length hs ≡ t
-    → ((i : ℕ) → i < length hs → size (h + i) ≡ getD (sizes hs) i 0) → Sized t size h hs
-sized-of t size [] h f e g = omega arith
-sized-of t size (x ∷ xs) h f e g =
+spaces-of : (t : ℕ) (space : ℕ → Space) (hs : List Hunk) (h : ℕ) → Each (HunkFits t) hs → h + length hs ≡ t
+    → ((i : ℕ) → i < length hs → space (h + i) ≡ spaceIn (getD (spaceWords hs) i 0)) → AllSpaces t space h hs
+spaces-of t space [] h f e g = omega arith
+spaces-of t space (x ∷ xs) h f e g =
     let a : h + 0 ≡ h = omega arith in
-    let b : size h ≡ x .size = rw a at (g 0 (omega arith)) in (
-      sym b,
+    let b : space h ≡ spaceIn (spaceWord (x .space)) = rw a at (g 0 (omega arith)) in (
+      sym (b ∙ space-back (x .space) (f .0 .space)),
       f .0,
-      sized-of t size xs (h + 1) (f .1) (omega arith)
+      spaces-of t space xs (h + 1) (f .1) (omega arith)
           (λ i l. let d : h + suc i ≡ h + 1 + i = omega arith in rw d at (g (suc i) (omega arith))),
     )
 
-small-sizes : (t : ℕ) (hs : List Hunk) (i : ℕ) → Each (HunkFits t) hs → i < length hs → getD (sizes hs) i 0 ≤ 65536
-small-sizes t [] i f l = absurd (omega arith)
-small-sizes t (x ∷ xs) zero f l = f .0 .size
-small-sizes t (x ∷ xs) (suc i) f l = small-sizes t xs i (f .1) (omega arith)
+words-fit : (t : ℕ) (hs : List Hunk) (i : ℕ) → Each (HunkFits t) hs → i < length hs
+    → SpaceFits (spaceIn (getD (spaceWords hs) i 0))
+words-fit t [] i f l = absurd (omega arith)
+words-fit t (x ∷ xs) zero f l = subst SpaceFits (sym (space-back (x .space) (f .0 .space))) (f .0 .space)
+words-fit t (x ∷ xs) (suc i) f l = words-fit t xs i (f .1) (omega arith)
 
-sizes-fit : (t : ℕ) (size : ℕ → ℕ) (hs : List Hunk) (h : ℕ) → OfSizes t size h hs → Each (HunkFits t) hs
-sizes-fit t size [] h f = tt
-sizes-fit t size (x ∷ xs) h f = (f .1, sizes-fit t size xs (h + 1) (f .2))
+spaces-fit : (t : ℕ) (space : ℕ → Space) (hs : List Hunk) (h : ℕ) → OfSpaces t space h hs → Each (HunkFits t) hs
+spaces-fit t space [] h f = tt
+spaces-fit t space (x ∷ xs) h f = (f .1, spaces-fit t space xs (h + 1) (f .2))
 
-sizes-words : (t : ℕ) (file : List ℕ) (hs : List Hunk) (h : ℕ) → OfSizes t (sizeOf file) h hs
-    → wordsAt file (20 + 4 * h) (length hs) ≡ sizes hs
-unfolding wordsAt sizeOf
-sizes-words t file [] h f = refl
-sizes-words t file (x ∷ xs) h f =
+spaces-words : (t : ℕ) (file : List ℕ) (hs : List Hunk) (h : ℕ) → OfSpaces t (spaceOf file) h hs
+    → wordsAt file (20 + 4 * h) (length hs) ≡ spaceWords hs
+unfolding wordsAt spaceOf
+spaces-words t file [] h f = refl
+spaces-words t file (x ∷ xs) h f =
     let a : 20 + 4 * h + 4 ≡ 20 + 4 * (h + 1) = omega arith in
-    rw (a, sizes-words t file xs (h + 1) (f .2), f .0)
+    cons (sym (ap spaceWord (f .0) ∙ word-back _)) (rw a (spaces-words t file xs (h + 1) (f .2)))
 
 -- ---- what is written is accepted
 
@@ -73,7 +74,7 @@ module _ (file : List ℕ) (hs : List Hunk) (p : Program hs) (whole : length fil
   cut = split file (headWords hs) (joined hunkWords hs) 0 (length file / 4) e
 
   head-length : length (headWords hs) ≡ 5 + length hs
-  head-length = omega (arith, length-map hs (λ h. h .size))
+  head-length = omega (arith, length-map hs (λ h. spaceWord (h .space)))
 
   pub is-total : totalOf file ≡ length hs
   is-total = cut .first 2 (omega (arith, head-length))
@@ -81,16 +82,16 @@ module _ (file : List ℕ) (hs : List Hunk) (p : Program hs) (whole : length fil
   is-long : 20 + 4 * length hs ≤ length file
   is-long = omega (arith, cut .long, head-length)
 
-  is-sized : (i : ℕ) → i < length hs → sizeOf file i ≡ getD (sizes hs) i 0
-  unfolding sizeOf
-  is-sized i l =
+  is-space : (i : ℕ) → i < length hs → spaceOf file i ≡ spaceIn (getD (spaceWords hs) i 0)
+  unfolding spaceOf
+  is-space i l =
       let a : 20 + 4 * i ≡ 0 + 4 * suc (suc (suc (suc (suc i)))) = omega arith in
-      rw a (cut .first (suc (suc (suc (suc (suc i))))) (omega (arith, head-length)))
+      ap spaceIn (rw a (cut .first (suc (suc (suc (suc (suc i))))) (omega (arith, head-length))))
 
-  pub all-sized : Sized (totalOf file) (sizeOf file) 0 hs
-  all-sized =
-      sized-of (totalOf file) (sizeOf file) hs 0 (rw is-total (p .hunks)) (omega (arith, is-total))
-      (λ i l. let a : 0 + i ≡ i = omega arith in rw a (is-sized i l))
+  pub all-spaces : AllSpaces (totalOf file) (spaceOf file) 0 hs
+  all-spaces =
+      spaces-of (totalOf file) (spaceOf file) hs 0 (rw is-total (p .hunks)) (omega (arith, is-total))
+      (λ i l. let a : 0 + i ≡ i = omega arith in rw a (is-space i l))
 
   heads-first : heads file 0 5 ≡ Passed
   heads-first = heads-pass file 5 0 (omega (arith, is-long)) go
@@ -107,7 +108,7 @@ module _ (file : List ℕ) (hs : List Hunk) (p : Program hs) (whole : length fil
       go (suc (suc (suc (suc (suc j))))) a b = absurd (omega arith)
 
   heads-second : heads file 5 (totalOf file) ≡ Passed
-  unfolding sizeOf
+  unfolding spaceOf
   heads-second =
       heads-pass file (totalOf file) 5 (omega (arith, is-long, is-total))
       (λ j a b. go j (j - 5) (omega arith) (omega (arith, is-total)))
@@ -115,8 +116,8 @@ module _ (file : List ℕ) (hs : List Hunk) (p : Program hs) (whole : length fil
       go : (j i : ℕ) → j ≡ 5 + i → i < length hs → headFault (totalOf file) j (wordAt file (4 * j)) ≡ 0
       go j i d l =
           let a : 4 * (5 + i) ≡ 20 + 4 * i = omega arith in
-          rw (d, a) (fault-size (totalOf file) (sizeOf file i) i
-          (rw (is-sized i l) (small-sizes (length hs) hs i (p .hunks) l)))
+          rw (d, a) (fault-space (totalOf file) (wordAt file (20 + 4 * i)) i
+          (rw (is-space i l) (words-fit (length hs) hs i (p .hunks) l)))
 
   pub rest-words : wordsAt file (startAt file) ((length file - startAt file) / 4) ≡ joined hunkWords hs
   rest-words =
@@ -129,7 +130,7 @@ module _ (file : List ℕ) (hs : List Hunk) (p : Program hs) (whole : length fil
   unfolding pick
   walk-taken =
       let l : 0 ≡ totalOf file → ⊥ = λ z. omega (arith, is-total, p .least) in
-      let g = hunks-on (totalOf file) (sizeOf file) (length file) (4 * total hs) hs 0 0 all-sized (omega arith) in
+      let g = hunks-on (totalOf file) (spaceOf file) (length file) (4 * total hs) hs 0 0 all-spaces (omega arith) in
       rw rest-words (rw (ne-eqb 0 (totalOf file) l) at (g (startAt file)))
 
   is-accepted : checkOf file ≡ Accepted (length hs) (4 * total hs)
@@ -219,14 +220,15 @@ module _ (file : List ℕ) (t n : ℕ) (r : Read file t n) where
         let s : 20 + 4 * length hs ≡ startAt file = omega (arith, z .all) in
         ap (wordsAt file 0) q
         ∙ cons word-0 (cons word-1 (cons (sym (z .all)) (cons word-3 (cons (omega (arith, word-4, z .all))
-        (words-add file (length hs) 20 k ∙ rw (s, z .stand .words, sizes-words (totalOf file) file hs 0 (z .hunks)))))))
+        (words-add file (length hs) 20 k
+        ∙ rw (s, z .stand .words, spaces-words (totalOf file) file hs 0 (z .hunks)))))))
 
     is-program : Program hs
     is-program =
         record {
           least = omega (arith, z .all, headed .some);
           most = omega (arith, z .all, headed .few);
-          hunks = rw (z .all) (sizes-fit (totalOf file) (sizeOf file) hs 0 (z .hunks));
+          hunks = rw (z .all) (spaces-fit (totalOf file) (spaceOf file) hs 0 (z .hunks));
         }
 
   read : (hs : List Hunk) × Holds file hs

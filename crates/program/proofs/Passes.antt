@@ -9,7 +9,7 @@ use Rattle.program.specs.declared.act.Act.{Act}
 use Rattle.program.specs.declared.reader.Cursor.{Cursor}
 use Rattle.program.specs.declared.reader.Next.{Next}
 use Rattle.program.specs.declared.reader.Next.the-variants.{On, Bad}
-use Rattle.program.specs.Header.{totalOf, sizeOf}
+use Rattle.program.specs.Header.{totalOf, spaceOf}
 use Rattle.program.specs.Reader.{start, stepOf}
 use Rattle.program.specs.Acts.{actOf, acts, actsFrom, actsOf, pass}
 use Rattle.program.specs.Cursors.{HeaderFits, CursorFits}
@@ -19,7 +19,7 @@ use Rattle.program.proofs.Walks.{words-next, words-over, Reads, reads-s
 
 module _ (file : List ℕ) (at : ℕ) (c : Cursor) where
   module _ (w : ℕ) (r : Next) (i : Reads file c at) (l : at < length file) (p : w ≡ wordAt file at)
-      (q : r ≡ stepOf (totalOf file) (sizeOf file) c w) where
+      (q : r ≡ stepOf (totalOf file) (spaceOf file) c w) where
     pub acts-on : (d : Cursor) (a : Act) → r ≡ On d → a ≡ actOf c at w
         → actsFrom file at c ≡ a ∷ actsFrom file (at + 4) d
     unfolding acts
@@ -53,7 +53,7 @@ module _ (g : List ℕ → Act → List ℕ) (file x₀ : List ℕ) where
     passing-room n h = omega (arith, i .long)
 
     module _ (w : ℕ) (r : Next) (l : at < length file) (p : w ≡ wordAt file at)
-        (q : r ≡ stepOf (totalOf file) (sizeOf file) c w) where
+        (q : r ≡ stepOf (totalOf file) (spaceOf file) c w) where
       pub passing-fits : (d : Cursor) → r ≡ On d → CursorFits file d
       passing-fits d e = reads-on file c at w r d (i .reads) l p q e .fits
 

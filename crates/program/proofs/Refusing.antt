@@ -10,6 +10,7 @@ use native.Mathlib.Decide.{decLt}
 use lib.Dec.{ltb, leb, eqb}
 use lib.ListN.{length}
 use borrow.Author.Tests.{eqb-true, eqb-false, ltb-true, ltb-false, leb-true, lt-ltb, le-ltb, le-leb, eq-eqb, ne-eqb}
+use Rattle.program.specs.Spaces.{Space}
 use Rattle.program.specs.Types as type
 use Rattle.answers.specs.Numbers as fault
 use Rattle.words.specs.Word.{wordAt}
@@ -27,7 +28,7 @@ use Rattle.program.specs.declared.reader.Mode.the-variants.{Begin, NameL
 use Rattle.program.specs.declared.reader.Mode.the-variants.{Count, Number, Offset, Symbol, DebugLength, Skip}
 use Rattle.program.specs.declared.reader.Mode.the-variants.{End}
 use Rattle.program.specs.declared.reader.Next.the-variants.{On, Bad}
-use Rattle.program.specs.Header.{totalOf, sizeOf, judge, heads}
+use Rattle.program.specs.Header.{totalOf, spaceOf, judge, heads}
 use Rattle.program.specs.Reader.{on, bodyOf, endOf, turn, stepOf}
 use Rattle.program.specs.Check.{refuse, endedOf, walkOf, and, checkOf}
 use Rattle.program.specs.Cursors.{HeaderFits}
@@ -253,7 +254,7 @@ module _ (file : List ℕ) (f : Refusal) where
 bad-same : (a v : ℕ) → Bad a ≡ Bad v → v ≡ a
 bad-same a v e = cc
 
-module _ (t : ℕ) (size : ℕ → ℕ) (c : Cursor) (w v : ℕ) where
+module _ (t : ℕ) (space : ℕ → Space) (c : Cursor) (w v : ℕ) where
   -- either way the reader goes on
   both-on : {Q : Type 0} (b : Bool) (x y : Cursor) → pick b (On x) (On y) ≡ Bad v → Q
   unfolding pick
@@ -267,21 +268,21 @@ module _ (t : ℕ) (size : ℕ → ℕ) (c : Cursor) (w v : ℕ) where
       (λ q. pick-on (eqb w type.bss) (on c (Length w)) (Bad fault.misplacedBlock) (Bad v) (λ _. on-bad _ v)
       (λ r e. (bad-same fault.misplacedBlock v e, eqb-false _ _ p, eqb-false _ _ q, eqb-false _ _ r))))
 
-  turn-why : (m : Mode) → turn t size c w m ≡ Bad v → Refuses t size c w v m
+  turn-why : (m : Mode) → turn t space c w m ≡ Bad v → Refuses t space c w v m
   turn-why Begin =
       pick-on (eqb w type.name) (on c NameLength) (bodyOf c w) (Bad v) (λ _. on-bad _ v)
       (λ p e. let b = body-why e in (b .0, eqb-false _ _ p, b .1, b .2, b .3))
   turn-why NameLength = λ e. both-on (eqb w 0) _ _ e
   turn-why Body = λ e. body-why e
   turn-why (Length k) =
-      pick-on (ltb (size (c .hunk)) w) (Bad fault.bodyLength) _ (Bad v)
+      pick-on (ltb (space (c .hunk) .size) w) (Bad fault.bodyLength) _ (Bad v)
       (λ p e. (bad-same fault.bodyLength v e, ltb-true _ _ p)) (λ p e. both-on _ _ _ e)
   turn-why (Stored i) = λ e. both-on _ _ _ e
   turn-why Part =
       pick-on (eqb w type.relocation) (on c Count) _ (Bad v) (λ _. on-bad _ v)
       (λ p. pick-on (eqb w type.symbols) (on c Symbol) _ (Bad v) (λ _. on-bad _ v)
       (λ q. pick-on (eqb w type.debug) (on c DebugLength) _ (Bad v) (λ _. on-bad _ v)
-      (λ r. pick-on (eqb w type.end) (endOf t size c) (Bad fault.misplacedBlock) (Bad v) (λ _. on-bad _ v)
+      (λ r. pick-on (eqb w type.end) (endOf t space c) (Bad fault.misplacedBlock) (Bad v) (λ _. on-bad _ v)
       (λ s e. (
         bad-same fault.misplacedBlock v e,
         eqb-false _ _ p,
@@ -311,7 +312,7 @@ module _ (t : ℕ) (size : ℕ → ℕ) (c : Cursor) (w v : ℕ) where
   body-refused e p q r = rw (ne-eqb w type.code p, ne-eqb w type.stores q, ne-eqb w type.bss r, e)
 
   -- the same from right to left
-  why-turn : (m : Mode) → Refuses t size c w v m → turn t size c w m ≡ Bad v
+  why-turn : (m : Mode) → Refuses t space c w v m → turn t space c w m ≡ Bad v
   unfolding pick
   why-turn Begin h = rw (ne-eqb w type.name (h .1)) (body-refused (h .0) (h .2) (h .3) (h .4))
   why-turn Body h = body-refused (h .0) (h .1) (h .2) (h .3)
@@ -342,7 +343,7 @@ module _ (t : ℕ) (size : ℕ → ℕ) (c : Cursor) (w v : ℕ) where
   why-turn (Skip n a) h = absurd h
 
   -- a word is not taken, with the number v, if and only if it may not stand there
-  pub step-why : (stepOf t size c w ≡ Bad v) ↔ Refuses t size c w v (c .mode)
+  pub step-why : (stepOf t space c w ≡ Bad v) ↔ Refuses t space c w v (c .mode)
   unfolding stepOf
   step-why = (turn-why (c .mode), why-turn (c .mode))
 
@@ -359,9 +360,9 @@ offset-wrong n w = (there (decLt (4 * n) (w + 4)), back)
     back (inl e) h = e (h .0)
     back (inr l) h = omega (arith, h .1)
 
-module _ (t : ℕ) (size : ℕ → ℕ) (h p w v : ℕ) where
+module _ (t : ℕ) (space : ℕ → Space) (h p w v : ℕ) where
   part-wrong : (n : ℕ) (q : PartBegun)
-      → PartWrong t n w v q ↔ Refuses t size (cursor (partMode q) h p n) w v (partMode q)
+      → PartWrong t n w v q ↔ Refuses t space (cursor (partMode q) h p n) w v (partMode q)
   part-wrong n aPart = Iff·rfl
   part-wrong n (aCount gs) = Iff·rfl
   part-wrong n (aNumber gs k) = Iff·rfl
@@ -374,7 +375,7 @@ module _ (t : ℕ) (size : ℕ → ℕ) (h p w v : ℕ) where
   part-wrong n (debugWord k ws) = Iff·rfl
 
   -- a word may not come next if and only if the reader does not take it
-  begun-wrong : (b : Begun) → Wrong t (size h) w v b ↔ Refuses t size (cursorIn b h p) w v (modeOf b)
+  begun-wrong : (b : Begun) → Wrong t (space h .size) w v b ↔ Refuses t space (cursorIn b h p) w v (modeOf b)
   begun-wrong first = Iff·rfl
   begun-wrong nameLength = Iff·rfl
   begun-wrong (nameWord n ws) = Iff·rfl
@@ -388,13 +389,13 @@ module _ (file : List ℕ) (whole : length file % 4 ≡ 0) (s : HeaderFits file)
     word-says : HunkWord file f → WrongWord file f ⊎ MoreWords file f
     word-says r = go (comes-stands file whole s (r .cursor) (r .at) (r .comes))
       where
-        why : Refuses (totalOf file) (sizeOf file) (r .cursor) (wordAt file (r .at)) (r .number) (r .cursor .mode)
-        why = step-why (totalOf file) (sizeOf file) (r .cursor) (wordAt file (r .at)) (r .number) .0 (r .refuses)
+        why : Refuses (totalOf file) (spaceOf file) (r .cursor) (wordAt file (r .at)) (r .number) (r .cursor .mode)
+        why = step-why (totalOf file) (spaceOf file) (r .cursor) (wordAt file (r .at)) (r .number) .0 (r .refuses)
 
         go : Within file (r .cursor) (r .at) ⊎ Past file (r .cursor) (r .at) → WrongWord file f ⊎ MoreWords file f
         go (inl k) =
             let x =
-            subst (λ (c : Cursor). Refuses (totalOf file) (sizeOf file) c (wordAt file (r .at)) (r .number)
+            subst (λ (c : Cursor). Refuses (totalOf file) (spaceOf file) c (wordAt file (r .at)) (r .number)
             (c .mode)) (sym (k .is)) why in
             inl (record {
               hunks = k .hunks;
@@ -404,13 +405,13 @@ module _ (file : List ℕ) (whole : length file % 4 ≡ 0) (s : HeaderFits file)
               there = r .there;
               number = r .number;
               wrong =
-                  begun-wrong (totalOf file) (sizeOf file) (length (k .hunks)) (4 * total (k .hunks))
+                  begun-wrong (totalOf file) (spaceOf file) (length (k .hunks)) (4 * total (k .hunks))
                   (wordAt file (r .at)) (r .number) (k .begun) .1 x;
               said = r .said;
             })
         go (inr k) =
             let x : r .number ≡ fault.trailingWords =
-            subst (λ (c : Cursor). Refuses (totalOf file) (sizeOf file) c (wordAt file (r .at)) (r .number)
+            subst (λ (c : Cursor). Refuses (totalOf file) (spaceOf file) c (wordAt file (r .at)) (r .number)
             (c .mode)) (sym (k .is)) why in
             inr (record {
               hunks = k .hunks;
@@ -425,7 +426,7 @@ module _ (file : List ℕ) (whole : length file % 4 ≡ 0) (s : HeaderFits file)
         let c = cursorOf (r .hunks) (r .begun) in
         let w = wordAt file (r .at) in
         let x =
-        begun-wrong (totalOf file) (sizeOf file) (length (r .hunks)) (4 * total (r .hunks)) w (r .number)
+        begun-wrong (totalOf file) (spaceOf file) (length (r .hunks)) (4 * total (r .hunks)) w (r .number)
         (r .begun) .0 (r .wrong) in
         record {
           cursor = c;
@@ -433,7 +434,7 @@ module _ (file : List ℕ) (whole : length file % 4 ≡ 0) (s : HeaderFits file)
           comes = before-comes file (s .some) (r .hunks) (r .at) (r .begun) (r .before);
           there = r .there;
           number = r .number;
-          refuses = step-why (totalOf file) (sizeOf file) c w (r .number) .1 x;
+          refuses = step-why (totalOf file) (spaceOf file) c w (r .number) .1 x;
           said = r .said;
         }
     says-word (inr r) =
@@ -444,7 +445,7 @@ module _ (file : List ℕ) (whole : length file % 4 ≡ 0) (s : HeaderFits file)
           comes = whole-comes file (s .some) (r .hunks) (r .at) (r .whole);
           there = r .there;
           number = fault.trailingWords;
-          refuses = step-why (totalOf file) (sizeOf file) c (wordAt file (r .at)) fault.trailingWords .1 refl;
+          refuses = step-why (totalOf file) (spaceOf file) c (wordAt file (r .at)) fault.trailingWords .1 refl;
           said = r .said;
         }
 

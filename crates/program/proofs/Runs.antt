@@ -16,7 +16,7 @@ use Rattle.program.specs.declared.reader.Mode.the-variants.{Stored, Part
 use Rattle.program.specs.declared.reader.Next.{Next}
 use Rattle.program.specs.declared.reader.Next.the-variants.{On}
 use Rattle.words.specs.Word.{wordAt}
-use Rattle.program.specs.Header.{totalOf, sizeOf}
+use Rattle.program.specs.Header.{totalOf, spaceOf}
 use Rattle.program.specs.Reader.{on, resume, skip, storedFrom, stepOf}
 use Rattle.program.specs.Acts.{actOf, actsFrom, pass}
 use Rattle.program.specs.Cursors.{CursorFits}
@@ -143,7 +143,7 @@ module _ (file : List ℕ) (c : Cursor) (at : ℕ) (i : Reads file c at) where
   turn-aligned = omega (arith, i .aligned)
 
   module _ (w : ℕ) (r : Next) (d : Cursor) (l : at < length file) (p : w ≡ wordAt file at)
-      (q : r ≡ stepOf (totalOf file) (sizeOf file) c w) (n : r ≡ On d) where
+      (q : r ≡ stepOf (totalOf file) (spaceOf file) c w) (n : r ≡ On d) where
     pub turn-fits : CursorFits file d
     turn-fits = reads-on file c at w r d i l p q n .fits
 
@@ -152,7 +152,7 @@ module _ (file : List ℕ) (c : Cursor) (at : ℕ) (i : Reads file c at) where
 
 pub passing-turn : (g : List ℕ → Act → List ℕ) (file x₀ x : List ℕ) (c d e : Cursor) (at w : ℕ) (r : Next) (a : Act)
     (y : List ℕ) (to : ℕ)
-    → Passing g file x₀ x c at → at < length file → w ≡ wordAt file at → r ≡ stepOf (totalOf file) (sizeOf file) c w
+    → Passing g file x₀ x c at → at < length file → w ≡ wordAt file at → r ≡ stepOf (totalOf file) (spaceOf file) c w
     → r ≡ On d → a ≡ actOf c at w → y ≡ g x a → Leads file d (at + 4) e to
     → ((z : List ℕ) (b : Act) → length (g z b) ≡ length z) → ((z : List ℕ) (b : Act) → QuietOrStore b → g z b ≡ z)
     → Passing g file x₀ y e to

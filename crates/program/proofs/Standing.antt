@@ -25,13 +25,15 @@ use Rattle.program.specs.Page.{GroupFits, SymbolFits, PartFits, HunkFits
 use Rattle.program.specs.Begun.{PartBegun, Begun, aPart, aCount, aNumber, anOffset, aSymbol, symbolWord}
 use Rattle.program.specs.Begun.{debugLength, debugWord, first, nameLength, nameWord, aBody, bodyLength}
 use Rattle.program.specs.Begun.{bodyWord, afterBody, partSoFar, soFar, PartBegunFits, BegunFits}
-use Rattle.program.specs.Header.{totalOf, sizeOf, startAt}
+use Rattle.program.specs.Header.{totalOf, spaceOf, sizeOf, startAt}
+use Rattle.program.specs.Spaces.{Space}
 use Rattle.program.specs.Reader.{resume, skip, bodyOf, storedFrom, endOf, turn, stepOf}
 use Rattle.program.specs.Cursors.{HeaderFits}
-use Rattle.program.specs.Verdicts.{Stand, OfSizes, Before, AllHunks}
+use Rattle.program.specs.Verdicts.{Stand, OfSpaces, Before, AllHunks}
 use Rattle.program.proofs.Coming.{Comes, begins, takes}
 use Rattle.program.proofs.Heading.{words-add}
 use Rattle.program.proofs.CursorsFit.{pick-on, on-on, bad-on}
+use Rattle.program.proofs.Spaces.{size-same}
 use Rattle.program.proofs.Taken.{cursor}
 use Rattle.program.proofs.Beginnings.{partMode, modeOf, cursorIn, cursorOf, cursorPast, before-comes}
 use Rattle.program.proofs.Beginnings.{whole-comes}
@@ -57,13 +59,14 @@ joined-snoc f [] x = append-nil (f x)
 joined-snoc f (y ∷ xs) x =
     ap (λ (l : List ℕ). f y ++ l) (joined-snoc f xs x) ∙ sym (append-assoc (f y) (joined f xs) (f x))
 
-sizes-snoc : (t : ℕ) (size : ℕ → ℕ) (hs : List Hunk) (i j : ℕ) (x : Hunk) → i + length hs ≡ j → OfSizes t size i hs
-    → x .size ≡ size j → HunkFits t x
-    → OfSizes t size i (hs ▹ x)
-sizes-snoc t size [] i j x e z s f = let a : i ≡ j = omega arith in (rw a s, f, tt)
-sizes-snoc t size (h ∷ hs) i j x e z s f = (z .0, z .1, sizes-snoc t size hs (i + 1) j x (omega arith) (z .2) s f)
+spaces-snoc : (t : ℕ) (space : ℕ → Space) (hs : List Hunk) (i j : ℕ) (x : Hunk) → i + length hs ≡ j
+    → OfSpaces t space i hs
+    → x .space ≡ space j → HunkFits t x
+    → OfSpaces t space i (hs ▹ x)
+spaces-snoc t space [] i j x e z s f = let a : i ≡ j = omega arith in (rw a s, f, tt)
+spaces-snoc t space (h ∷ hs) i j x e z s f = (z .0, z .1, spaces-snoc t space hs (i + 1) j x (omega arith) (z .2) s f)
 
-total-snoc : (hs : List Hunk) (x : Hunk) → total (hs ▹ x) ≡ total hs + x .size
+total-snoc : (hs : List Hunk) (x : Hunk) → total (hs ▹ x) ≡ total hs + x .space .size
 total-snoc [] x = omega arith
 total-snoc (h ∷ hs) x = omega (arith, total-snoc hs x)
 
@@ -72,7 +75,7 @@ total-snoc (h ∷ hs) x = omega (arith, total-snoc hs x)
 abbrev groupOf : ℕ → List ℕ → Group
 groupOf k os = record { hunk = k; offsets = os }
 
-module _ (t : ℕ) (size : ℕ → ℕ) (h p w : ℕ) (d : Cursor) where
+module _ (t : ℕ) (space : ℕ → Space) (h p w : ℕ) (d : Cursor) where
   -- words that are passed over: w is their number, or one of n of them
   abbrev Counts : ℕ → After → Type 0
   Counts s a = ((w ≡ 0) × (cursor (resume a) h p s ≡ d)) ⊎ ((0 < w) × (cursor (mode.Skip (w - 1) a) h p s ≡ d))
@@ -104,7 +107,7 @@ module _ (t : ℕ) (size : ℕ → ℕ) (h p w : ℕ) (d : Cursor) where
     PartStep q =
         ((r : PartBegun) × PartBegunFits t s r × (partSoFar q ▹ w ≡ partSoFar r) × (cursor (partMode r) h p s ≡ d))
         ⊎ ((x : Part) × PartFits t s x × (partSoFar q ▹ w ≡ partWords x) × (cursor mode.Part h p s ≡ d))
-        ⊎ ((partSoFar q ▹ w ≡ type.end ∷ []) × (endOf t size (cursor mode.Part h p s) ≡ On d))
+        ⊎ ((partSoFar q ▹ w ≡ type.end ∷ []) × (endOf t space (cursor mode.Part h p s) ≡ On d))
 
     offset-step : (gs : List Group) (n k : ℕ) (os : List ℕ) → PartBegunFits t s (anOffset gs n k os) → OffsetFits s w
         → pick (eqb (n - suc (length os)) 0) (On (cursor mode.Count h p s))
@@ -148,7 +151,7 @@ module _ (t : ℕ) (size : ℕ → ℕ) (h p w : ℕ) (d : Cursor) where
             ∙ ap (λ (i : ℕ). joined groupWords gs ++ (i ∷ k ∷ os ▹ w)) (sym e)
             ∙ sym (joined-snoc groupWords gs (groupOf k (os ▹ w))))
 
-    part-step : (q : PartBegun) → PartBegunFits t s q → turn t size (cursor (partMode q) h p s) w (partMode q) ≡ On d
+    part-step : (q : PartBegun) → PartBegunFits t s q → turn t space (cursor (partMode q) h p s) w (partMode q) ≡ On d
         → PartStep q
     part-step aPart f =
         pick-on (eqb w type.relocation) _ _ (On d) (λ e x. inl (aCount [], tt, cons (eqb-true _ _ e) refl, on-on _ d x))
@@ -230,11 +233,11 @@ module _ (t : ℕ) (size : ℕ → ℕ) (h p w : ℕ) (d : Cursor) where
   -- the hunk goes on; or it ends
   abbrev Step : Begun → Type 0
   Step b =
-      ((r : Begun) × BegunFits t (size h) r × (soFar b ▹ w ≡ soFar r) × (cursorIn r h p ≡ d))
-      ⊎ ((x : Name) × (y : Body) × (ps : List Part) × (bodyCount y ≤ size h)
+      ((r : Begun) × BegunFits t (space h .size) r × (soFar b ▹ w ≡ soFar r) × (cursorIn r h p ≡ d))
+      ⊎ ((x : Name) × (y : Body) × (ps : List Part) × (bodyCount y ≤ space h .size)
       × Each (PartFits t (length (storedWords y))) ps
       × (soFar b ▹ w ≡ nameWords x ++ bodyWords y ++ joined partWords ps ++ (type.end ∷ []))
-      × (endOf t size (cursor mode.Part h p (length (storedWords y))) ≡ On d))
+      × (endOf t space (cursor mode.Part h p (length (storedWords y))) ≡ On d))
 
   type-step : (s : ℕ) → bodyOf (cursor mode.Part h p s) w ≡ On d
       → ((w ≡ type.code) ⊎ (w ≡ type.stores) ⊎ (w ≡ type.bss)) × (cursor (mode.Length w) h p s ≡ d)
@@ -274,7 +277,7 @@ module _ (t : ℕ) (size : ℕ → ℕ) (h p w : ℕ) (d : Cursor) where
   as-data k e = (inr e, λ us. (ap (λ (i : ℕ). i ∷ length us ∷ us) (sym e), refl, refl))
 
   -- a body's number of words
-  module _ (x : Name) (l : w ≤ size h) where
+  module _ (x : Name) (l : w ≤ space h .size) where
     full-step : (k : ℕ) (c : List ℕ → Body) → Full k c → storedFrom (cursor mode.Part h p w) 0 ≡ On d
         → Step (bodyLength x k)
     full-step k c f e = go (f .1 []) (stored-step w 0 e)
@@ -309,7 +312,7 @@ module _ (t : ℕ) (size : ℕ → ℕ) (h p w : ℕ) (d : Cursor) where
         )
 
   -- a stored word
-  word-step : (x : Name) (k n : ℕ) (ws : List ℕ) (c : List ℕ → Body) → Full k c → n ≤ size h → length ws < n
+  word-step : (x : Name) (k n : ℕ) (ws : List ℕ) (c : List ℕ → Body) → Full k c → n ≤ space h .size → length ws < n
       → storedFrom (cursor mode.Part h p n) (length ws + 1) ≡ On d → Step (bodyWord x k n ws)
   word-step x k n ws c f l m e = go (f .1 (ws ▹ w)) (stored-step n (length ws + 1) e)
     where
@@ -334,7 +337,7 @@ module _ (t : ℕ) (size : ℕ → ℕ) (h p w : ℕ) (d : Cursor) where
             ap (λ (i : ℕ). cursor (mode.Stored i) h p n) y ∙ r .1,
           )
 
-  begun-step : (b : Begun) → BegunFits t (size h) b → turn t size (cursorIn b h p) w (modeOf b) ≡ On d → Step b
+  begun-step : (b : Begun) → BegunFits t (space h .size) b → turn t space (cursorIn b h p) w (modeOf b) ≡ On d → Step b
   begun-step first f =
       pick-on (eqb w type.name) _ _ (On d) (λ e x. inl (nameLength, tt, cons (eqb-true _ _ e) refl, on-on _ d x))
       (λ _ x. let y = type-step 0 x in inl (bodyLength none w, y .0, refl, y .1))
@@ -350,7 +353,7 @@ module _ (t : ℕ) (size : ℕ → ℕ) (h p w : ℕ) (d : Cursor) where
       go (inr r) = inl (nameWord n (ws ▹ w), r .0, refl, r .1)
   begun-step (aBody ws) f = λ e. let y = type-step 0 e in inl (bodyLength (named ws) w, y .0, refl, y .1)
   begun-step (bodyLength x k) f =
-      pick-on (ltb (size h) w) _ _ (On d) (λ _. bad-on fault.bodyLength d)
+      pick-on (ltb (space h .size) w) _ _ (On d) (λ _. bad-on fault.bodyLength d)
       (λ q e. length-step x (ltb-false _ _ q) k f e)
   begun-step (bodyWord x k n ws) f = go (f .0)
     where
@@ -421,10 +424,10 @@ module _ (file : List ℕ) (whole : length file % 4 ≡ 0) (s : HeaderFits file)
 
   -- the last word of a hunk
   whole-hunk : (hs : List Hunk) (b : Begun) (at : ℕ) → Before file hs b at → at < length file → (x : Hunk)
-      → x .size ≡ sizeOf file (length hs)
+      → x .space ≡ spaceOf file (length hs)
       → HunkFits (totalOf file) x
       → soFar b ▹ wordAt file at ≡ hunkWords x → (n : ℕ) (d : Cursor)
-      → endOf (totalOf file) (sizeOf file) (cursor mode.Part (length hs) (4 * total hs) n) ≡ On d
+      → endOf (totalOf file) (spaceOf file) (cursor mode.Part (length hs) (4 * total hs) n) ≡ On d
       → Within file d (at + 4) ⊎ Past file d (at + 4)
   unfolding pick
   whole-hunk hs b at r l x z f e n d q = go (eqb (length hs + 1) (totalOf file)) refl (on-on _ d q)
@@ -433,10 +436,10 @@ module _ (file : List ℕ) (whole : length file % 4 ≡ 0) (s : HeaderFits file)
       long = length-snoc hs x ∙ sym (add-one (length hs))
 
       place : 4 * total (hs ▹ x) ≡ 4 * total hs + 4 * sizeOf file (length hs)
-      place = omega (arith, total-snoc hs x, z)
+      place = omega (arith, total-snoc hs x, size-same z)
 
-      fitted : OfSizes (totalOf file) (sizeOf file) 0 (hs ▹ x)
-      fitted = sizes-snoc (totalOf file) (sizeOf file) hs 0 (length hs) x (omega arith) (r .hunks) z f
+      fitted : OfSpaces (totalOf file) (spaceOf file) 0 (hs ▹ x)
+      fitted = spaces-snoc (totalOf file) (spaceOf file) hs 0 (length hs) x (omega arith) (r .hunks) z f
 
       stood : Stand file (joined hunkWords (hs ▹ x)) (at + 4)
       stood =
@@ -468,14 +471,14 @@ module _ (file : List ℕ) (whole : length file % 4 ≡ 0) (s : HeaderFits file)
           })
 
   -- a word that is taken
-  word-on : (c d : Cursor) (at : ℕ) → at < length file → stepOf (totalOf file) (sizeOf file) c (wordAt file at) ≡ On d
+  word-on : (c d : Cursor) (at : ℕ) → at < length file → stepOf (totalOf file) (spaceOf file) c (wordAt file at) ≡ On d
       → Within file c at ⊎ Past file c at → Within file d (at + 4) ⊎ Past file d (at + 4)
   unfolding stepOf
   word-on c d at l e (inl r) =
-      go (begun-step (totalOf file) (sizeOf file) (length (r .hunks)) (4 * total (r .hunks)) (wordAt file at) d
+      go (begun-step (totalOf file) (spaceOf file) (length (r .hunks)) (4 * total (r .hunks)) (wordAt file at) d
       (r .begun) (r .before .begun) (rw (← r .is) at e))
     where
-      go : Step (totalOf file) (sizeOf file) (length (r .hunks)) (4 * total (r .hunks)) (wordAt file at) d (r .begun)
+      go : Step (totalOf file) (spaceOf file) (length (r .hunks)) (4 * total (r .hunks)) (wordAt file at) d (r .begun)
           → Within file d (at + 4) ⊎ Past file d (at + 4)
       go (inl k) =
           let b = r .before in
@@ -493,10 +496,10 @@ module _ (file : List ℕ) (whole : length file % 4 ≡ 0) (s : HeaderFits file)
             is = k .3;
           })
       go (inr k) =
-          let n = sizeOf file (length (r .hunks)) in
-          let x : Hunk = record { size = n; name = k .0; body = k .1; parts = k .2 } in
+          let n = spaceOf file (length (r .hunks)) in
+          let x : Hunk = record { space = n; name = k .0; body = k .1; parts = k .2 } in
           let f : HunkFits (totalOf file) x =
-          record { size = s .small (length (r .hunks)) (r .before .next); body = k .3; parts = k .4 } in
+          record { space = s .spaces (length (r .hunks)) (r .before .next); body = k .3; parts = k .4 } in
           whole-hunk (r .hunks) (r .begun) at (r .before) l x refl f (k .5) (length (storedWords (k .1))) d (k .6)
   word-on c d at l e (inr r) = bad-on fault.trailingWords d (rw (← r .is) at e)
 

@@ -20,7 +20,7 @@ use Rattle.program.specs.declared.reader.Mode.the-variants.{Count, Numbe
 use Rattle.program.specs.declared.reader.Mode.the-variants.{End}
 use Rattle.program.specs.declared.reader.Next.{Next}
 use Rattle.program.specs.declared.reader.Next.the-variants.{On, Bad}
-use Rattle.program.specs.Header.{totalOf, sizeOf, startAt}
+use Rattle.program.specs.Header.{totalOf, spaceOf, startAt}
 use Rattle.program.specs.Reader.{start, stepOf}
 use Rattle.program.specs.Check.{refuse, endedOf, restOf, walkOf}
 use Rattle.program.specs.Cursors.{HeaderFits}
@@ -63,7 +63,7 @@ module _ (file : List ℕ) (whole : length file % 4 ≡ 0) where
   stops zero at c l r =
       let q : at ≡ length file = omega arith in
       inl (c, subst (Comes file c) q r, walk-end file at c (omega arith))
-  stops (suc n) at c l r = go (stepOf (totalOf file) (sizeOf file) c (wordAt file at)) refl (stops n (at + 4))
+  stops (suc n) at c l r = go (stepOf (totalOf file) (spaceOf file) c (wordAt file at)) refl (stops n (at + 4))
     where
       h : at < length file
       h = omega arith
@@ -71,7 +71,7 @@ module _ (file : List ℕ) (whole : length file % 4 ≡ 0) where
       k : at % 4 ≡ 0
       k = omega arith
 
-      go : (x : Next) → stepOf (totalOf file) (sizeOf file) c (wordAt file at) ≡ x
+      go : (x : Next) → stepOf (totalOf file) (spaceOf file) c (wordAt file at) ≡ x
           → ((d : Cursor) → length file ≡ at + 4 + 4 * n → Comes file d (at + 4)
           → Stops file (restOf file (at + 4) d))
           → Stops file (restOf file at c)

@@ -23,26 +23,29 @@ use Rattle.program.specs.Page.{Name, Body, Group, Symbol, Part, Hunk, no
 use Rattle.program.specs.Page.{relocation, symbols, debug, joined, nameWords, bodyWords, groupWords}
 use Rattle.program.specs.Page.{symbolWords, partWords, hunkWords, Each, bodyCount, storedWords, OffsetFits}
 use Rattle.program.specs.Page.{GroupFits, SymbolFits, PartFits, HunkFits, total}
+use Rattle.program.specs.Spaces.{Space}
 use Rattle.program.specs.Reader.{resume, skip, bodyOf, storedFrom, turn, stepOf}
 use Rattle.program.specs.Check.{next, walk}
-use Rattle.program.specs.Verdicts.{OfSizes}
+use Rattle.program.specs.Verdicts.{OfSpaces}
+use Rattle.program.proofs.Spaces.{size-same}
 
 abbrev pub cursor : Mode → ℕ → ℕ → ℕ → Cursor
 cursor m h p s = record { mode = m; hunk = h; place = p; stored = s }
 
--- of t hunks, those from h on, with their sizes
-abbrev pub Sized : ℕ → (ℕ → ℕ) → ℕ → List Hunk → Type 0
-Sized t size h [] = h ≡ t
-Sized t size h (x ∷ xs) = (x .size ≡ size h) × HunkFits t x × Sized t size (h + 1) xs
+-- of t hunks, those from h on, with their spaces
+abbrev pub AllSpaces : ℕ → (ℕ → Space) → ℕ → List Hunk → Type 0
+AllSpaces t space h [] = h ≡ t
+AllSpaces t space h (x ∷ xs) = (x .space ≡ space h) × HunkFits t x × AllSpaces t space (h + 1) xs
 
-pub sized-le : (t : ℕ) (size : ℕ → ℕ) (h : ℕ) (hs : List Hunk) → Sized t size h hs → h ≤ t
-sized-le t size h [] e = omega arith
-sized-le t size h (x ∷ xs) f = let l = sized-le t size (h + 1) xs (f .2) in omega arith
+pub spaces-le : (t : ℕ) (space : ℕ → Space) (h : ℕ) (hs : List Hunk) → AllSpaces t space h hs → h ≤ t
+spaces-le t space h [] e = omega arith
+spaces-le t space h (x ∷ xs) f = let l = spaces-le t space (h + 1) xs (f .2) in omega arith
 
-pub sized-all : (t : ℕ) (size : ℕ → ℕ) (h : ℕ) (hs : List Hunk) → Sized t size h hs
-    → OfSizes t size h hs × (h + length hs ≡ t)
-sized-all t size h [] e = (tt, omega arith)
-sized-all t size h (x ∷ xs) f = let r = sized-all t size (h + 1) xs (f .2) in ((f .0, f .1, r .0), omega (arith, r .1))
+pub spaces-all : (t : ℕ) (space : ℕ → Space) (h : ℕ) (hs : List Hunk) → AllSpaces t space h hs
+    → OfSpaces t space h hs × (h + length hs ≡ t)
+spaces-all t space h [] e = (tt, omega arith)
+spaces-all t space h (x ∷ xs) f =
+    let r = spaces-all t space (h + 1) xs (f .2) in ((f .0, f .1, r .0), omega (arith, r .1))
 
 -- a statement on a cursor and the words from it on
 abbrev pub Goes : (Cursor → List ℕ → Type 0) → Next → List ℕ → Type 0
@@ -54,8 +57,8 @@ abbrev pub Front : (Cursor → List ℕ → Type 0) → ℕ → ℕ → ℕ → 
 Front Taken t h p ws = Taken (cursor (pick (eqb h t) mode.End mode.Begin) h p 0) ws
 
 -- one that holds before a word if it holds after it
-module _ (t : ℕ) (size : ℕ → ℕ) (Taken : Cursor → List ℕ → Type 0)
-    (step : (c : Cursor) (w : ℕ) (ws : List ℕ) → Goes Taken (turn t size c w (c .mode)) ws → Taken c (w ∷ ws)) where
+module _ (t : ℕ) (space : ℕ → Space) (Taken : Cursor → List ℕ → Type 0)
+    (step : (c : Cursor) (w : ℕ) (ws : List ℕ) → Goes Taken (turn t space c w (c .mode)) ws → Taken c (w ∷ ws)) where
   module _ (h p s : ℕ) where
     abbrev Here : Mode → List ℕ → Type 0
     Here m ws = Taken (cursor m h p s) ws
@@ -193,11 +196,12 @@ module _ (t : ℕ) (size : ℕ → ℕ) (Taken : Cursor → List ℕ → Type 0)
     all-stored m rest (u ∷ us) g =
         rw (ne-eqb 0 (suc (length us)) (omega arith)) (stored-on h p (suc (length us)) rest us u 0 (omega arith) g)
 
-    full-on : (k : ℕ) (ws : List ℕ) (s : ℕ) (rest : List ℕ) → eqb k type.bss ≡ false → length ws ≤ size h
+    full-on : (k : ℕ) (ws : List ℕ) (s : ℕ) (rest : List ℕ) → eqb k type.bss ≡ false → length ws ≤ space h .size
         → Taken (cursor mode.Part h p (length ws)) rest
         → Taken (cursor (mode.Length k) h p s) (length ws ∷ ws ++ rest)
     unfolding pick
-    full-on k ws s rest e l g = step _ _ _ (rw (le-ltb (size h) (length ws) l, e) (all-stored mode.Part rest ws g))
+    full-on k ws s rest e l g =
+        step _ _ _ (rw (le-ltb (space h .size) (length ws) l, e) (all-stored mode.Part rest ws g))
 
     -- a body's type, after a name or none
     kind-goes : (m : Mode) (k s : ℕ) (rest : List ℕ) → (k ≡ type.code) ⊎ (k ≡ type.stores) ⊎ (k ≡ type.bss)
@@ -223,26 +227,27 @@ module _ (t : ℕ) (size : ℕ → ℕ) (Taken : Cursor → List ℕ → Type 0)
         step _ _ _ (step _ _ _ (skipped h p s mode.NameLength after.Body (k ∷ rest) us
         (step _ k _ (kind-goes mode.Body k s rest f g))))
 
-    pub begin-on : (x : Name) (b : Body) (s : ℕ) (rest : List ℕ) → bodyCount b ≤ size h
+    pub begin-on : (x : Name) (b : Body) (s : ℕ) (rest : List ℕ) → bodyCount b ≤ space h .size
         → Taken (cursor mode.Part h p (length (storedWords b))) rest
         → Taken (cursor mode.Begin h p s) (nameWords x ++ (bodyWords b ++ rest))
     unfolding pick
     begin-on x (code ws) s rest l g = type-on x type.code s _ (inl refl) (full-on type.code ws s rest refl l g)
     begin-on x (stores ws) s rest l g =
         type-on x type.stores s _ (inr (inl refl)) (full-on type.stores ws s rest refl l g)
-    begin-on x (bss m) s rest l g = type-on x type.bss s _ (inr (inr refl)) (step _ _ _ (rw (le-ltb (size h) m l) g))
+    begin-on x (bss m) s rest l g =
+        type-on x type.bss s _ (inr (inr refl)) (step _ _ _ (rw (le-ltb (space h .size) m l) g))
 
-  hunk-on : (h p : ℕ) (x : Hunk) (rest : List ℕ) → x .size ≡ size h → HunkFits t x
-      → Front Taken t (h + 1) (p + 4 * size h) rest
+  hunk-on : (h p : ℕ) (x : Hunk) (rest : List ℕ) → x .space ≡ space h → HunkFits t x
+      → Front Taken t (h + 1) (p + 4 * space h .size) rest
       → Taken (cursor mode.Begin h p 0) (hunkWords x ++ rest)
   unfolding pick
   hunk-on h p x rest e f g =
       let n : ℕ = length (storedWords (x .body)) in
-      let l : bodyCount (x .body) ≤ size h = omega (arith, f .body) in
+      let l : bodyCount (x .body) ≤ space h .size = omega (arith, size-same e, f .body) in
       let y = parts-on h p n (x .parts) (type.end ∷ rest) (f .parts) (step _ _ _ g) in
       simp append-assoc (begin-on h p (x .name) (x .body) 0 (joined partWords (x .parts) ++ (type.end ∷ rest)) l y)
 
-  pub fronts-on : (hs : List Hunk) (h p i q : ℕ) (rest : List ℕ) → OfSizes t size h hs → h + length hs ≡ i → i ≤ t
+  pub fronts-on : (hs : List Hunk) (h p i q : ℕ) (rest : List ℕ) → OfSpaces t space h hs → h + length hs ≡ i → i ≤ t
       → p + 4 * total hs ≡ q
       → Front Taken t i q rest → Front Taken t h p (joined hunkWords hs ++ rest)
   unfolding pick
@@ -253,26 +258,27 @@ module _ (t : ℕ) (size : ℕ → ℕ) (Taken : Cursor → List ℕ → Type 0)
   fronts-on (x ∷ xs) h p i q rest f a l b g =
       rw (ne-eqb h t (omega arith), append-assoc (hunkWords x) (joined hunkWords xs) rest)
       (hunk-on h p x _ (f .0) (f .1)
-      (fronts-on xs (h + 1) (p + 4 * size h) i q rest (f .2) (omega arith) l (omega (arith, f .0)) g))
+      (fronts-on xs (h + 1) (p + 4 * space h .size) i q rest (f .2) (omega arith) l
+      (omega (arith, size-same (f .0))) g))
 
 -- the walk accepts what is written, with n bytes
-module _ (t : ℕ) (size : ℕ → ℕ) (end n : ℕ) where
+module _ (t : ℕ) (space : ℕ → Space) (end n : ℕ) where
   abbrev pub Accepts : Cursor → List ℕ → Type 0
-  Accepts c ws = (at : ℕ) → walk t size end at c ws ≡ Accepted t n
+  Accepts c ws = (at : ℕ) → walk t space end at c ws ≡ Accepted t n
 
   goes : (r : Next) (ws : List ℕ) (at : ℕ) → Goes Accepts r ws
-      → next r at (λ d. walk t size end (at + 4) d ws) ≡ Accepted t n
+      → next r at (λ d. walk t space end (at + 4) d ws) ≡ Accepted t n
   goes (On d) ws at g = g (at + 4)
   goes (Bad v) ws at g = absurd g
 
-  step : (c : Cursor) (w : ℕ) (ws : List ℕ) → Goes Accepts (turn t size c w (c .mode)) ws → Accepts c (w ∷ ws)
+  step : (c : Cursor) (w : ℕ) (ws : List ℕ) → Goes Accepts (turn t space c w (c .mode)) ws → Accepts c (w ∷ ws)
   unfolding walk stepOf
-  step c w ws g at = goes (stepOf t size c w) ws at g
+  step c w ws g at = goes (stepOf t space c w) ws at g
 
-  pub hunks-on : (hs : List Hunk) (h p : ℕ) → Sized t size h hs → p + 4 * total hs ≡ n
+  pub hunks-on : (hs : List Hunk) (h p : ℕ) → AllSpaces t space h hs → p + 4 * total hs ≡ n
       → Front Accepts t h p (joined hunkWords hs)
   unfolding pick walk
   hunks-on hs h p f e =
-      let z = sized-all t size h hs f in
-      rw append-nil at (fronts-on t size Accepts step hs h p t n [] (z .0) (z .1) (omega arith) e
+      let z = spaces-all t space h hs f in
+      rw append-nil at (fronts-on t space Accepts step hs h p t n [] (z .0) (z .1) (omega arith) e
       (λ at. rw (eq-eqb t t refl)))

@@ -1,15 +1,17 @@
 -- Words determine the hunks that are written out to them, so a file holds one list of hunks at most. Assumes nothing.
 use Prim.Native.Nat.{ℕ}
 use mathlib.Core.Path.{_≡_, refl, sym, subst, _∙_}
-use mathlib.Core.List.{List, [], _∷_, _++_, append-assoc, map}
+use mathlib.Core.List.{List, [], _∷_, _++_, append-assoc}
 use native.Mathlib.Omega.{arith}
 use lib.ListN.{length, length-map}
 use Rattle.program.specs.Types as type
 use Rattle.answers.proofs.Clashes.{impossible}
 use Rattle.program.specs.Page.{Name, Body, Group, Symbol, Part, Hunk, none, named, code, stores, bss}
 use Rattle.program.specs.Page.{relocation, symbols, debug, joined, nameWords, bodyWords, groupWords}
-use Rattle.program.specs.Page.{symbolWords, partWords, hunkWords, written, Each, storedWords, GroupFits}
-use Rattle.program.specs.Page.{SymbolFits, PartFits, HunkFits, Program, Holds}
+use Rattle.program.specs.Page.{symbolWords, partWords, hunkWords, spaceWords, written, Each, storedWords}
+use Rattle.program.specs.Spaces.{Space, spaceWord}
+use Rattle.program.specs.Page.{GroupFits, SymbolFits, PartFits, HunkFits, Program, Holds}
+use Rattle.program.proofs.Spaces.{space-same}
 use Rattle.program.proofs.Standing.{cons}
 
 -- ---- lists of words
@@ -156,7 +158,7 @@ grouped : (x : Hunk) (rest : List ℕ)
     ++ (bodyWords (x .body) ++ (joined partWords (x .parts) ++ (type.end ∷ rest)))
 grouped x rest = simp append-assoc
 
-hunk-same : (t : ℕ) (x y : Hunk) (r s : List ℕ) → x .size ≡ y .size → HunkFits t x → HunkFits t y
+hunk-same : (t : ℕ) (x y : Hunk) (r s : List ℕ) → x .space ≡ y .space → HunkFits t x → HunkFits t y
     → hunkWords x ++ r ≡ hunkWords y ++ s → (x ≡ y) × (r ≡ s)
 hunk-same t x y r s z p q e =
     let a = name-same (x .name) (y .name) (x .body) (y .body) _ _ (sym (grouped x r) ∙ e ∙ grouped y s) in
@@ -169,19 +171,20 @@ hunk-same t x y r s z p q e =
     (p .parts) f (b .1) in
     (go _ _ _ _ _ _ _ _ z (a .0) (b .0) (d .0), d .1)
   where
-    go : (k l : ℕ) (u v : Name) (b c : Body) (m n : List Part) → k ≡ l → u ≡ v → b ≡ c → m ≡ n
-        → _≡_ {A = Hunk} (record { size = k; name = u; body = b; parts = m })
-        (record { size = l; name = v; body = c; parts = n })
+    go : (k l : Space) (u v : Name) (b c : Body) (m n : List Part) → k ≡ l → u ≡ v → b ≡ c → m ≡ n
+        → _≡_ {A = Hunk} (record { space = k; name = u; body = b; parts = m })
+        (record { space = l; name = v; body = c; parts = n })
     go k l u v b c m n e f g h = cc
 
-hunks-same : (t : ℕ) (xs ys : List Hunk) → map (λ h. h .size) xs ≡ map (λ h. h .size) ys → Each (HunkFits t) xs
+hunks-same : (t : ℕ) (xs ys : List Hunk) → spaceWords xs ≡ spaceWords ys → Each (HunkFits t) xs
     → Each (HunkFits t) ys
     → joined hunkWords xs ≡ joined hunkWords ys → xs ≡ ys
 hunks-same t [] [] z p q e = refl
 hunks-same t [] (y ∷ ys) z p q e = impossible cc
 hunks-same t (x ∷ xs) [] z p q e = impossible cc
 hunks-same t (x ∷ xs) (y ∷ ys) z p q e =
-    let h = hunk-same t x y _ _ (cc) (p .0) (q .0) e in
+    let s = space-same (x .space) (y .space) (p .0 .space) (q .0 .space) (cc) in
+    let h = hunk-same t x y _ _ s (p .0) (q .0) e in
     let a = h .0 in
     let b = hunks-same t xs ys (cc) (p .1) (q .1) (h .1) in
     cc
@@ -191,8 +194,8 @@ pub written-same : (hs hs′ : List Hunk) → Program hs → Program hs′ → w
 written-same hs hs′ p q e =
     let n : length hs ≡ length hs′ = cc in
     let c =
-    cut (map (λ h. h .size) hs) (map (λ h. h .size) hs′) (joined hunkWords hs) (joined hunkWords hs′)
-    (omega (arith, length-map hs (λ h. h .size), length-map hs′ (λ h. h .size))) (cc) in
+    cut (spaceWords hs) (spaceWords hs′) (joined hunkWords hs) (joined hunkWords hs′)
+    (omega (arith, length-map hs (λ h. spaceWord (h .space)), length-map hs′ (λ h. spaceWord (h .space)))) (cc) in
     hunks-same (length hs) hs hs′ (c .0) (p .hunks) (rw n (q .hunks)) (c .1)
 
 -- a file holds one list of hunks at most

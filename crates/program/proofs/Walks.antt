@@ -16,7 +16,7 @@ use Rattle.program.specs.declared.check.Answer.the-variants.{Refused}
 use Rattle.program.specs.declared.reader.Cursor.{Cursor}
 use Rattle.program.specs.declared.reader.Next.{Next}
 use Rattle.program.specs.declared.reader.Next.the-variants.{On, Bad}
-use Rattle.program.specs.Header.{totalOf, sizeOf, heads}
+use Rattle.program.specs.Header.{totalOf, spaceOf, heads}
 use Rattle.program.specs.Reader.{start, stepOf}
 use Rattle.program.specs.Check.{refuse, endedOf, walk, wordsFrom, restOf, walkOf, checkOf}
 use Rattle.program.specs.Cursors.{HeaderFits, CursorFits}
@@ -41,7 +41,7 @@ module _ (file : List ℕ) (at : ℕ) where
 
   module _ (c : Cursor) where
     module _ (w : ℕ) (r : Next) (h : length file % 4 ≡ 0) (k : at % 4 ≡ 0) (l : at < length file)
-        (p : w ≡ wordAt file at) (q : r ≡ stepOf (totalOf file) (sizeOf file) c w) where
+        (p : w ≡ wordAt file at) (q : r ≡ stepOf (totalOf file) (spaceOf file) c w) where
       pub walk-on : (d : Cursor) → r ≡ On d → restOf file at c ≡ restOf file (at + 4) d
       unfolding walk
       walk-on d e = rw (words-next h k l, ← p, ← q, e)
@@ -75,7 +75,7 @@ reads-start file c at t s v e g h =
     }
 
 pub reads-on : (file : List ℕ) (c : Cursor) (at w : ℕ) (r : Next) (d : Cursor) → Reads file c at → at < length file
-    → w ≡ wordAt file at → r ≡ stepOf (totalOf file) (sizeOf file) c w → r ≡ On d → Reads file d (at + 4)
+    → w ≡ wordAt file at → r ≡ stepOf (totalOf file) (spaceOf file) c w → r ≡ On d → Reads file d (at + 4)
 reads-on file c at w r d i l p q e =
     record {
       fits = step-fits file c w d (i .fits) (sym q ∙ e);
@@ -89,7 +89,7 @@ reads-on file c at w r d i l p q e =
 
 module _ (file : List ℕ) (c : Cursor) (at : ℕ) (i : Reads file c at) (a : Answer) where
   pub reads-bad : (w : ℕ) (r : Next) (v : ℕ) → at < length file → w ≡ wordAt file at
-      → r ≡ stepOf (totalOf file) (sizeOf file) c w → r ≡ Bad v → a ≡ refuse v at → a ≡ walkOf file
+      → r ≡ stepOf (totalOf file) (spaceOf file) c w → r ≡ Bad v → a ≡ refuse v at → a ≡ walkOf file
   reads-bad w r v l p q e k = k ∙ sym (i .rest ∙ walk-bad file at c w r (i .whole) (i .aligned) l p q v e)
 
   pub reads-end : length file ≤ at → a ≡ endedOf (length file) c (c .mode) → a ≡ walkOf file

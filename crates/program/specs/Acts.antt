@@ -13,7 +13,8 @@ use Rattle.program.specs.declared.reader.Mode.the-variants.{Count, Numbe
 use Rattle.program.specs.declared.reader.Mode.the-variants.{End}
 use Rattle.program.specs.declared.reader.Next.{Next}
 use Rattle.program.specs.declared.reader.Next.the-variants.{On, Bad}
-use Rattle.program.specs.Header.{totalOf, sizeOf, startAt}
+use Rattle.program.specs.Spaces.{Space}
+use Rattle.program.specs.Header.{totalOf, spaceOf, startAt}
 use Rattle.program.specs.Reader.{start, stepOf}
 use Rattle.program.specs.Check.{wordsFrom}
 
@@ -41,13 +42,13 @@ then (On d) a f = a ∷ f d
 then (Bad v) a f = []
 
 -- the words that are left, the first of them at byte `at`
-unfoldable pub acts : ℕ → (ℕ → ℕ) → ℕ → Cursor → List ℕ → List Act
-acts t size at c [] = []
-acts t size at c (w ∷ ws) = then (stepOf t size c w) (actOf c at w) (λ d. acts t size (at + 4) d ws)
+unfoldable pub acts : ℕ → (ℕ → Space) → ℕ → Cursor → List ℕ → List Act
+acts t space at c [] = []
+acts t space at c (w ∷ ws) = then (stepOf t space c w) (actOf c at w) (λ d. acts t space (at + 4) d ws)
 
 -- what a file asks for, in file order: from a cursor on, and all of it
 abbrev pub actsFrom : List ℕ → ℕ → Cursor → List Act
-actsFrom file at c = acts (totalOf file) (sizeOf file) at c (wordsFrom file at)
+actsFrom file at c = acts (totalOf file) (spaceOf file) at c (wordsFrom file at)
 
 abbrev pub actsOf : List ℕ → List Act
 actsOf file = actsFrom file (startAt file) start

@@ -21,7 +21,8 @@ use Rattle.program.specs.declared.reader.Mode.the-variants.{Count, Numbe
 use Rattle.program.specs.declared.reader.Mode.the-variants.{End}
 use Rattle.program.specs.declared.reader.Next.{Next}
 use Rattle.program.specs.declared.reader.Next.the-variants.{On, Bad}
-use Rattle.program.specs.Header.{totalOf, sizeOf, startAt, heads}
+use Rattle.program.specs.Spaces.{Space}
+use Rattle.program.specs.Header.{totalOf, spaceOf, startAt, heads}
 use Rattle.program.specs.Reader.{start, stepOf}
 
 -- the values of an answer
@@ -64,9 +65,9 @@ next (On d) at f = f d
 next (Bad v) at f = refuse v at
 
 -- the words that are left, the first of them at byte `at` of a file that ends at `end`
-unfoldable pub walk : ℕ → (ℕ → ℕ) → ℕ → ℕ → Cursor → List ℕ → Answer
-walk t size end at c [] = endedOf end c (c .mode)
-walk t size end at c (w ∷ ws) = next (stepOf t size c w) at (λ d. walk t size end (at + 4) d ws)
+unfoldable pub walk : ℕ → (ℕ → Space) → ℕ → ℕ → Cursor → List ℕ → Answer
+walk t space end at c [] = endedOf end c (c .mode)
+walk t space end at c (w ∷ ws) = next (stepOf t space c w) at (λ d. walk t space end (at + 4) d ws)
 
 -- the words from byte `at` to the end
 abbrev pub wordsFrom : List ℕ → ℕ → List ℕ
@@ -74,7 +75,7 @@ wordsFrom file at = wordsAt file at ((length file - at) / 4)
 
 -- from the cursor c on, at byte `at`
 abbrev pub restOf : List ℕ → ℕ → Cursor → Answer
-restOf file at c = walk (totalOf file) (sizeOf file) (length file) at c (wordsFrom file at)
+restOf file at c = walk (totalOf file) (spaceOf file) (length file) at c (wordsFrom file at)
 
 -- all hunks
 abbrev pub walkOf : List ℕ → Answer

@@ -9,19 +9,20 @@ use Rattle.program.specs.declared.reader.Mode.{Mode}
 use Rattle.program.specs.declared.reader.Mode.the-variants.{Begin, NameLength, Body, Length, Stored, Part}
 use Rattle.program.specs.declared.reader.Mode.the-variants.{Count, Number, Offset, Symbol, DebugLength, Skip}
 use Rattle.program.specs.declared.reader.Mode.the-variants.{End}
-use Rattle.program.specs.Header.{totalOf, sizeOf, startAt}
+use Rattle.program.specs.Spaces.{Space, SpaceFits}
+use Rattle.program.specs.Header.{totalOf, spaceOf, sizeOf, startAt}
 
 -- the header's numbers are within the limits, and all of it is there
 pub record HeaderFits (file : List ℕ) : Type 0 where
   pub few : totalOf file ≤ type.mostHunks
   pub some : 1 ≤ totalOf file
   pub long : startAt file ≤ length file
-  pub small : (i : ℕ) → i < totalOf file → sizeOf file i ≤ type.largestHunk
+  pub spaces : (i : ℕ) → i < totalOf file → SpaceFits (spaceOf file i)
 
 -- hunk i's first byte in memory: hunks stand end to end
-unfoldable pub placeOf : (ℕ → ℕ) → ℕ → ℕ
-placeOf size zero = 0
-placeOf size (suc i) = placeOf size i + 4 * size i
+unfoldable pub placeOf : (ℕ → Space) → ℕ → ℕ
+placeOf space zero = 0
+placeOf space (suc i) = placeOf space i + 4 * space i .size
 
 -- of t hunks, hunk h that stores n words, and what is expected
 abbrev pub ModeFits : ℕ → ℕ → ℕ → Mode → Type 0
@@ -44,7 +45,7 @@ ModeFits t h n End = h ≡ t
 pub record CursorFits (file : List ℕ) (c : Cursor) : Type 0 where
   pub header : HeaderFits file
   pub hunks : c .hunk ≤ totalOf file
-  pub place : c .place ≡ placeOf (sizeOf file) (c .hunk)
+  pub place : c .place ≡ placeOf (spaceOf file) (c .hunk)
   pub low : c .place ≤ c .hunk * 262144
   pub fits : c .stored ≤ sizeOf file (c .hunk)
   pub mode : ModeFits (totalOf file) (c .hunk) (c .stored) (c .mode)

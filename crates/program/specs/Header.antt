@@ -1,4 +1,4 @@
--- The header: 3F3, no library, T hunks from 0 to T - 1, and the size of each in words; with the faults of each of
+-- The header: 3F3, no library, T hunks from 0 to T - 1, and a word for the space of each; with the faults of each of
 -- these words (docs/FORMAT.md, "The program file" and "Numbers").
 use Prim.Native.Nat.{ℕ, zero, suc, _+_, _*_}
 use mathlib.Core.List.{List}
@@ -6,6 +6,7 @@ use lib.Dec.{ltb, leb, eqb}
 use lib.ListN.{length}
 use Rattle.program.specs.Types as type
 use Rattle.words.specs.Word.{wordAt}
+use Rattle.program.specs.Spaces.{Space, spaceIn, spaceFault}
 use Rattle.answers.specs.Numbers as fault
 use Rattle.answers.specs.Tests.{pick, must}
 use Rattle.answers.specs.Refusals.{refusal}
@@ -16,9 +17,12 @@ use Rattle.answers.specs.declared.Tested.the-variants.{Passed, Failed}
 abbrev pub totalOf : List ℕ → ℕ
 totalOf file = wordAt file 8
 
--- a hunk's size in words
-unfoldable pub sizeOf : List ℕ → ℕ → ℕ
-sizeOf file i = wordAt file (20 + 4 * i)
+-- what it says of hunk i, and the size of that in words
+unfoldable pub spaceOf : List ℕ → ℕ → Space
+spaceOf file i = spaceIn (wordAt file (20 + 4 * i))
+
+abbrev pub sizeOf : List ℕ → ℕ → ℕ
+sizeOf file i = spaceOf file i .size
 
 -- where the hunks begin
 abbrev pub startAt : List ℕ → ℕ
@@ -32,7 +36,7 @@ headFault t i w =
     (pick (eqb i 2) (pick (eqb w 0) fault.headerWord (must (leb w type.mostHunks) fault.headerWord))
     (pick (eqb i 3) (must (eqb w 0) fault.headerWord)
     (pick (eqb i 4) (must (eqb (w + 1) t) fault.headerWord)
-    (must (leb w type.largestHunk) fault.hunkSize)))))
+    (spaceFault (spaceIn w))))))
 
 -- a number other than 0 fails there; else it goes on
 abbrev pub judge : ℕ → ℕ → Tested → Tested

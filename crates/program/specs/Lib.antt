@@ -1,6 +1,8 @@
 -- What the contracts of `program` cite. To read what a program file is: Page.
 -- block types and limits, by name
 pub mod Types
+-- what the header says of a hunk
+pub mod Spaces
 -- a program file as the page shows it: hunks, written out to words
 pub mod Page
 -- a hunk that is begun, and which word may not come next

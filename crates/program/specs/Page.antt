@@ -7,6 +7,7 @@ use mathlib.Core.List.{List, [], _∷_, _++_, map}
 use lib.ListN.{length}
 use Rattle.program.specs.Types as type
 use Rattle.words.specs.Word.{wordsAt}
+use Rattle.program.specs.Spaces.{Space, spaceWord, SpaceFits}
 
 -- ---- the parts of a hunk
 
@@ -35,7 +36,7 @@ pub data Part : Type 0 where
   debug : List ℕ → Part
 
 pub record Hunk : Type 0 where
-  pub size : ℕ
+  pub space : Space
   pub name : Name
   pub body : Body
   pub parts : List Part
@@ -75,8 +76,11 @@ partWords (debug ws) = type.debug ∷ counted ws
 abbrev pub hunkWords : Hunk → List ℕ
 hunkWords h = nameWords (h .name) ++ bodyWords (h .body) ++ joined partWords (h .parts) ++ (type.end ∷ [])
 
+abbrev pub spaceWords : List Hunk → List ℕ
+spaceWords hs = map (λ h. spaceWord (h .space)) hs
+
 abbrev pub headWords : List Hunk → List ℕ
-headWords hs = type.header ∷ 0 ∷ length hs ∷ 0 ∷ (length hs - 1) ∷ map (λ h. h .size) hs
+headWords hs = type.header ∷ 0 ∷ length hs ∷ 0 ∷ (length hs - 1) ∷ spaceWords hs
 
 abbrev pub written : List Hunk → List ℕ
 written hs = headWords hs ++ joined hunkWords hs
@@ -101,7 +105,7 @@ storedWords (bss n) = []
 -- the words that all hunks take
 abbrev pub total : List Hunk → ℕ
 total [] = 0
-total (h ∷ hs) = h .size + total hs
+total (h ∷ hs) = h .space .size + total hs
 
 -- an offset is even, and four bytes from it on are stored: n words are
 abbrev pub OffsetFits : ℕ → ℕ → Type 0
@@ -123,8 +127,8 @@ PartFits t n (symbols us) = Each SymbolFits us
 PartFits t n (debug ws) = Unit {0}
 
 pub record HunkFits (t : ℕ) (h : Hunk) : Type 0 where
-  pub size : h .size ≤ type.largestHunk
-  pub body : bodyCount (h .body) ≤ h .size
+  pub space : SpaceFits (h .space)
+  pub body : bodyCount (h .body) ≤ h .space .size
   pub parts : Each (PartFits t (length (storedWords (h .body)))) (h .parts)
 
 pub record Program (hs : List Hunk) : Type 0 where

@@ -1,10 +1,11 @@
 -- The reader of the hunks: what it expects, and where each word takes it (docs/FORMAT.md, "The program file"). It
--- knows the number t of hunks and their sizes; a word that may not stand there gives a refusal's number.
+-- knows the number t of hunks and the space of each; a word that may not stand there gives a refusal's number.
 use Prim.Native.Nat.{ℕ, _+_, _-_, _*_, _%_}
 use lib.Dec.{ltb, leb, eqb}
 use Rattle.program.specs.Types as type
 use Rattle.answers.specs.Numbers as fault
 use Rattle.answers.specs.Tests.{pick}
+use Rattle.program.specs.Spaces.{Space}
 use Rattle.program.specs.declared.reader.Cursor.{Cursor}
 use Rattle.program.specs.declared.reader.After.{After}
 use Rattle.program.specs.declared.reader.After.the-variants as after
@@ -66,12 +67,12 @@ abbrev pub numberOf : ℕ → Cursor → ℕ → ℕ → Next
 numberOf t c n w = pick (ltb w t) (on c (Offset n w)) (Bad fault.badTarget)
 
 -- at most as many words as the hunk's size; bss stores none of them
-abbrev pub lengthOf : (ℕ → ℕ) → Cursor → ℕ → ℕ → Next
-lengthOf size c kind w =
-    pick (ltb (size (c .hunk)) w) (Bad fault.bodyLength)
+abbrev pub lengthOf : (ℕ → Space) → Cursor → ℕ → ℕ → Next
+lengthOf space c kind w =
+    pick (ltb (space (c .hunk) .size) w) (Bad fault.bodyLength)
     (storedFrom (record { mode = Part; hunk = c .hunk; place = c .place; stored = pick (eqb kind type.bss) 0 w }) 0)
 
-module _ (t : ℕ) (size : ℕ → ℕ) where
+module _ (t : ℕ) (space : ℕ → Space) where
   -- on to the next hunk, or to the end of the file
   abbrev pub endOf : Cursor → Next
   endOf c =
@@ -79,7 +80,7 @@ module _ (t : ℕ) (size : ℕ → ℕ) where
       (record {
         mode = pick (eqb (c .hunk + 1) t) End Begin;
         hunk = c .hunk + 1;
-        place = c .place + 4 * size (c .hunk);
+        place = c .place + 4 * space (c .hunk) .size;
         stored = 0;
       })
 
@@ -95,7 +96,7 @@ module _ (t : ℕ) (size : ℕ → ℕ) where
   turn c w Begin = beginOf c w
   turn c w NameLength = skip c w after.Body
   turn c w Body = bodyOf c w
-  turn c w (Length kind) = lengthOf size c kind w
+  turn c w (Length kind) = lengthOf space c kind w
   turn c w (Stored i) = storedFrom c (i + 1)
   turn c w Part = partOf c w
   turn c w Count = countOf c w

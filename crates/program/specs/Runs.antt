@@ -14,7 +14,7 @@ use Rattle.program.specs.declared.reader.Cursor.{Cursor}
 use Rattle.program.specs.declared.reader.Mode.{Mode}
 use Rattle.program.specs.declared.reader.Mode.the-variants.{Stored, Part, Skip}
 use Rattle.program.specs.declared.reader.Next.the-variants.{On}
-use Rattle.program.specs.Header.{totalOf, sizeOf}
+use Rattle.program.specs.Header.{totalOf, spaceOf}
 use Rattle.program.specs.Reader.{resume, stepOf}
 use Rattle.program.specs.Acts.{actOf}
 
@@ -46,7 +46,7 @@ pub data Leads (file : List ℕ) : Cursor → ℕ → Cursor → ℕ → Type 0 
   here : {c : Cursor} {at : ℕ} → Leads file c at c at
   along : {c d e : Cursor} {at to : ℕ}
       → at < length file
-      → stepOf (totalOf file) (sizeOf file) c (wordAt file at) ≡ On d
+      → stepOf (totalOf file) (spaceOf file) c (wordAt file at) ≡ On d
       → QuietOrStore (actOf c at (wordAt file at))
       → Leads file d (at + 4) e to
       → Leads file c at e to

@@ -10,7 +10,8 @@ use Rattle.answers.specs.Refusals.{refusal}
 use Rattle.answers.specs.declared.Refusal.{Refusal}
 use Rattle.program.specs.Page.{Hunk, joined, hunkWords, HunkFits}
 use Rattle.program.specs.Begun.{Begun, soFar, BegunFits, Wrong}
-use Rattle.program.specs.Header.{totalOf, sizeOf, startAt, headFault}
+use Rattle.program.specs.Spaces.{Space}
+use Rattle.program.specs.Header.{totalOf, spaceOf, sizeOf, startAt, headFault}
 
 -- ---- 30: a length of 0, or one that is no multiple of 4
 
@@ -22,7 +23,7 @@ GoodLength file = (length file ≢ 0) × (length file % 4 ≡ 0)
 
 -- ---- 31 to 34 in the header: word j is the first that is missing or wrong
 
--- one of the five words, or the size of one of the hunks
+-- one of the five words, or the space of one of the hunks
 abbrev pub OfHeader : List ℕ → ℕ → Type 0
 OfHeader file j = j < 5 + totalOf file
 
@@ -58,22 +59,22 @@ pub record Stand (file ws : List ℕ) (at : ℕ) : Type 0 where
   pub within : at ≤ length file
   pub words : wordsAt file (startAt file) (length ws) ≡ ws
 
--- hunks from number i on, of t: each is within the limits, and has the size that the header gives
-abbrev pub OfSizes : ℕ → (ℕ → ℕ) → ℕ → List Hunk → Type 0
-OfSizes t size i [] = Unit {0}
-OfSizes t size i (h ∷ hs) = (h .size ≡ size i) × HunkFits t h × OfSizes t size (i + 1) hs
+-- hunks from number i on, of t: each is within the limits, and has the space that the header gives
+abbrev pub OfSpaces : ℕ → (ℕ → Space) → ℕ → List Hunk → Type 0
+OfSpaces t space i [] = Unit {0}
+OfSpaces t space i (h ∷ hs) = (h .space ≡ space i) × HunkFits t h × OfSpaces t space (i + 1) hs
 
 -- before byte `at` stand whole hunks, and what is begun of the next
 pub record Before (file : List ℕ) (hs : List Hunk) (b : Begun) (at : ℕ) : Type 0 where
   pub next : length hs < totalOf file
-  pub hunks : OfSizes (totalOf file) (sizeOf file) 0 hs
+  pub hunks : OfSpaces (totalOf file) (spaceOf file) 0 hs
   pub begun : BegunFits (totalOf file) (sizeOf file (length hs)) b
   pub stand : Stand file (joined hunkWords hs ++ soFar b) at
 
 -- before byte `at` stand all hunks
 pub record AllHunks (file : List ℕ) (hs : List Hunk) (at : ℕ) : Type 0 where
   pub all : length hs ≡ totalOf file
-  pub hunks : OfSizes (totalOf file) (sizeOf file) 0 hs
+  pub hunks : OfSpaces (totalOf file) (spaceOf file) 0 hs
   pub stand : Stand file (joined hunkWords hs) at
 
 -- 35 to 38: the word at `at` may not come there

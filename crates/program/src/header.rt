@@ -1,10 +1,11 @@
-// A program file's header: five words, and the size of each hunk.
+// A program file's header: five words, and a word for the space of each hunk.
 use answers::Fault;
 use answers::Refusal;
 use answers::Tested;
 ghost use mathlib.Core.Path.{_≡_};
 ghost use Prim.Native.Nat.{_+_, _*_, _≤_};
 ghost use lib.ListN.{length};
+ghost use Rattle.program.specs.Spaces.{spaceIn, spaceFault};
 ghost use Rattle.program.specs.Header.{totalOf, sizeOf, headFault, heads};
 
 const HEADER: u32 = 0x3F3;
@@ -30,6 +31,13 @@ pub fn size(file: &[u8], i: u32) -> u32
     ensures { λ r. ⌜ r ≡ sizeOf (now (file .entry)) i ⌝ }
 {
     words::word(file, 4 * WORDS + 4 * i as usize)
+}
+
+// The fault of a hunk's space, or 0.
+fn space_fault(w: u32) -> u32
+    ensures { λ r. ⌜ r ≡ spaceFault (spaceIn w) ⌝ }
+{
+    if w <= LARGEST { 0 } else { Fault::HUNK_SIZE }
 }
 
 // The header's word i: its fault, or 0.
@@ -63,7 +71,7 @@ fn head_fault(file: &[u8], i: usize, w: u32) -> u32
             Fault::HEADER_WORD
         };
     }
-    if w <= LARGEST { 0 } else { Fault::HUNK_SIZE }
+    space_fault(w)
 }
 
 // n words of the header from word `from` on.

@@ -9,7 +9,7 @@ ghost use lib.ListN.{length};
 ghost use lib.Dec.{eqb};
 ghost use Rattle.program.specs.Types as type;
 ghost use Rattle.answers.specs.Tests.{pick};
-ghost use Rattle.program.specs.Header.{totalOf, sizeOf};
+ghost use Rattle.program.specs.Header.{totalOf, spaceOf};
 ghost use Rattle.program.specs.Reader.{on, resume, skip, bodyOf, beginOf, storedFrom, lengthOf, partOf, endOf};
 ghost use Rattle.program.specs.Reader.{countOf, numberOf, offsetOf, symbolOf, stepOf, start};
 ghost use Rattle.program.specs.Cursors.{CursorFits};
@@ -184,7 +184,7 @@ fn kept(kind: u32, w: u32) -> u32
 // How many words the body has: at most as many as the hunk's size.
 fn body_length(file: &[u8], c: Cursor, kind: u32, w: u32) -> Next
     requires { ⌜ 24 + 4 * (c .hunk) ≤ length (now file) ⌝ }
-    ensures { λ r. ⌜ r ≡ lengthOf (sizeOf (now (file .entry))) c kind w ⌝ }
+    ensures { λ r. ⌜ r ≡ lengthOf (spaceOf (now (file .entry))) c kind w ⌝ }
 {
     let h = c.hunk;
     if size(file, h) < w {
@@ -202,7 +202,7 @@ fn body_length(file: &[u8], c: Cursor, kind: u32, w: u32) -> Next
 // The hunk's end: on to the next hunk, or to the end of the file.
 fn hunk_end(file: &[u8], c: Cursor) -> Next
     requires { ⌜ (24 + 4 * (c .hunk) ≤ length (now file)) × (c .hunk < 64) × (c .place ≤ 4294967296) ⌝ }
-    ensures { λ r. ⌜ r ≡ endOf (totalOf (now (file .entry))) (sizeOf (now (file .entry))) c ⌝ }
+    ensures { λ r. ⌜ r ≡ endOf (totalOf (now (file .entry))) (spaceOf (now (file .entry))) c ⌝ }
 {
     let h = c.hunk;
     let p = c.place + 4 * size(file, h) as usize;
@@ -225,7 +225,7 @@ fn hunk_end(file: &[u8], c: Cursor) -> Next
 // Relocations, symbols, debug words or the hunk's end.
 fn part(file: &[u8], c: Cursor, w: u32) -> Next
     requires { ⌜ (24 + 4 * (c .hunk) ≤ length (now file)) × (c .hunk < 64) × (c .place ≤ 4294967296) ⌝ }
-    ensures { λ r. ⌜ r ≡ partOf (totalOf (now (file .entry))) (sizeOf (now (file .entry))) c w ⌝ }
+    ensures { λ r. ⌜ r ≡ partOf (totalOf (now (file .entry))) (spaceOf (now (file .entry))) c w ⌝ }
 {
     if w == RELOCATION {
         return to(c, Mode::Count);
@@ -304,7 +304,7 @@ fn first(c: Cursor, w: u32) -> Next
 // The reader takes the word w.
 pub fn step(file: &[u8], c: Cursor, w: u32) -> Next
     requires { ⌜ CursorFits (now file) c ⌝ }
-    ensures { λ r. ⌜ r ≡ stepOf (totalOf (now (file .entry))) (sizeOf (now (file .entry))) c w ⌝ }
+    ensures { λ r. ⌜ r ≡ stepOf (totalOf (now (file .entry))) (spaceOf (now (file .entry))) c w ⌝ }
 {
     let m = c.mode;
     match m {

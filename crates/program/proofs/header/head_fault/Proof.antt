@@ -46,11 +46,11 @@ returns-10 c = search choices depth 12
 returns-11 : tie.Need-returns-11
 returns-11 c = search choices depth 12
 
+space-fault-requires : tie.Need-space-fault-requires
+space-fault-requires c κs = search needs
+
 returns-12 : tie.Need-returns-12
 returns-12 c = search choices depth 12
-
-returns-13 : tie.Need-returns-13
-returns-13 c = search choices depth 12
 
 pub head-fault-spec : {M : Type 1} → statement M
 head-fault-spec =
@@ -70,5 +70,5 @@ head-fault-spec =
     cast-if11
     returns-10
     returns-11
-    returns-12
-    returns-13)
+    space-fault-requires
+    returns-12)

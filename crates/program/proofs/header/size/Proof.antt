@@ -1,5 +1,5 @@
 -- `program::header::size` meets its contract. Assumes nothing.
-use Rattle.program.specs.Header.{sizeOf}
+use Rattle.program.specs.Header.{spaceOf}
 use borrow.Author.Needs.{needs}
 use Rattle.program.proofs.header.size.Statement.{statement}
 use Rattle.program.proofs.header.size.Tie as tie
@@ -17,7 +17,7 @@ word-requires : tie.Need-word-requires
 word-requires c κs = search needs
 
 returns : tie.Need-returns
-unfolding sizeOf
+unfolding spaceOf
 returns c = c .word .ensures
 
 pub size-spec : {M : Type 1} → statement M
