@@ -4,8 +4,10 @@ use console::hex::line;
 use console::hex::words;
 use console::say::numbered;
 use libc::STDOUT_FILENO;
+use loader::table::RECORD_LENGTH;
 ghost use Prim.Native.Nat.{_*_, _≤_};
 ghost use lib.ListN.{length};
+ghost use Rattle.loader.specs.Table.{recordLength};
 
 // A record of the hunk table.
 fn hunk(i: usize, kind: u32, place: u32, size: u32, base: u32) {
@@ -19,11 +21,11 @@ fn hunk(i: usize, kind: u32, place: u32, size: u32, base: u32) {
     io::write_all(STDOUT_FILENO, &line(base));
 }
 
-// The records of a table, four numbers each.
+// The records of a table.
 fn hunks(table: &[u32]) {
     let mut i: usize = 0;
-    while i < table.len() / 4 {
-        let at = 4 * i;
+    while i < table.len() / RECORD_LENGTH {
+        let at = RECORD_LENGTH * i;
         hunk(i, table[at], table[at + 1], table[at + 2], table[at + 3]);
         i += 1;
     }
@@ -31,9 +33,9 @@ fn hunks(table: &[u32]) {
 
 // A program of so many hunks and so many bytes.
 pub fn program(count: u32, bytes: usize, memory: &[u8], table: &[u32])
-    requires { ⌜ (bytes ≤ length (now memory)) × (4 * count ≤ length (now table)) ⌝ }
+    requires { ⌜ (bytes ≤ length (now memory)) × (recordLength * count ≤ length (now table)) ⌝ }
 {
     words(STDOUT_FILENO, &memory[..bytes]);
-    let numbers = 4 * count as usize;
+    let numbers = RECORD_LENGTH * count as usize;
     hunks(&table[..numbers]);
 }

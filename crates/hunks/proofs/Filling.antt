@@ -6,6 +6,7 @@ use native.Mathlib.Nat.{not-suc-le-zero, le-of-suc-le-suc}
 use native.Mathlib.Omega.{arith}
 use lib.ListN.{length, getD, take, drop, set, length-append, length-drop}
 use lib.Seq.{drop-cons, set-at, getD-append-add, getD-take, getD-drop}
+use Rattle.loader.specs.Table.{recordLength}
 use Rattle.hunks.specs.declared.Hunk.{Hunk}
 use Rattle.hunks.specs.Records.{recordAt, recordsFrom, filled}
 
@@ -23,15 +24,15 @@ from-more ns i (suc n) =
     ap (λ l. recordAt ns i ∷ l) (from-more ns (i + 1) n ∙ ap (λ k. recordsFrom ns (i + 1) n ++ recordAt ns k ∷ []) e)
 
 -- numbers after the records do not matter
-pub from-take : (ns : List ℕ) (k i n : ℕ) → 4 * (i + n) ≤ k → recordsFrom (take k ns) i n ≡ recordsFrom ns i n
+pub from-take : (ns : List ℕ) (k i n : ℕ) → recordLength * (i + n) ≤ k → recordsFrom (take k ns) i n ≡ recordsFrom ns i n
 unfolding recordsFrom
 from-take ns k i zero h = refl
 from-take ns k i (suc n) h =
     ap₂ _∷_ (rw (
-      getD-take k ns (4 * i) 0 (omega arith),
-      getD-take k ns (4 * i + 1) 0 (omega arith),
-      getD-take k ns (4 * i + 2) 0 (omega arith),
-      getD-take k ns (4 * i + 3) 0 (omega arith),
+      getD-take k ns (recordLength * i) 0 (omega arith),
+      getD-take k ns (recordLength * i + 1) 0 (omega arith),
+      getD-take k ns (recordLength * i + 2) 0 (omega arith),
+      getD-take k ns (recordLength * i + 3) 0 (omega arith),
     ))
     (from-take ns k (i + 1) n (omega arith))
 

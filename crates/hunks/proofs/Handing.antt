@@ -10,7 +10,7 @@ use Rattle.program.specs.declared.check.Answer.the-variants.{Accepted, Refused}
 use Rattle.program.specs.Header.{totalOf}
 use Rattle.program.specs.Check.{numbersOf}
 use Rattle.loader.specs.declared.calls.Outcome.{Outcome}
-use Rattle.loader.specs.Table.{recordsOf}
+use Rattle.loader.specs.Table.{recordLength, recordsOf}
 use Rattle.loader.specs.Parts.{handed, LoadsCore, MovesCore}
 use Rattle.loader.proofs.Answering.{load-facts, move-facts}
 use Rattle.hunks.specs.declared.Hunk.{Hunk}
@@ -74,7 +74,7 @@ unfolding recordsOf
 filled-by (Accepted x n) file bases ns k t e h f =
     let q : k ≡ totalOf file = e ∙ f x n refl in
     rw (q, h) (ap (λ l. l ++ drop (totalOf file) t)
-    (sym (from-take _ (4 * totalOf file) 0 (totalOf file) (omega arith))))
+    (sym (from-take _ (recordLength * totalOf file) 0 (totalOf file) (omega arith))))
 filled-by (Refused r) file bases ns k t e h f = rw e (filled-zero ns t)
 
 module _ (file bases m : List ℕ) (t : List Hunk) (w : List ℕ) (c : Counted) (m1 w1 : List ℕ)

@@ -8,25 +8,26 @@ use lib.ListN.{length}
 use Rattle.words.specs.Word.{Bytes}
 use Rattle.program.specs.declared.check.Answer.{Answer}
 use Rattle.program.specs.declared.check.Answer.the-variants.{Accepted}
+use Rattle.loader.specs.Table.{recordLength}
 use Rattle.loader.specs.Calls.{loadAnswer}
 use Rattle.loader.specs.Moving.{SameRoom, LoadsAt}
 use Rattle.loader.proofs.Moving as numbers
 use Rattle.hunks.specs.declared.Hunk.{Hunk}
 use Rattle.hunks.specs.Records.{numbersIn}
 use Rattle.hunks.specs.Calls.{Loads, Moves}
-use Rattle.hunks.proofs.Numbering.{length-numbers, quarter, same-table, load-numbers, move-numbers}
+use Rattle.hunks.proofs.Numbering.{length-numbers, records-counted, same-table, load-numbers, move-numbers}
 
 module _ (file m : List ℕ) (t : List Hunk) (w : List ℕ) (x n : ℕ) where
   at-numbers : (bases : List ℕ) (y k : ℕ) → LoadsAt file bases m (length t) w y k
       → LoadsAt file bases m (length (numbersIn t) / 4) w y k
-  at-numbers bases y k a = ap (λ j. loadAnswer file bases (length m) j (length w)) (quarter t) ∙ a
+  at-numbers bases y k a = ap (λ j. loadAnswer file bases (length m) j (length w)) (records-counted t) ∙ a
 
   room-numbers : (m′ : List ℕ) (t′ : List Hunk) (w′ : List ℕ) → SameRoom m t w m′ t′ w′
       → SameRoom m (numbersIn t) w m′ (numbersIn t′) w′
   room-numbers m′ t′ w′ s =
       record {
         memory = s .memory;
-        table = length-numbers t′ ∙ ap (λ j. 4 * j) (s .table) ∙ sym (length-numbers t);
+        table = length-numbers t′ ∙ ap (λ j. recordLength * j) (s .table) ∙ sym (length-numbers t);
         work = s .work;
       }
 

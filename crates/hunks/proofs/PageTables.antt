@@ -10,7 +10,7 @@ use Rattle.program.specs.Page.{written, Program}
 use Rattle.program.specs.Page as page
 use Rattle.program.specs.Header.{totalOf}
 use Rattle.program.proofs.Pages.{is-total}
-use Rattle.loader.specs.Table.{recordsOf}
+use Rattle.loader.specs.Table.{recordLength, recordsOf}
 use Rattle.loader.specs.Pages.{recordNumbers}
 use Rattle.loader.proofs.PageLoads.{page-records}
 use Rattle.hunks.specs.declared.Hunk.{Hunk}
@@ -50,12 +50,12 @@ module _ (file : List ℕ) (hs : List page.Hunk) (pr : Program hs) (whole : leng
       → hunksOf file bases t ≡ pageRecords 0 0 hs bases ++ drop (length (pageRecords 0 0 hs bases)) t
   page-table bases t =
       let ns : List ℕ = recordNumbers 0 0 hs bases in
-      let l : length ns ≡ 4 * length hs =
+      let l : length ns ≡ recordLength * length hs =
       sym (ap length (page-numbers 0 0 hs bases)) ∙ length-numbers (pageRecords 0 0 hs bases)
-      ∙ ap (λ k. 4 * k) (length-page 0 0 hs bases) in
+      ∙ ap (λ k. recordLength * k) (length-page 0 0 hs bases) in
       let q : recordsFrom ns 0 (length hs) ≡ pageRecords 0 0 hs bases =
       same-table _ _ (numbers-from ns 0 (length hs) (omega (arith, l))
-      ∙ take-all (4 * length hs) ns (omega (arith, l)) ∙ sym (page-numbers 0 0 hs bases)) in
+      ∙ take-all (recordLength * length hs) ns (omega (arith, l)) ∙ sym (page-numbers 0 0 hs bases)) in
       ap₂ (λ ms k. filled ms k t) (page-records file hs pr whole e bases) (is-total file hs pr whole e)
       ∙ ap (λ s. s ++ drop (length hs) t) q ∙ ap (λ k. pageRecords 0 0 hs bases ++ drop k t)
       (sym (length-page 0 0 hs bases))

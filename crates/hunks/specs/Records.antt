@@ -4,17 +4,17 @@ use Prim.Native.Nat.{ℕ, zero, suc, _+_, _*_}
 use mathlib.Core.List.{List, [], _∷_, _++_}
 use lib.ListN.{getD, drop}
 use Rattle.program.specs.Header.{totalOf}
-use Rattle.loader.specs.Table.{recordsOf}
+use Rattle.loader.specs.Table.{recordOf, recordLength, recordsOf}
 use Rattle.hunks.specs.declared.Hunk.{Hunk}
 
--- record i of numbers, four a record
+-- record i of numbers
 abbrev pub recordAt : List ℕ → ℕ → Hunk
 recordAt numbers i =
     record {
-      kind = getD numbers (4 * i) 0;
-      place = getD numbers (4 * i + 1) 0;
-      size = getD numbers (4 * i + 2) 0;
-      base = getD numbers (4 * i + 3) 0;
+      kind = getD numbers (recordLength * i) 0;
+      place = getD numbers (recordLength * i + 1) 0;
+      size = getD numbers (recordLength * i + 2) 0;
+      base = getD numbers (recordLength * i + 3) 0;
     }
 
 -- n records from record i on
@@ -30,7 +30,10 @@ filled numbers n t = recordsFrom numbers 0 n ++ drop n t
 abbrev pub hunksOf : List ℕ → List ℕ → List Hunk → List Hunk
 hunksOf file bases t = filled (recordsOf file bases) (totalOf file) t
 
--- a table's numbers, four a record
+-- the numbers of a record, and of a table
+abbrev pub hunkNumbers : Hunk → List ℕ
+hunkNumbers h = recordOf (h .kind) (h .place) (record { size = h .size }) (h .base)
+
 unfoldable pub numbersIn : List Hunk → List ℕ
 numbersIn [] = []
-numbersIn (h ∷ t) = h .kind ∷ h .place ∷ h .size ∷ h .base ∷ numbersIn t
+numbersIn (h ∷ t) = hunkNumbers h ++ numbersIn t

@@ -2,6 +2,8 @@
 use loader::calls::Outcome;
 use loader::calls::load_core;
 use loader::calls::move_core;
+use loader::table::RECORD_LENGTH;
+use loader::table::TABLE_ROOM;
 use program::check::Answer;
 ghost use mathlib.Core.Path.{_≡_};
 ghost use Prim.Native.Nat.{_<_, _≤_};
@@ -19,11 +21,11 @@ pub struct Hunk {
     pub base: u32,
 }
 
-// An answer, how many records come with it, and their numbers, four a record.
+// An answer, how many records come with it, and their numbers.
 struct Counted {
     answer: Answer,
     count: usize,
-    numbers: [u32; 256],
+    numbers: [u32; TABLE_ROOM],
 }
 
 // A refused outcome has no records.
@@ -47,7 +49,7 @@ fn record_at(c: Counted, i: usize) -> Hunk
     requires { ⌜ i < 64 ⌝ }
     ensures { λ r. ⌜ r ≡ recordAt (c .numbers) i ⌝ }
 {
-    let k = 4 * i;
+    let k = RECORD_LENGTH * i;
     Hunk {
         kind: c.numbers[k],
         place: c.numbers[k + 1],

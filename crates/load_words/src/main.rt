@@ -6,6 +6,7 @@ use console::hex;
 use console::say;
 use libc::STDIN_FILENO;
 use libc::STDOUT_FILENO;
+use loader::table::TABLE_ROOM;
 use program::check::Answer;
 ghost use mathlib.Core.Path.{_≡_};
 ghost use lib.ListN.{length};
@@ -22,9 +23,6 @@ const AREA: usize = 16384;
 
 // The hunks that there are bases and records for.
 const HUNKS: usize = 64;
-
-// The numbers of their records.
-const TABLE: usize = 256;
 
 // Where the first hunk goes, and how far each is from the one before.
 const FIRST: u32 = 0x3000;
@@ -85,7 +83,7 @@ fn refused(fault: Refusal) {
 
 // Loads the file at these bases, and writes what comes of it.
 fn load(file: &[u8], bases: &[u32], memory: &mut [u8], work: &mut [u8]) {
-    let mut table = [0u32; TABLE];
+    let mut table = [0u32; TABLE_ROOM];
     let answer = loader::calls::load(file, bases, memory, &mut table, work);
     match answer {
         Answer::Accepted(_, n) => hex::words(STDOUT_FILENO, &memory[..n]),

@@ -6,7 +6,7 @@ use mathlib.Core.Bool.{Bool, true, false}
 use native.Mathlib.Omega.{arith}
 use native.Mathlib.Decide.{decLt}
 use lib.Dec.{eqb}
-use lib.ListN.{length, set, length-set}
+use lib.ListN.{length}
 use types.Run.{OneOf}
 use denote.Enum.Declared.{tagOf}
 use Rattle.program.specs.Types as type
@@ -34,7 +34,8 @@ use Rattle.program.proofs.Walks.{Reads}
 use Rattle.program.proofs.Passes.{Passing}
 use Rattle.loader.specs.Memory.{loadedOf, storeOne, targetOne, targets, shiftOne, amountOf}
 use Rattle.loader.specs.Parts.{ActFits}
-use Rattle.loader.specs.Table.{recordOne}
+use Rattle.loader.specs.Table.{recordLength, withNumbers, recordOne}
+use Rattle.loader.proofs.Copies.{length-numbers}
 
 -- ---- the acts by their tags, in the order of `Act`; a `match` tells that an act has none but some of them
 
@@ -237,24 +238,13 @@ module _ (file : List ℕ) (n : ℕ) (a : Act) (h p k : ℕ) (f : ActFits n (tot
   pub base-there : (bases : List ℕ) → totalOf file ≤ length bases → h < length bases
   base-there bases l = omega (arith, body-fits .0)
 
-  -- the record's four numbers have room, each after those before it are written
-  module _ (table : List ℕ) (l : 4 * totalOf file ≤ length table) where
-    pub kind-there : 4 * h < length table
-    kind-there = omega (arith, body-fits .0)
-
-    module _ (i v : ℕ) where
-      pub place-there : 4 * h + 1 < length (set table i v)
-      place-there = simp length-set (omega (arith, body-fits .0))
-
-      module _ (j w : ℕ) where
-        pub words-there : 4 * h + 2 < length (set (set table i v) j w)
-        words-there = simp length-set (omega (arith, body-fits .0))
-
-        pub address-there : (k x : ℕ) → 4 * h + 3 < length (set (set (set table i v) j w) k x)
-        address-there k x = simp length-set (omega (arith, body-fits .0))
+  -- the record has room
+  pub record-there : (table : List ℕ) → recordLength * totalOf file ≤ length table
+      → recordLength * h + recordLength ≤ length table
+  record-there table l = omega (arith, body-fits .0)
 
 pub record-done : (file bases t r : List ℕ) (a : Act) (h p k s : ℕ) → a ≡ Body h p k → s ≡ sizeOf file h
-    → r ≡ set (set (set (set t (4 * h) k) (4 * h + 1) p) (4 * h + 2) s) (4 * h + 3) (amountOf bases h)
+    → r ≡ withNumbers t (recordLength * h) (k ∷ p ∷ s ∷ amountOf bases h ∷ [])
     → r ≡ recordOne file bases t a
 record-done file bases t r a h p k s e q x = x ∙ rw (e, q)
 
@@ -267,7 +257,7 @@ record-rest file bases t (Add p k b) h = refl
 
 pub length-recordOne : (file bases t : List ℕ) (a : Act) → length (recordOne file bases t a) ≡ length t
 length-recordOne file bases t Quiet = refl
-length-recordOne file bases t (Body h p k) = simp length-set
+length-recordOne file bases t (Body h p k) = length-numbers t (recordLength * h) _
 length-recordOne file bases t (Store p w) = refl
 length-recordOne file bases t (Add p k b) = refl
 

@@ -32,6 +32,7 @@ use Rattle.program.proofs.Heads.{header-fits}
 use Rattle.program.proofs.CursorsFit.{step-fits, start-fits}
 use Rattle.loader.specs.declared.calls.Outcome.{Outcome}
 use Rattle.loader.specs.Memory.{loadedOf}
+use Rattle.loader.specs.Table.{recordLength}
 use Rattle.loader.specs.Bases.{basesFrom, basesFault}
 use Rattle.loader.specs.Near.{clashOf}
 use Rattle.loader.specs.Calls.{roomFault, also, lastTests, loadAnswer, moveAnswer}
@@ -281,15 +282,15 @@ all-zero w n e k = ap (λ (l : List ℕ). getD l k 0) e ∙ getD-zeros n k
 -- ---- the table is filled
 
 module _ (o : Outcome) (room t n : ℕ) (p : Fills o room) (e : o .answer ≡ Accepted t n) where
-  fills : (t ≤ type.mostHunks) × (4 * t ≤ room)
+  fills : (t ≤ type.mostHunks) × (recordLength * t ≤ room)
   fills = rw e at (p .fills)
 
-  pub fill-from : 4 * t ≤ length (o .records)
+  pub fill-from : recordLength * t ≤ length (o .records)
   fill-from = omega (arith, fills .0, p .whole)
 
-  pub fill-to : 4 * t ≤ room
+  pub fill-to : recordLength * t ≤ room
   fill-to = fills .1
 
 pub fill-done : (o : Outcome) (table r : List ℕ) (t n : ℕ) → o .answer ≡ Accepted t n
-    → r ≡ take (4 * t) (o .records) ++ drop (4 * t) table → r ≡ filled o table
+    → r ≡ take (recordLength * t) (o .records) ++ drop (recordLength * t) table → r ≡ filled o table
 fill-done o table r t n e h = h ∙ sym (ap (λ a. filledBy a (o .records) table) e)

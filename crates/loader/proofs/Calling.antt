@@ -15,8 +15,8 @@ use Rattle.program.specs.Check.{numbersOf}
 use Rattle.loader.specs.declared.calls.Outcome.{Outcome}
 use Rattle.program.specs.Cursors.{HeaderFits}
 use Rattle.loader.specs.Memory.{loadedOf, withStored, targetsOf, amountOf, moved, loadOf, moveOf}
-use Rattle.loader.specs.Table.{tableRoom, withRecords, recordsOf, tableOf}
-use Rattle.loader.specs.Calls.{loadAnswer, moveAnswer, effect, Loads, Moves}
+use Rattle.loader.specs.Table.{recordLength, tableRoom, withRecords, recordsOf, tableOf}
+use Rattle.loader.specs.Calls.{loadAnswer, moveAnswer, effect, recordsIn, Loads, Moves}
 use Rattle.loader.specs.Parts.{Roomy, Cleanly, Writes, handed, LoadsCore, MovesCore, Fills, filled}
 use Rattle.loader.proofs.Answering.{LoadFacts, MoveFacts, load-facts, move-facts}
 use Rattle.loader.proofs.Inside.{keyed-targets, length-withRecords}
@@ -53,7 +53,7 @@ module _ (file : List ℕ) (b m : ℕ) (y : Roomy file b m) where
   add-asks l a e h = (y .header, y .whole, omega (arith, y .fits), omega (arith, y .counted))
 
   pub write-asks : (k : ℕ) → k ≡ tableRoom
-      → (HeaderFits file) × (length file % 4 ≡ 0) × (totalOf file ≤ b) × (4 * totalOf file ≤ k)
+      → (HeaderFits file) × (length file % 4 ≡ 0) × (totalOf file ≤ b) × (recordLength * totalOf file ≤ k)
   write-asks k e = (y .header, y .whole, omega (arith, y .counted), omega (arith, y .header .few))
 
   pub few-bases : b ≤ 64
@@ -155,7 +155,7 @@ module _ (file m w w′ : List ℕ) (records : ℕ) (a : Answer) where
 
 -- the records of an accepted outcome have room in the table
 fills-by : (a : Answer) (file bases : List ℕ) (o : Outcome) (room : ℕ) → o .answer ≡ a
-    → o .records ≡ handed file bases a → ((t n : ℕ) → a ≡ Accepted t n → (t ≤ 64) × (4 * t ≤ room)) → Fills o room
+    → o .records ≡ handed file bases a → ((t n : ℕ) → a ≡ Accepted t n → (t ≤ 64) × (recordLength * t ≤ room)) → Fills o room
 fills-by (Accepted t n) file bases o room e h f =
     record {
       fills = rw e (f t n refl);
@@ -171,12 +171,12 @@ unfolding recordsOf
 filled-by (Accepted t n) file bases table o e h f = rw (e, h, f t n refl)
 filled-by (Refused r) file bases table o e h f = rw e
 
-module _ (file bases m table w m1 w1 : List ℕ) (o : Outcome) (l : LoadsCore file bases m w (length table / 4) o m1 w1)
+module _ (file bases m table w m1 w1 : List ℕ) (o : Outcome) (l : LoadsCore file bases m w (recordsIn table) o m1 w1)
   where
     pub load-fills : Fills o (length table)
     load-fills =
         fills-by (o .answer) file bases o (length table) refl (l .numbers)
-        (λ t n e. let f = load-facts file bases (length m) (length table / 4) (length w) t n (o .answer) (l .answer)
+        (λ t n e. let f = load-facts file bases (length m) (recordsIn table) (length w) t n (o .answer) (l .answer)
         e in (
           omega (arith, f .file-accepted .hunks, f .file-accepted .header .few),
           omega (arith, f .records, f .file-accepted .hunks),
@@ -191,17 +191,17 @@ module _ (file bases m table w m1 w1 : List ℕ) (o : Outcome) (l : LoadsCore fi
           loaded = l .loaded ∙ ap (λ a. effect a (loadOf file bases m) m) (sym e);
           recorded =
               h ∙ filled-by (o .answer) file bases table o refl (l .numbers)
-              (λ t n x. load-facts file bases (length m) (length table / 4) (length w) t n (o .answer) (l .answer)
+              (λ t n x. load-facts file bases (length m) (recordsIn table) (length w) t n (o .answer) (l .answer)
               x .file-accepted .hunks) ∙ ap (λ a. effect a (tableOf file bases table) table) (sym e);
           clean = l .clean;
         }
 
 module _ (file old new m table w m1 w1 : List ℕ) (o : Outcome)
-    (l : MovesCore file old new m w (length table / 4) o m1 w1) where
+    (l : MovesCore file old new m w (recordsIn table) o m1 w1) where
   pub move-fills : Fills o (length table)
   move-fills =
       fills-by (o .answer) file new o (length table) refl (l .numbers)
-      (λ t n e. let f = move-facts file old new (length m) (length table / 4) (length w) t n (o .answer) (l .answer)
+      (λ t n e. let f = move-facts file old new (length m) (recordsIn table) (length w) t n (o .answer) (l .answer)
       e .load in (
         omega (arith, f .file-accepted .hunks, f .file-accepted .header .few),
         omega (arith, f .records, f .file-accepted .hunks),
@@ -216,7 +216,7 @@ module _ (file old new m table w m1 w1 : List ℕ) (o : Outcome)
         shifted = l .shifted ∙ ap (λ a. effect a (moveOf file old new m) m) (sym e);
         recorded =
             h ∙ filled-by (o .answer) file new table o refl (l .numbers)
-            (λ t n x. move-facts file old new (length m) (length table / 4) (length w) t n (o .answer) (l .answer)
+            (λ t n x. move-facts file old new (length m) (recordsIn table) (length w) t n (o .answer) (l .answer)
             x .load .file-accepted .hunks) ∙ ap (λ a. effect a (tableOf file new table) table) (sym e);
         clean = l .clean;
       }

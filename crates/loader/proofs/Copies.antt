@@ -1,14 +1,15 @@
 -- Loops that write numbers one after the other. Assumes nothing.
 use Prim.Native.Nat.{ℕ, suc, _+_, _%_, _^_, _<_, _≤_}
-use mathlib.Core.Path.{_≡_, refl, sym, _∙_}
+use mathlib.Core.Path.{_≡_, refl, sym, ap, _∙_}
 use mathlib.Core.Logic.{_≢_}
 use mathlib.Core.List.{List, [], _∷_, _++_, append-assoc}
 use native.Mathlib.Omega.{arith}
 use native.Mathlib.Decide.{decLt}
 use native.Mathlib.Numerals.{add-one}
 use lib.ListN.{length, length-set, getD, take, drop, set}
-use lib.Seq.{length-take-le, take-suc, drop-cons, set-at, getD-set-same, getD-set-other}
+use lib.Seq.{length-take-le, take-suc, take-all, drop-cons, set-at, getD-set-same, getD-set-other}
 use Rattle.loader.specs.Memory.{amountOf, moved}
+use Rattle.loader.specs.Table.{withNumbers}
 
 -- the first i numbers of s are copied over those of d; then one more
 pub copy-more : (s d : List ℕ) (i : ℕ) → i < length s → i < length d
@@ -22,6 +23,51 @@ copy-more s d i h k =
       take-suc s i 0 h,
     )
     (sym (append-assoc (take i s) (getD s i 0 ∷ []) (drop (suc i) d)))
+
+-- ---- numbers put in place of others
+
+pub length-numbers : (t : List ℕ) (n : ℕ) (xs : List ℕ) → length (withNumbers t n xs) ≡ length t
+unfolding withNumbers
+length-numbers t n [] = refl
+length-numbers t n (x ∷ xs) = length-numbers (set t n x) (n + 1) xs ∙ length-set t n x
+
+-- one more, after the others
+numbers-snoc : (t : List ℕ) (n : ℕ) (xs : List ℕ) (x m : ℕ) → n + length xs ≡ m
+    → set (withNumbers t n xs) m x ≡ withNumbers t n (xs ++ (x ∷ []))
+unfolding withNumbers
+numbers-snoc t n [] x m e = let z : m ≡ n = omega arith in ap (λ (k : ℕ). set t k x) z
+numbers-snoc t n (y ∷ xs) x m e = numbers-snoc (set t n y) (n + 1) xs x m (omega arith)
+
+-- the first i numbers of s are put there
+pub record Puts (s t₀ : List ℕ) (n : ℕ) (t : List ℕ) (i : ℕ) : Type 0 where
+  pub within : i ≤ length s
+  pub done : t ≡ withNumbers t₀ n (take i s)
+
+pub put-start : (s t : List ℕ) (n : ℕ) → Puts s t n t 0
+unfolding withNumbers
+put-start s t n = record { within = omega arith; done = refl }
+
+module _ (s t₀ : List ℕ) (n : ℕ) (t : List ℕ) (i : ℕ) (p : Puts s t₀ n t i) where
+  pub put-length : length t ≡ length t₀
+  put-length = ap length (p .done) ∙ length-numbers t₀ n (take i s)
+
+  pub put-all : length s ≤ i → t ≡ withNumbers t₀ n s
+  put-all h = p .done ∙ ap (withNumbers t₀ n) (take-all i s h)
+
+  pub put-room : i < length s → n + length s ≤ length t₀ → n + i < length t
+  put-room h l = omega (arith, put-length)
+
+  pub put-turn : i < length s → Puts s t₀ n (set t (n + i) (getD s i 0)) (i + 1)
+  put-turn h =
+      record {
+        within = omega arith;
+        done =
+            ap (λ (u : List ℕ). set u (n + i) (getD s i 0)) (p .done)
+            ∙ numbers-snoc t₀ n (take i s) (getD s i 0) (n + i) (omega (arith, length-take-le i s (p .within)))
+            ∙ ap (withNumbers t₀ n) (sym (take-suc s i 0 h)) ∙ rw (add-one i);
+      }
+
+-- ---- differences
 
 -- the differences below i are there; the length stays
 pub record Differs (old new m₀ m : List ℕ) (i : ℕ) : Type 0 where

@@ -25,10 +25,10 @@ use Rattle.program.specs.Check.{checkOf}
 use Rattle.program.specs.Acts.{actsOf}
 use Rattle.program.specs.Cursors.{HeaderFits}
 use Rattle.loader.specs.Memory.{loadedOf, targetsOf, amountOf, bodiesOf, loadOf, moved, moveOf}
-use Rattle.loader.specs.Table.{tableRoom, recordsOf, tableOf}
+use Rattle.loader.specs.Table.{recordLength, tableRoom, recordsOf, tableOf}
 use Rattle.loader.specs.Bases.{basesFault}
 use Rattle.loader.specs.Near.{near, nearAny, clash, clashOf}
-use Rattle.loader.specs.Calls.{roomFault, loadAnswer, moveAnswer, Loads, Moves}
+use Rattle.loader.specs.Calls.{roomFault, loadAnswer, moveAnswer, recordsIn, Loads, Moves}
 use Rattle.loader.specs.Moving.{SameRoom, LoadsAt}
 use Rattle.loader.proofs.Marking.{near-false, no-bool}
 use Rattle.loader.proofs.Inside.{within-targets, within-more, length-withRecords, length-bodies}
@@ -131,10 +131,10 @@ memory-stays file A m a b =
 
 -- ---- tables
 
-pub length-records : (file bases : List ℕ) → HeaderFits file → length (recordsOf file bases) ≡ 4 * totalOf file
+pub length-records : (file bases : List ℕ) → HeaderFits file → length (recordsOf file bases) ≡ recordLength * totalOf file
 unfolding recordsOf
 length-records file bases s =
-    length-take-le (4 * totalOf file) _
+    length-take-le (recordLength * totalOf file) _
     (omega (
       arith,
       s .few,
@@ -146,33 +146,33 @@ length-records file bases s =
 pub table-table : (file A B t : List ℕ) → HeaderFits file → tableOf file B (tableOf file A t) ≡ tableOf file B t
 table-table file A B t s =
     ap (λ l. recordsOf file B ++ l)
-    (drop-at (recordsOf file A) (drop (4 * totalOf file) t) (4 * totalOf file) (length-records file A s))
+    (drop-at (recordsOf file A) (drop (recordLength * totalOf file) t) (recordLength * totalOf file) (length-records file A s))
 
-length-table : (file bases t : List ℕ) → HeaderFits file → 4 * totalOf file ≤ length t
+length-table : (file bases t : List ℕ) → HeaderFits file → recordLength * totalOf file ≤ length t
     → length (tableOf file bases t) ≡ length t
 length-table file bases t s h =
-    length-append (recordsOf file bases) (drop (4 * totalOf file) t)
-    ∙ omega (arith, length-records file bases s, length-drop (4 * totalOf file) t)
+    length-append (recordsOf file bases) (drop (recordLength * totalOf file) t)
+    ∙ omega (arith, length-records file bases s, length-drop (recordLength * totalOf file) t)
 
 -- ---- the laws, over what the contracts of load and move say
 
 module _ (file m t w : List ℕ) (x n : ℕ) where
   -- what an accepted move leaves
-  moved-to : (A B : List ℕ) (y k : ℕ) → LoadsAt file A m (length t / 4) w x n → LoadsAt file B m (length t / 4) w y k
+  moved-to : (A B : List ℕ) (y k : ℕ) → LoadsAt file A m (recordsIn t) w x n → LoadsAt file B m (recordsIn t) w y k
       → (m′ t′ w′ m1 t1 w1 : List ℕ) (r : Answer) → SameRoom m t w m′ t′ w′ → Moves file A B m′ t′ w′ r m1 t1 w1
       → (r ≡ Accepted x n) × (m1 ≡ moveOf file A B m′) × (t1 ≡ tableOf file B t′) × (w1 ≡ replicate (length w) 0)
   moved-to A B y k a b m′ t′ w′ m1 t1 w1 r s v =
       let e : r ≡ Accepted x n =
       v .answer ∙ rw (s .memory, s .table, s .work)
-      (move-accepted file A B (length m) (length t / 4) (length w) x n y k a b) in
+      (move-accepted file A B (length m) (recordsIn t) (length w) x n y k a b) in
       (e, v .shifted ∙ rw e, v .recorded ∙ rw e, v .clean ∙ ap (λ j. replicate j 0) (s .work))
 
-  low-of : (A : List ℕ) (y k : ℕ) → LoadsAt file A m (length t / 4) w y k → Low A
-  low-of A y k a = low-bases file A 0 (load-facts file A (length m) (length t / 4) (length w) y k _ refl a .bases-good)
+  low-of : (A : List ℕ) (y k : ℕ) → LoadsAt file A m (recordsIn t) w y k → Low A
+  low-of A y k a = low-bases file A 0 (load-facts file A (length m) (recordsIn t) (length w) y k _ refl a .bases-good)
 
-  module _ (A : List ℕ) (a : LoadsAt file A m (length t / 4) w x n) where
-    facts : LoadFacts file A (length m) (length t / 4) (length w) x n
-    facts = load-facts file A (length m) (length t / 4) (length w) x n _ refl a
+  module _ (A : List ℕ) (a : LoadsAt file A m (recordsIn t) w x n) where
+    facts : LoadFacts file A (length m) (recordsIn t) (length w) x n
+    facts = load-facts file A (length m) (recordsIn t) (length w) x n _ refl a
 
     header : HeaderFits file
     header = facts .file-accepted .header
@@ -206,11 +206,11 @@ module _ (file m t w : List ℕ) (x n : ℕ) where
         → Moves file A B m1 t1 w′ r m2 t2 w2 → (r ≡ Accepted y k) × (m2 ≡ mB) × (t2 ≡ tB) × (w2 ≡ wB)
     load-move B y k m1 t1 w1 mB tB wB l lb w′ m2 t2 w2 r lw v =
         let room = load-room m1 t1 w1 l in
-        let b : LoadsAt file B m (length t / 4) w y k = sym (lb .answer) in
+        let b : LoadsAt file B m (recordsIn t) w y k = sym (lb .answer) in
         let q =
         moved-to A B y k a b m1 t1 w′ m2 t2 w2 r
         (record { memory = room .memory; table = room .table; work = lw }) v in (
-          q .0 ∙ one-answer file A B (length m) (length t / 4) (length w) x n y k a b,
+          q .0 ∙ one-answer file A B (length m) (recordsIn t) (length w) x n y k a b,
           q .1 ∙ ap (moveOf file A B) (l .loaded) ∙ memory-load-move file header (facts .apart) m (facts .fits) A B
               low ∙ sym (lb .loaded),
           q .2 ∙ ap (tableOf file B) (l .recorded) ∙ table-table file A B t header ∙ sym (lb .recorded),
@@ -218,16 +218,16 @@ module _ (file m t w : List ℕ) (x n : ℕ) where
         )
 
     -- On memory with any contents, A to B and then B to C is A to C.
-    pub move-move : (B C : List ℕ) (y k z j : ℕ) → LoadsAt file B m (length t / 4) w y k
-        → LoadsAt file C m (length t / 4) w z j
+    pub move-move : (B C : List ℕ) (y k z j : ℕ) → LoadsAt file B m (recordsIn t) w y k
+        → LoadsAt file C m (recordsIn t) w z j
         → (m′ t′ w′ w″ w‴ m1 t1 w1 m2 t2 w2 m3 t3 w3 : List ℕ) (r1 r2 r3 : Answer) → SameRoom m t w m′ t′ w′
         → length w″ ≡ length w → length w‴ ≡ length w → Moves file A B m′ t′ w′ r1 m1 t1 w1
         → Moves file B C m1 t1 w″ r2 m2 t2 w2 → Moves file A C m′ t′ w‴ r3 m3 t3 w3
         → (r1 ≡ Accepted x n) × (r2 ≡ Accepted x n) × (r3 ≡ Accepted x n) × (m2 ≡ m3) × (t2 ≡ t3) × (w2 ≡ w3)
     move-move B C y k z j b c m′ t′ w′ w″ w‴ m1 t1 w1 m2 t2 w2 m3 t3 w3 r1 r2 r3 s lw lw′ v1 v2 v3 =
         let p = moved-to A B y k a b m′ t′ w′ m1 t1 w1 r1 s v1 in
-        let same : Accepted x n ≡ Accepted y k = one-answer file A B (length m) (length t / 4) (length w) x n y k a b in
-        let b′ : LoadsAt file B m (length t / 4) w x n = b ∙ sym same in
+        let same : Accepted x n ≡ Accepted y k = one-answer file A B (length m) (recordsIn t) (length w) x n y k a b in
+        let b′ : LoadsAt file B m (recordsIn t) w x n = b ∙ sym same in
         let room = move-room B m′ t′ w′ w1 s (p .3) B in
         let q =
         moved-to B C z j b′ c m1 t1 w″ m2 t2 w2 r2
@@ -256,14 +256,14 @@ module _ (file m t w : List ℕ) (x n : ℕ) where
         (p .0, p .1 ∙ memory-stays file A m′ low bytes)
 
     -- A to B and back to A brings every byte of memory back.
-    pub move-back : (B : List ℕ) (y k : ℕ) → LoadsAt file B m (length t / 4) w y k
+    pub move-back : (B : List ℕ) (y k : ℕ) → LoadsAt file B m (recordsIn t) w y k
         → (m′ t′ w′ w″ m1 t1 w1 m2 t2 w2 : List ℕ) (r1 r2 : Answer) → Bytes m′ → SameRoom m t w m′ t′ w′
         → length w″ ≡ length w → Moves file A B m′ t′ w′ r1 m1 t1 w1 → Moves file B A m1 t1 w″ r2 m2 t2 w2
         → (r1 ≡ Accepted x n) × (r2 ≡ Accepted x n) × (m2 ≡ m′)
     move-back B y k b m′ t′ w′ w″ m1 t1 w1 m2 t2 w2 r1 r2 bytes s lw v1 v2 =
         let p = moved-to A B y k a b m′ t′ w′ m1 t1 w1 r1 s v1 in
-        let same : Accepted x n ≡ Accepted y k = one-answer file A B (length m) (length t / 4) (length w) x n y k a b in
-        let b′ : LoadsAt file B m (length t / 4) w x n = b ∙ sym same in
+        let same : Accepted x n ≡ Accepted y k = one-answer file A B (length m) (recordsIn t) (length w) x n y k a b in
+        let b′ : LoadsAt file B m (recordsIn t) w x n = b ∙ sym same in
         let room = move-room B m′ t′ w′ w1 s (p .3) B in
         let q =
         moved-to B A x n b′ a m1 t1 w″ m2 t2 w2 r2

@@ -14,7 +14,7 @@ use Rattle.program.specs.declared.check.Answer.{Answer}
 use Rattle.program.specs.declared.check.Answer.the-variants.{Accepted, Refused}
 use Rattle.program.specs.Check.{numbersOf, checkRefusals}
 use Rattle.program.proofs.AsNumbers.{Refuses, check-number, zero-accepts}
-use Rattle.loader.specs.Calls.{callRefusals, loadAnswer, moveAnswer, Loads, Moves}
+use Rattle.loader.specs.Calls.{callRefusals, loadAnswer, moveAnswer, recordsIn, Loads, Moves}
 use Rattle.loader.specs.Verdicts.{Accepts, CallWhy}
 use Rattle.loader.proofs.PageVerdicts.{load-refused, move-refused}
 
@@ -53,18 +53,18 @@ module _ (file m : List ℕ) (k : ℕ) (w : List ℕ) (r : Answer) where
 module _ (file m t w : List ℕ) (r : Answer) (m1 t1 w1 : List ℕ) where
   pub load-listed : (bases : List ℕ) → Loads file bases m t w r m1 t1 w1 → (f : Refusal) → r ≡ Refused f
       → numbersOf r .number ∈ callRefusals
-  load-listed bases l f e = rw e (load-number file (length m) (length t / 4) (length w) f bases (sym (l .answer) ∙ e))
+  load-listed bases l f e = rw e (load-number file (length m) (recordsIn t) (length w) f bases (sym (l .answer) ∙ e))
 
   -- the number is 0 if and only if the load is accepted
   pub load-zero-exactly : (bases : List ℕ) → Loads file bases m t w r m1 t1 w1 → (numbersOf r .number ≡ 0) ↔ Accepts r
-  load-zero-exactly bases l = load-zero file m (length t / 4) w r bases (l .answer)
+  load-zero-exactly bases l = load-zero file m (recordsIn t) w r bases (l .answer)
 
   pub move-listed : (old new : List ℕ) → Moves file old new m t w r m1 t1 w1 → (f : Refusal) → r ≡ Refused f
       → numbersOf r .number ∈ callRefusals
   move-listed old new l f e =
-      rw e (move-number file (length m) (length t / 4) (length w) f old new (sym (l .answer) ∙ e))
+      rw e (move-number file (length m) (recordsIn t) (length w) f old new (sym (l .answer) ∙ e))
 
   -- and so of a move
   pub move-zero-exactly : (old new : List ℕ) → Moves file old new m t w r m1 t1 w1
       → (numbersOf r .number ≡ 0) ↔ Accepts r
-  move-zero-exactly old new l = move-zero file m (length t / 4) w r old new (l .answer)
+  move-zero-exactly old new l = move-zero file m (recordsIn t) w r old new (l .answer)

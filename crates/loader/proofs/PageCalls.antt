@@ -7,8 +7,8 @@ use Rattle.program.specs.declared.check.Answer.the-variants.{Accepted}
 use Rattle.program.specs.Page.{Hunk, Holds, total}
 use Rattle.program.specs.Check.{checkOf}
 use Rattle.program.proofs.Pages.{is-total, page-accepted, accepted-page}
-use Rattle.loader.specs.Table.{tableOf}
-use Rattle.loader.specs.Calls.{Loads, Moves}
+use Rattle.loader.specs.Table.{recordLength, tableOf}
+use Rattle.loader.specs.Calls.{recordsIn, Loads, Moves}
 use Rattle.loader.specs.Pages.{recordNumbers, LoadedPage, MovedPage}
 use Rattle.loader.proofs.Deciding.{load-exactly, move-exactly}
 use Rattle.loader.proofs.PageLoads.{length-numbers, page-records, page-loads, page-moves}
@@ -22,13 +22,13 @@ numbers file hs x n h c =
 page-table : (file : List ℕ) (hs : List Hunk) → Holds file hs → (bases t : List ℕ)
     → tableOf file bases t ≡ recordNumbers 0 0 hs bases ++ drop (length (recordNumbers 0 0 hs bases)) t
 page-table file hs h bases t =
-    ap₂ (λ (l : List ℕ) (k : ℕ). l ++ drop (4 * k) t) (page-records file hs (h .fits) (h .whole) (h .words) bases)
+    ap₂ (λ (l : List ℕ) (k : ℕ). l ++ drop (recordLength * k) t) (page-records file hs (h .fits) (h .whole) (h .words) bases)
     (is-total file hs (h .fits) (h .whole) (h .words))
     ∙ ap (λ (k : ℕ). recordNumbers 0 0 hs bases ++ drop k t) (sym (length-numbers 0 0 hs bases))
 
 module _ (file m t w : List ℕ) (x n : ℕ) (m′ t′ w′ : List ℕ) where
   load-checked : (bases : List ℕ) → Loads file bases m t w (Accepted x n) m′ t′ w′ → checkOf file ≡ Accepted x n
-  load-checked bases l = load-exactly file (length m) (length t / 4) (length w) x n bases .0 (sym (l .answer)) .0
+  load-checked bases l = load-exactly file (length m) (recordsIn t) (length w) x n bases .0 (sym (l .answer)) .0
 
   -- for any hunks that the file holds
   pub load-held : (bases : List ℕ) → Loads file bases m t w (Accepted x n) m′ t′ w′ → (hs : List Hunk) → Holds file hs
@@ -50,8 +50,8 @@ module _ (file m t w : List ℕ) (x n : ℕ) (m′ t′ w′ : List ℕ) where
 
   move-checked : (old new : List ℕ) → Moves file old new m t w (Accepted x n) m′ t′ w′ → checkOf file ≡ Accepted x n
   move-checked old new l =
-      let a = move-exactly file (length m) (length t / 4) (length w) x n old new .0 (sym (l .answer)) .0 in
-      load-exactly file (length m) (length t / 4) (length w) x n old .0 a .0
+      let a = move-exactly file (length m) (recordsIn t) (length w) x n old new .0 (sym (l .answer)) .0 in
+      load-exactly file (length m) (recordsIn t) (length w) x n old .0 a .0
 
   pub move-held : (old new : List ℕ) → Moves file old new m t w (Accepted x n) m′ t′ w′ → (hs : List Hunk)
       → Holds file hs → MovedPage (recordNumbers 0 0) hs old new m t x n m′ t′

@@ -4,8 +4,8 @@ use Prim.Native.Nat.{ℕ, suc, _+_, _*_, _-_, _/_, _%_, _≤_}
 use mathlib.Core.Path.{_≡_, refl, sym, ap, _∙_}
 use mathlib.Core.List.{List, [], _∷_, _++_, map, append-assoc, map-append}
 use native.Mathlib.Omega.{arith}
-use lib.ListN.{length, take, drop, set, replicate, length-append, length-replicate, replicate-append-replicate}
-use lib.Seq.{take-at}
+use lib.ListN.{length, take, drop, replicate, length-append, length-replicate, replicate-append-replicate}
+use lib.Seq.{take-at, set-at}
 use Rattle.words.specs.Word.{wordsAt, setWord, addAt}
 use Rattle.words.specs.Shift.{Target, shiftAll}
 use Rattle.program.specs.declared.act.Act.{Act}
@@ -14,7 +14,7 @@ use Rattle.program.specs.Page.{Hunk, code, stores, bss, joined, hunkWords, writ
 use Rattle.program.specs.Page.{HunkFits, Program, total}
 use Rattle.program.specs.Page as page
 use Rattle.program.specs.Spaces.{Space}
-use Rattle.program.specs.Header.{totalOf, spaceOf, sizeOf}
+use Rattle.program.specs.Header.{totalOf, spaceOf}
 use Rattle.program.specs.Acts.{actsOf, pass}
 use Rattle.program.specs.Cursors.{placeOf}
 use Rattle.program.proofs.Taken.{AllSpaces}
@@ -22,7 +22,8 @@ use Rattle.program.proofs.Spaces.{size-same}
 use Rattle.program.proofs.Pages.{is-total, all-spaces}
 use Rattle.loader.specs.Memory.{loadedOf, storeOne, withStored, targets, targetsOf, amountOf, bodiesOf, loadOf}
 use Rattle.loader.specs.Memory.{moved, moveOf}
-use Rattle.loader.specs.Table.{recordOne, withRecords, recordsOf}
+use Rattle.loader.specs.Table.{recordOf, recordLength, withNumbers, recordOne, withRecords, tableRoom}
+use Rattle.loader.specs.Table.{recordsOf}
 use Rattle.loader.specs.Pages.{PageTarget, kindOf, recordNumbers, wordBytes, hunkBytes, imageOf, hunkAt}
 use Rattle.loader.specs.Pages.{hunksAt, fileTargets, bare, relocated}
 use Rattle.loader.proofs.PageActs.{plain, storing, adding, pageActs, page-acts}
@@ -53,26 +54,33 @@ module _ {X : Type 0} (g : X → Act → X) where
   pass-adding still x (y ∷ xs) l =
       ap (λ (z : X). pass g z (adding xs l)) (still x (y .loadedAt) (y .named) (y .byte)) ∙ pass-adding still x xs l
 
--- ---- four numbers in a row
+-- ---- numbers in a row
 
-set-four : (done more : List ℕ) (a b c d k p s y : ℕ)
-    → set (set (set (set (done ++ (a ∷ b ∷ c ∷ d ∷ more)) (length done) k) (suc (length done)) p)
-    (suc (suc (length done))) s) (suc (suc (suc (length done)))) y ≡ done ++ (k ∷ p ∷ s ∷ y ∷ more)
-set-four [] more a b c d k p s y = refl
-set-four (x ∷ done) more a b c d k p s y = ap (λ (l : List ℕ). x ∷ l) (set-four done more a b c d k p s y)
+-- numbers take the place of as many others
+over : (done olds more xs : List ℕ) (n : ℕ) → length olds ≡ length xs → length done ≡ n
+    → withNumbers (done ++ (olds ++ more)) n xs ≡ done ++ (xs ++ more)
+unfolding withNumbers
+over done [] more [] n l e = refl
+over done [] more (x ∷ xs) n l e = absurd (omega arith)
+over done (o ∷ olds) more [] n l e = absurd (omega arith)
+over done (o ∷ olds) more (x ∷ xs) n l e =
+    ap (λ (u : List ℕ). withNumbers u (n + 1) xs)
+    (set-at done o (olds ++ more) x n e ∙ sym (append-assoc done (x ∷ []) (olds ++ more)))
+    ∙ over (done ++ (x ∷ [])) olds more xs (n + 1) (omega arith) (omega (arith, length-append done (x ∷ [])))
+    ∙ append-assoc done (x ∷ []) (xs ++ more)
 
-four-at : (done more : List ℕ) (a b c d k p s y n : ℕ) → length done ≡ n
-    → set (set (set (set (done ++ (a ∷ b ∷ c ∷ d ∷ more)) n k) (n + 1) p) (n + 2) s) (n + 3) y ≡ done
-    ++ (k ∷ p ∷ s ∷ y ∷ more)
-four-at done more a b c d k p s y n e =
-    let e1 : n + 1 ≡ suc (length done) = omega arith in
-    let e2 : n + 2 ≡ suc (suc (length done)) = omega arith in
-    let e3 : n + 3 ≡ suc (suc (suc (length done))) = omega arith in
-    rw (e1, e2, e3, ← e) (set-four done more a b c d k p s y)
+-- a word is such numbers: its four bytes
+word-over : (m : List ℕ) (p w : ℕ) → setWord m p w ≡ withNumbers m p (wordBytes w)
+unfolding setWord withNumbers
+word-over m p w =
+    let two : p + 2 ≡ p + 1 + 1 = omega arith in
+    let three : p + 3 ≡ p + 1 + 1 + 1 = omega arith in
+    rw (two, three)
 
-four-more : (n : ℕ) (more : List ℕ) → replicate (4 * suc n) 0 ++ more ≡ 0 ∷ 0 ∷ 0 ∷ 0 ∷ (replicate (4 * n) 0 ++ more)
-four-more n more =
-    let z : 4 * suc n ≡ suc (suc (suc (suc (4 * n)))) = omega arith in ap (λ (k : ℕ). replicate k 0 ++ more) z
+zeros-two : (a b n : ℕ) (more : List ℕ) → n ≡ a + b
+    → replicate n 0 ++ more ≡ replicate a 0 ++ (replicate b 0 ++ more)
+zeros-two a b n more e =
+    rw (e, ← replicate-append-replicate {A = ℕ} a b 0) (append-assoc (replicate a 0) (replicate b 0) more)
 
 zeros-three : (a b c n : ℕ) (more : List ℕ) → n ≡ a + (b + c)
     → replicate n 0 ++ more ≡ replicate a 0 ++ (replicate b 0 ++ (replicate c 0 ++ more))
@@ -84,26 +92,29 @@ zeros-three a b c n more e =
 
 module _ (file bases : List ℕ) (t : ℕ) where
   records-on : (hs : List Hunk) (h p at : ℕ) (done more : List ℕ) → AllSpaces t (spaceOf file) h hs
-      → length done ≡ 4 * h
-      → withRecords file bases (done ++ (replicate (4 * length hs) 0 ++ more)) (pageActs h p at hs) ≡ done
+      → length done ≡ recordLength * h
+      → withRecords file bases (done ++ (replicate (recordLength * length hs) 0 ++ more)) (pageActs h p at hs) ≡ done
       ++ (recordNumbers p h hs bases ++ more)
   unfolding pass
   records-on [] h p at done more f e = refl
   records-on (x ∷ xs) h p at done more f e =
-      let four : List ℕ = kindOf (x .body) ∷ p ∷ x .space .size ∷ amountOf bases h ∷ [] in
-      let k : length (done ++ four) ≡ 4 * (h + 1) = omega (arith, length-append done four) in
-      let more′ : List ℕ = replicate (4 * length xs) 0 ++ more in
+      let one : Space → List ℕ = λ s. recordOf (kindOf (x .body)) p s (amountOf bases h) in
+      let k : length (done ++ one (x .space)) ≡ recordLength * (h + 1) =
+      omega (arith, length-append done (one (x .space))) in
+      let more′ : List ℕ = replicate (recordLength * length xs) 0 ++ more in
       let q : List Act = pageActs (h + 1) (p + 4 * x .space .size) (at + 4 * length (hunkWords x)) xs in
       let r =
-      records-on xs (h + 1) (p + 4 * x .space .size) (at + 4 * length (hunkWords x)) (done ++ four) more (f .2) k in
-      ap (λ (u : List ℕ). withRecords file bases (done ++ u) (pageActs h p at (x ∷ xs))) (four-more (length xs) more)
+      records-on xs (h + 1) (p + 4 * x .space .size) (at + 4 * length (hunkWords x))
+      (done ++ one (x .space)) more (f .2) k in
+      ap (λ (u : List ℕ). withRecords file bases (done ++ u) (pageActs h p at (x ∷ xs)))
+      (zeros-two recordLength (recordLength * length xs) (recordLength * suc (length xs)) more (omega arith))
       ∙ pass-storing (recordOne file bases) (λ u a b. refl) _ p 0 (storedWords (x .body)) (adding (hunkAt h p at x) q)
       ∙ pass-adding (recordOne file bases) (λ u a b c. refl) _ (hunkAt h p at x) q
       ∙ ap (λ (u : List ℕ). withRecords file bases u q)
-      (four-at done more′ 0 0 0 0 (kindOf (x .body)) p (sizeOf file h) (amountOf bases h) (4 * h) e)
-      ∙ rw (← size-same (f .0)) (rw (append-assoc done four more′, append-assoc done four) at r)
+      (over done (replicate recordLength 0) more′ (one (spaceOf file h)) (recordLength * h) refl e)
+      ∙ rw (← f .0) (rw (append-assoc done (one (x .space)) more′, append-assoc done (one (x .space))) at r)
 
-pub length-numbers : (p i : ℕ) (hs : List Hunk) (bases : List ℕ) → length (recordNumbers p i hs bases) ≡ 4 * length hs
+pub length-numbers : (p i : ℕ) (hs : List Hunk) (bases : List ℕ) → length (recordNumbers p i hs bases) ≡ recordLength * length hs
 length-numbers p i [] bases = refl
 length-numbers p i (x ∷ xs) bases = omega (arith, length-numbers (p + 4 * x .space .size) (i + 1) xs bases)
 
@@ -116,14 +127,16 @@ length-words (w ∷ ws) = omega (arith, length-words ws)
 stores-on : (p i : ℕ) (ws done more : List ℕ) (l : List Act) → length done ≡ p + 4 * i
     → withStored (done ++ (replicate (4 * length ws) 0 ++ more)) (storing p i ws l) ≡ withStored
     (done ++ (joined wordBytes ws ++ more)) l
-unfolding pass setWord
+unfolding pass
 stores-on p i [] done more l e = refl
 stores-on p i (w ∷ ws) done more l e =
     let more′ : List ℕ = replicate (4 * length ws) 0 ++ more in
     let k : length (done ++ wordBytes w) ≡ p + 4 * (i + 1) = omega (arith, length-append done (wordBytes w)) in
     let r = stores-on p (i + 1) ws (done ++ wordBytes w) more l k in
-    ap (λ (u : List ℕ). withStored (done ++ u) (storing p i (w ∷ ws) l)) (four-more (length ws) more)
-    ∙ ap (λ (u : List ℕ). withStored u (storing p (i + 1) ws l)) (four-at done more′ 0 0 0 0 _ _ _ _ (p + 4 * i) e)
+    ap (λ (u : List ℕ). withStored (done ++ u) (storing p i (w ∷ ws) l))
+    (zeros-two 4 (4 * length ws) (4 * suc (length ws)) more (omega arith))
+    ∙ ap (λ (u : List ℕ). withStored u (storing p (i + 1) ws l))
+    (word-over _ (p + 4 * i) w ∙ over done (replicate 4 0) more′ (wordBytes w) (p + 4 * i) refl e)
     ∙ (rw (append-assoc done (wordBytes w) more′, append-assoc done (wordBytes w)) at r)
 
 pub stored-fit : (b : page.Body) → length (storedWords b) ≤ bodyCount b
@@ -224,26 +237,26 @@ module _ (file : List ℕ) (hs : List Hunk) (pr : Program hs) (whole : length fi
   unfolding placeOf
   page-loaded = omega (arith, place-total (totalOf file) (spaceOf file) hs 0 (all-spaces file hs pr whole e))
 
-  records-room : (bases : List ℕ) (n : ℕ) → 4 * length hs ≤ n
-      → take (4 * totalOf file) (withRecords file bases (replicate n 0) (actsOf file)) ≡ recordNumbers 0 0 hs bases
+  records-room : (bases : List ℕ) (n : ℕ) → recordLength * length hs ≤ n
+      → take (recordLength * totalOf file) (withRecords file bases (replicate n 0) (actsOf file)) ≡ recordNumbers 0 0 hs bases
   records-room bases n l =
-      let k : ℕ = 4 * length hs in
+      let k : ℕ = recordLength * length hs in
       let z : n ≡ k + (n - k) = omega arith in
       let u : replicate {A = ℕ} n 0 ≡ replicate k 0 ++ replicate (n - k) 0 =
       ap (λ (j : ℕ). replicate {A = ℕ} j 0) z ∙ sym (replicate-append-replicate {A = ℕ} k (n - k) 0) in
-      let q : length (recordNumbers 0 0 hs bases) ≡ 4 * totalOf file =
+      let q : length (recordNumbers 0 0 hs bases) ≡ recordLength * totalOf file =
       omega (arith, length-numbers 0 0 hs bases, is-total file hs pr whole e) in
-      ap (take (4 * totalOf file))
+      ap (take (recordLength * totalOf file))
       (pass-plain (recordOne file bases) (λ t. refl) (replicate n 0) (actsOf file)
       ∙ ap (withRecords file bases (replicate n 0)) (page-acts file hs pr whole e)
       ∙ ap (λ (t : List ℕ). withRecords file bases t (pageActs 0 0 (20 + 4 * length hs) hs)) u
       ∙ records-on file bases (totalOf file) hs 0 0 _ [] (replicate (n - k) 0) (all-spaces file hs pr whole e) refl)
-      ∙ take-at (recordNumbers 0 0 hs bases) (replicate (n - k) 0) (4 * totalOf file) q
+      ∙ take-at (recordNumbers 0 0 hs bases) (replicate (n - k) 0) (recordLength * totalOf file) q
 
   -- the records
   pub page-records : (bases : List ℕ) → recordsOf file bases ≡ recordNumbers 0 0 hs bases
   unfolding recordsOf
-  page-records bases = records-room bases 256 (omega (arith, pr .most))
+  page-records bases = records-room bases tableRoom (omega (arith, pr .most))
 
   -- memory with no amount added yet
   pub page-bodies : (m : List ℕ) → bodiesOf file m ≡ imageOf hs ++ drop (4 * total hs) m

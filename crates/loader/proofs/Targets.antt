@@ -12,7 +12,7 @@ use Rattle.words.proofs.Shifts.{OffAll, Added, length-shiftAll, shiftAll-off, s
 use Rattle.program.specs.declared.check.Answer.the-variants.{Accepted}
 use Rattle.program.specs.Page.{Hunk, Each, Holds, total}
 use Rattle.loader.specs.Memory.{targetsOf, amountOf, bodiesOf, loadOf, moved, moveOf}
-use Rattle.loader.specs.Calls.{Loads, Moves}
+use Rattle.loader.specs.Calls.{recordsIn, Loads, Moves}
 use Rattle.loader.specs.Pages.{PageTarget, imageOf, fileTargets, bare, Adds, Outside, withHunks}
 use Rattle.loader.proofs.Inside.{within-targets, within-more, length-bodies}
 use Rattle.loader.proofs.Answering.{load-facts, move-facts}
@@ -59,7 +59,7 @@ module _ (file : List ℕ) (hs : List Hunk) (held : Holds file hs) where
       -- at each target: the stored word and the base of its hunk
       pub load-words : Adds (imageOf hs) m′ (fileTargets hs) (amountOf bases)
       load-words =
-          let c = load-facts file bases (length m) (length t / 4) (length w) x n _ (l .answer) refl in
+          let c = load-facts file bases (length m) (recordsIn t) (length w) x n _ (l .answer) refl in
           let s = c .file-accepted .header in
           let fits =
           within-more _ (length (bodiesOf file m)) (targetsOf file)
@@ -84,7 +84,7 @@ module _ (file : List ℕ) (hs : List Hunk) (held : Holds file hs) where
       -- at each target: what stood there, and new minus old base
       pub move-words : Adds m m′ (fileTargets hs) (moved old new)
       move-words =
-          let c = move-facts file old new (length m) (length t / 4) (length w) x n _ (l .answer) refl .load in
+          let c = move-facts file old new (length m) (recordsIn t) (length w) x n _ (l .answer) refl .load in
           let s = c .file-accepted .header in
           let fits = within-more _ (length m) (targetsOf file) (c .fits) (within-targets file s) in
           let a = shiftAll-added m (targetsOf file) (moved old new) (apart [] (targetsOf file) (c .apart)) fits in

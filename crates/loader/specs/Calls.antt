@@ -16,7 +16,7 @@ use Rattle.program.specs.declared.check.Answer.the-variants.{Accepted, Refused}
 use Rattle.program.specs.Header.{totalOf}
 use Rattle.program.specs.Check.{numbersOf, checkRefusals, checkOf}
 use Rattle.loader.specs.Memory.{loadedOf, loadOf, moveOf}
-use Rattle.loader.specs.Table.{tableOf}
+use Rattle.loader.specs.Table.{recordLength, tableOf}
 use Rattle.loader.specs.Bases.{basesFault}
 use Rattle.loader.specs.Near.{clashOf}
 
@@ -58,18 +58,22 @@ abbrev pub effect : Answer → List ℕ → List ℕ → List ℕ
 effect (Accepted t n) new old = new
 effect (Refused r) new old = old
 
--- ---- the promises: the calls are lent a table of four numbers a record; the answer is said also by its numbers
+-- ---- the promises: the calls are lent a table of numbers; the answer is said also by its numbers
+
+-- the records that such a table has room for
+abbrev pub recordsIn : List ℕ → ℕ
+recordsIn table = length table / recordLength
 
 pub record Loads (file bases memory table work : List ℕ) (r : Answer) (memory′ table′ work′ : List ℕ) : Type 0 where
-  pub answer : r ≡ loadAnswer file bases (length memory) (length table / 4) (length work)
-  pub numbers : numbersOf r ≡ numbersOf (loadAnswer file bases (length memory) (length table / 4) (length work))
+  pub answer : r ≡ loadAnswer file bases (length memory) (recordsIn table) (length work)
+  pub numbers : numbersOf r ≡ numbersOf (loadAnswer file bases (length memory) (recordsIn table) (length work))
   pub loaded : memory′ ≡ effect r (loadOf file bases memory) memory
   pub recorded : table′ ≡ effect r (tableOf file bases table) table
   pub clean : work′ ≡ replicate (length work) 0
 
 pub record Moves (file old new memory table work : List ℕ) (r : Answer) (memory′ table′ work′ : List ℕ) : Type 0 where
-  pub answer : r ≡ moveAnswer file old new (length memory) (length table / 4) (length work)
-  pub numbers : numbersOf r ≡ numbersOf (moveAnswer file old new (length memory) (length table / 4) (length work))
+  pub answer : r ≡ moveAnswer file old new (length memory) (recordsIn table) (length work)
+  pub numbers : numbersOf r ≡ numbersOf (moveAnswer file old new (length memory) (recordsIn table) (length work))
   pub shifted : memory′ ≡ effect r (moveOf file old new memory) memory
   pub recorded : table′ ≡ effect r (tableOf file new table) table
   pub clean : work′ ≡ replicate (length work) 0

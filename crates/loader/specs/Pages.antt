@@ -11,6 +11,7 @@ use Rattle.words.specs.Shift.{Target, shiftAll}
 use Rattle.program.specs.Page.{Body, Group, Part, Hunk, code, stores, bss, relocation, symbols, debug, joined}
 use Rattle.program.specs.Page.{nameWords, bodyWords, groupWords, partWords, hunkWords, Each, storedWords, total}
 use Rattle.loader.specs.Memory.{amountOf, moved}
+use Rattle.loader.specs.Table.{recordOf}
 
 -- ---- records
 
@@ -19,11 +20,12 @@ kindOf (code ws) = type.code
 kindOf (stores ws) = type.stores
 kindOf (bss n) = type.bss
 
--- kind, place, size and base of each hunk; the first stands at byte p and has number i
+-- those of hunks, one after the other; the first stands at byte p and has number i
 abbrev pub recordNumbers : ℕ → ℕ → List Hunk → List ℕ → List ℕ
 recordNumbers p i [] bases = []
 recordNumbers p i (h ∷ hs) bases =
-    kindOf (h .body) ∷ p ∷ h .space .size ∷ amountOf bases i ∷ recordNumbers (p + 4 * h .space .size) (i + 1) hs bases
+    recordOf (kindOf (h .body)) p (h .space) (amountOf bases i)
+    ++ recordNumbers (p + 4 * h .space .size) (i + 1) hs bases
 
 -- ---- memory, with no amount added yet
 
@@ -122,7 +124,7 @@ Outside k ts = Each (λ t. (k < t .loadedAt) ⊎ (t .loadedAt + 4 ≤ k)) ts
 abbrev pub withHunks : List Hunk → List ℕ → List ℕ
 withHunks hs m = imageOf hs ++ drop (4 * total hs) m
 
--- What a call leaves, m′ and t′. A table holds its records as numbers, four a record (`recordNumbers 0 0`), or as
+-- What a call leaves, m′ and t′. A table holds its records as numbers (`recordNumbers 0 0`) or as
 -- structs (`pageRecords 0 0` of `hunks`): `held` says which those of the hunks are. They come first, then what stood
 -- there.
 

@@ -16,7 +16,7 @@ use Rattle.program.specs.Acts.{actsOf}
 use Rattle.program.specs.Cursors.{HeaderFits}
 use Rattle.loader.specs.declared.calls.Outcome.{Outcome}
 use Rattle.loader.specs.Memory.{loadedOf, loadOf, moveOf}
-use Rattle.loader.specs.Table.{tableRoom, withRecords}
+use Rattle.loader.specs.Table.{recordLength, tableRoom, withRecords}
 use Rattle.loader.specs.Calls.{loadAnswer, moveAnswer, effect}
 
 -- ---- the passes
@@ -85,7 +85,7 @@ pub record MovesCore (file old new memory work : List ℕ) (records : ℕ)
 
 -- an accepted outcome's records have room in a table of so many numbers
 abbrev pub FillsBy : Answer → ℕ → Type 0
-FillsBy (Accepted t n) room = (t ≤ type.mostHunks) × (4 * t ≤ room)
+FillsBy (Accepted t n) room = (t ≤ type.mostHunks) × (recordLength * t ≤ room)
 FillsBy (Refused r) room = Unit
 
 pub record Fills (o : Outcome) (room : ℕ) : Type 0 where
@@ -94,7 +94,7 @@ pub record Fills (o : Outcome) (room : ℕ) : Type 0 where
 
 -- and are written to its front
 abbrev pub filledBy : Answer → List ℕ → List ℕ → List ℕ
-filledBy (Accepted t n) numbers table = take (4 * t) numbers ++ drop (4 * t) table
+filledBy (Accepted t n) numbers table = take (recordLength * t) numbers ++ drop (recordLength * t) table
 filledBy (Refused r) numbers table = table
 
 abbrev pub filled : Outcome → List ℕ → List ℕ

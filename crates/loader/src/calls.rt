@@ -3,6 +3,8 @@ use crate::bases::bases_fault;
 use crate::marks::mark_all;
 use crate::memory::add_all;
 use crate::memory::store_all;
+use crate::table::RECORD_LENGTH;
+use crate::table::TABLE_ROOM;
 use crate::table::write_all;
 use answers::Fault;
 use answers::Refusal;
@@ -26,7 +28,7 @@ ghost use Rattle.loader.specs.Parts.{Roomy, Cleanly, Writes, LoadsCore, 
 // An answer, and the records' numbers beside it.
 pub struct Outcome {
     pub answer: Answer,
-    pub records: [u32; 256],
+    pub records: [u32; TABLE_ROOM],
 }
 
 fn short() -> Tested
@@ -215,7 +217,7 @@ pub fn load_core(
     ensures { λ r. ⌜ LoadsCore (now (file .entry)) (now (bases .entry)) (now (memory .entry)) (now (work .entry))
         records r (now (memory .exit)) (now (work .exit)) ⌝ }
 {
-    let mut numbers = [0u32; 256];
+    let mut numbers = [0u32; TABLE_ROOM];
     let a = load_verdict(file, bases, memory.len(), records, work);
     if let Answer::Accepted(_, n) = a {
         load_accepted(file, bases, n, memory, &mut numbers);
@@ -238,7 +240,7 @@ pub fn move_core(
     ensures { λ r. ⌜ MovesCore (now (file .entry)) (now (old .entry)) (now (new .entry)) (now (memory .entry))
         (now (work .entry)) records r (now (memory .exit)) (now (work .exit)) ⌝ }
 {
-    let mut numbers = [0u32; 256];
+    let mut numbers = [0u32; TABLE_ROOM];
     let a = move_verdict(file, old, new, memory.len(), records, work);
     if let Answer::Accepted(_, _) = a {
         move_accepted(file, old, new, memory, &mut numbers);
@@ -249,7 +251,7 @@ pub fn move_core(
     }
 }
 
-// Writes the records of an accepted program to a table of four numbers a record.
+// Writes the records of an accepted program to a table of numbers.
 fn fill(o: Outcome, table: &mut [u32])
     requires { ⌜ Fills o (length (now table)) ⌝ }
     ensures { λ _. ⌜ now (table .exit) ≡ filled o (now (table .entry)) ⌝ }
@@ -257,7 +259,7 @@ fn fill(o: Outcome, table: &mut [u32])
     let a = o.answer;
     let numbers = o.records;
     if let Answer::Accepted(t, _) = a {
-        copy_numbers(&numbers, 4 * t as usize, table);
+        copy_numbers(&numbers, RECORD_LENGTH * t as usize, table);
     }
 }
 
@@ -272,7 +274,7 @@ pub fn load(
     ensures { λ r. ⌜ Loads (now (file .entry)) (now (bases .entry)) (now (memory .entry)) (now (table .entry))
         (now (work .entry)) r (now (memory .exit)) (now (table .exit)) (now (work .exit)) ⌝ }
 {
-    let o = load_core(file, bases, memory, table.len() / 4, work);
+    let o = load_core(file, bases, memory, table.len() / RECORD_LENGTH, work);
     fill(o, table);
     o.answer
 }
@@ -289,7 +291,7 @@ pub fn move_program(
     ensures { λ r. ⌜ Moves (now (file .entry)) (now (old .entry)) (now (new .entry)) (now (memory .entry))
         (now (table .entry)) (now (work .entry)) r (now (memory .exit)) (now (table .exit)) (now (work .exit)) ⌝ }
 {
-    let o = move_core(file, old, new, memory, table.len() / 4, work);
+    let o = move_core(file, old, new, memory, table.len() / RECORD_LENGTH, work);
     fill(o, table);
     o.answer
 }

@@ -3,4 +3,4 @@ mod bases;
 pub mod calls;
 mod marks;
 mod memory;
-mod table;
+pub mod table;

@@ -9,32 +9,49 @@ use program::reader::begin;
 use program::reader::past;
 use program::reader::step;
 ghost use mathlib.Core.Path.{_≡_};
-ghost use Prim.Native.Nat.{_*_, _%_, _≤_};
+ghost use Prim.Native.Nat.{_+_, _*_, _%_, _≤_};
 ghost use lib.ListN.{length};
 ghost use Rattle.program.specs.Header.{totalOf};
 ghost use Rattle.program.specs.Acts.{actsOf};
 ghost use Rattle.program.specs.Cursors.{HeaderFits};
 ghost use Rattle.loader.specs.Parts.{ActFits};
-ghost use Rattle.loader.specs.Table.{recordOne, withRecords};
+ghost use Rattle.loader.specs.Table.{recordLength, withNumbers, recordOne, withRecords};
 
+// How many numbers a record has.
+pub const RECORD_LENGTH: usize = 4;
+
+// The numbers of the records of as many hunks as a file has at most.
+pub const TABLE_ROOM: usize = 64 * RECORD_LENGTH;
+
+// Puts numbers in place of those of the table from `at` on.
+fn put_numbers(numbers: &[u32], table: &mut [u32], at: usize)
+    requires { ⌜ at + length (now numbers) ≤ length (now table) ⌝ }
+    ensures { λ _. ⌜ now (table .exit) ≡ withNumbers (now (table .entry)) at (now (numbers .entry)) ⌝ }
+{
+    let mut i: usize = 0;
+    while i < numbers.len() {
+        table[at + i] = numbers[i];
+        i += 1;
+    }
+}
+
+// Writes the record of a hunk that begins.
 fn write_act(file: &[u8], bases: &[u32], table: &mut [u32], a: Act)
     requires { ⌜ (HeaderFits (now file)) × (ActFits 4294967296 (totalOf (now file)) a)
-        × (totalOf (now file) ≤ length (now bases)) × (4 * totalOf (now file) ≤ length (now table)) ⌝ }
+        × (totalOf (now file) ≤ length (now bases)) × (recordLength * totalOf (now file) ≤ length (now table)) ⌝ }
     ensures { λ _. ⌜ now (table .exit) ≡ recordOne (now (file .entry)) (now (bases .entry)) (now (table .entry)) a ⌝ }
 {
     if let Act::Body(h, p, k) = a {
         let i = h as usize;
-        table[4 * i] = k;
-        table[4 * i + 1] = p as u32;
-        table[4 * i + 2] = size(file, h);
-        table[4 * i + 3] = bases[i];
+        let record = [k, p as u32, size(file, h), bases[i]];
+        put_numbers(&record, table, RECORD_LENGTH * i);
     }
 }
 
 // Writes the record of each hunk.
 pub(crate) fn write_all(file: &[u8], bases: &[u32], table: &mut [u32])
     requires { ⌜ (HeaderFits (now file)) × (length (now file) % 4 ≡ 0) × (totalOf (now file) ≤ length (now bases))
-        × (4 * totalOf (now file) ≤ length (now table)) ⌝ }
+        × (recordLength * totalOf (now file) ≤ length (now table)) ⌝ }
     ensures { λ _. ⌜ now (table .exit) ≡ withRecords (now (file .entry)) (now (bases .entry)) (now (table .entry))
         (actsOf (now (file .entry))) ⌝ }
 {

@@ -10,14 +10,15 @@ mod volumes;
 use console::rooms;
 use frame::Frame;
 use frame::State;
+use loader::table::RECORD_LENGTH;
 ghost use mathlib.Core.Path.{_≡_};
 ghost use lib.ListN.{length};
 
 // The most memory, and the largest work area, that a program is lent.
 const AREA_ROOM: usize = 524288;
 
-// The numbers of the records that a program is lent at most: four for each of 80.
-const TABLE_ROOM: usize = 320;
+// The numbers of the records that a program is lent at most: 80 records.
+const TABLE: usize = 80 * RECORD_LENGTH;
 
 // The numbers of the requests.
 const IMAGE: u32 = 1;
@@ -135,7 +136,7 @@ fn main() {
     let mut file = rooms::file();
     let mut memory = area_room();
     let mut work = area_room();
-    let mut table = [0u32; TABLE_ROOM];
+    let mut table = [0u32; TABLE];
     all(
         &mut image,
         &mut output,

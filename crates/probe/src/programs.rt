@@ -9,6 +9,7 @@ use crate::frame::hold;
 use crate::line::say_area;
 use crate::line::say_pair;
 use console::say;
+use loader::table::RECORD_LENGTH;
 use program::check::Answer;
 
 // The longest list of bases.
@@ -81,7 +82,7 @@ fn wide(number: u32) -> usize {
 
 // The numbers of so many records.
 fn of_records(records: u32) -> usize {
-    4 * records as usize
+    RECORD_LENGTH * records as usize
 }
 
 // A load by so many numbers: memory length, records, work length, bases.

@@ -1,15 +1,15 @@
 -- `bench::listing::hunks` meets its contract. It goes over the records once.
-use Prim.Native.Nat.{_≤_, _-_, _/_}
+use Prim.Native.Nat.{_≤_, _-_}
 use borrow.Author.Needs.{needs}
-use lib.ListN.{length}
+use Rattle.loader.specs.Calls.{recordsIn}
 use Rattle.bench.proofs.listing.hunks.Statement.{statement}
 use Rattle.bench.proofs.listing.hunks.Tie as tie
 
 abbrev Inv-loop : tie.InvT-loop
-Inv-loop table i₀ i = i ≤ length table / 4
+Inv-loop table i₀ i = i ≤ recordsIn table
 
 abbrev μ-loop : tie.MeasureT-loop
-μ-loop table i₀ i = length table / 4 - i
+μ-loop table i₀ i = recordsIn table - i
 
 loop-holds : tie.Need-loop-holds Inv-loop μ-loop
 loop-holds c = search needs

@@ -1,6 +1,5 @@
 -- `loader::table::write_act` meets its contract. Assumes nothing.
-use Rattle.loader.proofs.Acts.{place-fits, size-there, base-there, kind-there, place-there, words-there}
-use Rattle.loader.proofs.Acts.{address-there, record-done, record-rest}
+use Rattle.loader.proofs.Acts.{place-fits, size-there, base-there, record-there, record-done, record-rest}
 use borrow.Author.Needs.{needs}
 use Rattle.loader.proofs.table.write_act.Statement.{statement}
 use Rattle.loader.proofs.table.write_act.Tie as tie
@@ -11,62 +10,26 @@ enum-known-a c = search needs
 cast-i : tie.Need-cast-i
 cast-i c = search needs
 
-mul-table : tie.Need-mul-table
-mul-table c = search needs
-
-mul-table-2 : tie.Need-mul-table-2
-mul-table-2 c = search needs
-
-slice-write-table : tie.Need-slice-write-table
-slice-write-table c = search kind-there
-
-cast-table : tie.Need-cast-table
-cast-table c = search place-fits
-
-mul-table-3 : tie.Need-mul-table-3
-mul-table-3 c = search needs
-
-add-table : tie.Need-add-table
-add-table c = search needs
-
-mul-table-4 : tie.Need-mul-table-4
-mul-table-4 c = search needs
-
-slice-write-table-2 : tie.Need-slice-write-table-2
-slice-write-table-2 c = search place-there
+cast-t10 : tie.Need-cast-t10
+cast-t10 c = search place-fits
 
 size-requires : tie.Need-size-requires
 size-requires c κs = search size-there
 
-mul-table-5 : tie.Need-mul-table-5
-mul-table-5 c = search needs
+mul-t12 : tie.Need-mul-t12
+mul-t12 c = search needs
 
-add-table-2 : tie.Need-add-table-2
-add-table-2 c = search needs
+shared-slice-read-t14 : tie.Need-shared-slice-read-t14
+shared-slice-read-t14 c = search base-there
 
-mul-table-6 : tie.Need-mul-table-6
-mul-table-6 c = search needs
+slice-aggregate-put-numbers : tie.Need-slice-aggregate-put-numbers
+slice-aggregate-put-numbers c = search needs
 
-slice-write-table-3 : tie.Need-slice-write-table-3
-slice-write-table-3 c = search words-there
+mul-put-numbers : tie.Need-mul-put-numbers
+mul-put-numbers c = search needs
 
-mul-table-7 : tie.Need-mul-table-7
-mul-table-7 c = search needs
-
-shared-slice-read-table : tie.Need-shared-slice-read-table
-shared-slice-read-table c = search base-there
-
-mul-table-8 : tie.Need-mul-table-8
-mul-table-8 c = search needs
-
-add-table-3 : tie.Need-add-table-3
-add-table-3 c = search needs
-
-mul-table-9 : tie.Need-mul-table-9
-mul-table-9 c = search needs
-
-slice-write-table-4 : tie.Need-slice-write-table-4
-slice-write-table-4 c = search address-there
+put-numbers-requires : tie.Need-put-numbers-requires
+put-numbers-requires c κs = search record-there
 
 same-length : tie.Need-same-length
 same-length c = search needs
@@ -83,25 +46,13 @@ write-act-spec =
     (tie.spec
     enum-known-a
     cast-i
-    mul-table
-    mul-table-2
-    slice-write-table
-    cast-table
-    mul-table-3
-    add-table
-    mul-table-4
-    slice-write-table-2
+    cast-t10
     size-requires
-    mul-table-5
-    add-table-2
-    mul-table-6
-    slice-write-table-3
-    mul-table-7
-    shared-slice-read-table
-    mul-table-8
-    add-table-3
-    mul-table-9
-    slice-write-table-4
+    mul-t12
+    shared-slice-read-t14
+    slice-aggregate-put-numbers
+    mul-put-numbers
+    put-numbers-requires
     same-length
     returns
     returns-2)
