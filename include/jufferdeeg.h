@@ -68,6 +68,7 @@ extern "C" {
 #define JUFFERDEEG_BAD_BASE 40        /* [entry] a base that is not allowed; [the first] not one for each hunk */
 #define JUFFERDEEG_SHORT_ROOM 41      /* [0] memory, table or work area is short */
 #define JUFFERDEEG_NEAR_TARGETS 42    /* [byte] an offset is less than 4 bytes from an earlier one of its hunk */
+#define JUFFERDEEG_BOTH_MEMORIES 43   /* [byte] a hunk asks for chip and fast memory at once */
 
 /* Room for any sentence of jufferdeeg_reason. */
 #define JUFFERDEEG_REASON_BYTES 128
@@ -149,7 +150,8 @@ struct jufferdeeg_read_numbers jufferdeeg_read(const uint8_t *image, size_t imag
 /* ---- programs
  *
  * A program file has 1 to 64 hunks of at most 65,536 words of 4 bytes. So a table of 64 records is never short, nor
- * are memory and a work area of 16 MiB each. */
+ * are memory and a work area of 16 MiB each. A hunk may ask for chip memory or for fast memory: the record keeps
+ * what it asks for, and it changes nothing else. */
 #define JUFFERDEEG_MOST_HUNKS 64
 #define JUFFERDEEG_MOST_BYTES 16777216
 
@@ -164,7 +166,7 @@ struct jufferdeeg_program_numbers {
  *
  * Lent: the file.
  * Left: nothing is written.
- * Numbers: 0, 30 to 39: the file's first fault. */
+ * Numbers: 0, 30 to 39, 43: the file's first fault. */
 struct jufferdeeg_program_numbers jufferdeeg_check(const uint8_t *file, size_t file_bytes);
 
 /* What a hunk is: kind of struct jufferdeeg_hunk. */
@@ -172,12 +174,18 @@ struct jufferdeeg_program_numbers jufferdeeg_check(const uint8_t *file, size_t f
 #define JUFFERDEEG_DATA 0x3EAu
 #define JUFFERDEEG_BSS 0x3EBu
 
+/* The kind of memory that a hunk asks for: memory of struct jufferdeeg_hunk. */
+#define JUFFERDEEG_ANY_MEMORY 0u
+#define JUFFERDEEG_CHIP_MEMORY 1u
+#define JUFFERDEEG_FAST_MEMORY 2u
+
 /* One for each hunk of a loaded program. */
 struct jufferdeeg_hunk {
-    uint32_t kind;  /* JUFFERDEEG_CODE, JUFFERDEEG_DATA or JUFFERDEEG_BSS */
-    uint32_t place; /* its first byte in the lent memory */
-    uint32_t size;  /* in words of 4 bytes */
-    uint32_t base;  /* the address that it was loaded for */
+    uint32_t kind;   /* JUFFERDEEG_CODE, JUFFERDEEG_DATA or JUFFERDEEG_BSS */
+    uint32_t place;  /* its first byte in the lent memory */
+    uint32_t size;   /* in words of 4 bytes */
+    uint32_t base;   /* the address that it was loaded for */
+    uint32_t memory; /* JUFFERDEEG_ANY_MEMORY, JUFFERDEEG_CHIP_MEMORY or JUFFERDEEG_FAST_MEMORY */
 };
 
 /* Loads a program file for the given bases: the hunks' addresses on the machine that will run it. Memory gets the
@@ -191,7 +199,7 @@ struct jufferdeeg_hunk {
  * 0 words has none, and may stand anywhere.
  * Left: accepted, the loaded bytes and the hunks' records, and the rest of memory and table as it was; refused, no
  * byte of memory and no record changes. The work area is all 0 in either case.
- * Numbers: 0, 30 to 42: faults of the file first, in its order, then 40, 41, 42. */
+ * Numbers: 0, 30 to 43: faults of the file first, in its order, then 40, 41, 42. */
 struct jufferdeeg_program_numbers jufferdeeg_load(const uint8_t *file, size_t file_bytes, const uint32_t *bases,
                                                   size_t bases_count, uint8_t *memory, size_t memory_bytes,
                                                   struct jufferdeeg_hunk *table, size_t table_records, uint8_t *work,

@@ -1,10 +1,11 @@
-//! What can be wrong with a program, with its bases or with the room it is lent: for every number from 30 to 42
+//! What can be wrong with a program, with its bases or with the room it is lent: for every number from 30 to 43
 //! of docs/FORMAT.md, section "Numbers", several causes, each drawn at random.
 //!
 //! Harm is done to one place of something good, so the refusal due for it is known without a check. What is known
 //! beforehand reaches only so far; [`scratch`] does harm without knowing what comes of it.
 
-use crate::program::{Refusal, BSS, CODE, DATA, DEBUG, END, HEADER, HUNK_WORDS, NAME, RELOCATIONS, SYMBOLS};
+use crate::program::{Refusal, BOTH, BSS, CHIP, CODE, DATA, DEBUG, END, FAST, HEADER, HUNK_WORDS, NAME};
+use crate::program::{RELOCATIONS, SYMBOLS};
 use crate::programs::{file, good_bases, good_program, Part, Room, Written};
 use crate::rng::Rng;
 
@@ -115,7 +116,7 @@ fn stored(words: &[Written], index: usize) -> u32 {
 /// The number of words that the header gives the hunk to which this word belongs.
 fn size(words: &[Written], index: usize) -> u32 {
     let size = words.iter().find(|word| word.part == Part::Size && word.hunk == words[index].hunk);
-    size.expect("every hunk has a size").value
+    size.expect("every hunk has a size").value & !BOTH
 }
 
 /// Whether this word belongs to a bss hunk.
@@ -127,6 +128,37 @@ fn in_bss(words: &[Written], index: usize) -> bool {
 /// How many hunks the file has.
 fn total(words: &[Written]) -> u32 {
     words[2].value
+}
+
+/// The index of the first size word, and of the last.
+fn end_sizes(words: &[Written]) -> [usize; 2] {
+    [5, 4 + total(words) as usize]
+}
+
+/// Sizes above the limit, as far as 30 bits hold them.
+fn too_large(rng: &mut Rng) -> u32 {
+    let any = HUNK_WORDS + 1 + rng.below(u64::from(!BOTH - HUNK_WORDS)) as u32;
+    rng.pick(&[HUNK_WORDS + 1, HUNK_WORDS + 2, 0x0002_0000, 0x2000_0000, !BOTH, any])
+}
+
+/// The file with a size above the limit in some size word, which asks for this memory.
+fn too_large_in(rng: &mut Rng, words: &[Written], memory: u32) -> Faulty {
+    let size = too_large(rng);
+    change(rng, words, Part::Size, &[memory | size])
+}
+
+/// The file with both bits for memory set in this size word, whatever its size.
+fn both(rng: &mut Rng, words: &[Written], index: usize) -> Faulty {
+    changed(rng, words, index, words[index].value | BOTH)
+}
+
+/// The file with both bits in a size word that is not the last, and another value in the size word after it.
+fn both_before(rng: &mut Rng, words: &[Written], next: u32) -> Faulty {
+    let index = some_with(rng, words, Part::Size, |index| index < end_sizes(words)[1])?;
+    let mut words = words.to_vec();
+    words[index].value |= BOTH;
+    words[index + 1].value = next;
+    Some((file(&words), 4 * index))
 }
 
 /// The file with a body's length above its hunk's size.
@@ -218,9 +250,9 @@ const fn cause(number: u32, what: &'static str, make: fn(&mut Rng, &[Written]) -
 }
 
 /// High bits for numbers that are not to have them.
-const HIGH: [u32; 4] = [0x0100_0000, 0x4000_0000, 0x8000_0000, 0xFF00_0000];
+const HIGH: [u32; 5] = [0x0100_0000, CHIP, FAST, BOTH, 0xFF00_0000];
 
-/// The causes that lie in the file: 30 to 39, and 42.
+/// The causes that lie in the file: 30 to 39, 42 and 43.
 pub const CAUSES: &[Cause] = &[
     cause(30, "no bytes", |_, _| Some((Vec::new(), 0))),
     cause(30, "not one word", |rng, words| Some((file(words)[..rng.pick(&[1, 2, 3])].to_vec(), 0))),
@@ -276,7 +308,7 @@ pub const CAUSES: &[Cause] = &[
         let length = some(rng, words, Part::GroupLength)?;
         let end = length + 2 + words[length].value as usize;
         let mut words = words[..end].to_vec();
-        words[length].value += rng.pick(&[1, 2, 0x4000_0000, 0x8000_0000]);
+        words[length].value += rng.pick(&[1, 2, CHIP, FAST, BOTH]);
         Some((file(&words), 4 * end))
     }),
     cause(31, "a hunk number of a bss hunk", |rng, words| {
@@ -314,11 +346,15 @@ pub const CAUSES: &[Cause] = &[
     }),
     cause(32, "first hunk", |rng, words| {
         let last = total(words) - 1;
-        change(rng, words, Part::First, &[1, last.max(1), 0x8000_0000, u32::MAX])
+        change(rng, words, Part::First, &[1, last.max(1), CHIP, FAST, u32::MAX])
     }),
     cause(32, "last hunk too high", |rng, words| {
         let total = total(words);
         change(rng, words, Part::Last, &[total, total + 1, 64 + total, u32::MAX])
+    }),
+    cause(32, "last hunk with a high bit", |rng, words| {
+        let high = rng.pick(&HIGH);
+        change(rng, words, Part::Last, &[(total(words) - 1) | high])
     }),
     cause(32, "last hunk too low", |rng, words| {
         let total = total(words);
@@ -340,29 +376,34 @@ pub const CAUSES: &[Cause] = &[
     }),
     cause(33, "the high byte alone", |rng, words| change(rng, words, Part::Library, &HIGH)),
     cause(34, "one too many", |rng, words| change(rng, words, Part::Size, &[HUNK_WORDS + 1])),
-    cause(34, "far too many", |rng, words| {
-        let any = rng.below(u64::from(u32::MAX - HUNK_WORDS)) as u32 + HUNK_WORDS + 1;
-        change(rng, words, Part::Size, &[HUNK_WORDS + 2, 0x0002_0000, 0x7FFF_FFFF, u32::MAX, any])
+    cause(34, "one too many in chip memory", |rng, words| {
+        change(rng, words, Part::Size, &[CHIP | (HUNK_WORDS + 1)])
     }),
-    cause(34, "chip memory", |rng, words| {
-        let index = some(rng, words, Part::Size)?;
-        changed(rng, words, index, words[index].value | 0x4000_0000)
+    cause(34, "one too many in fast memory", |rng, words| {
+        change(rng, words, Part::Size, &[FAST | (HUNK_WORDS + 1)])
     }),
-    cause(34, "fast memory", |rng, words| {
-        let index = some(rng, words, Part::Size)?;
-        changed(rng, words, index, words[index].value | 0x8000_0000)
-    }),
+    cause(34, "too many", |rng, words| too_large_in(rng, words, 0)),
+    cause(34, "too many in chip memory", |rng, words| too_large_in(rng, words, CHIP)),
+    cause(34, "too many in fast memory", |rng, words| too_large_in(rng, words, FAST)),
     cause(34, "the last size", |rng, words| {
-        let index = 4 + total(words) as usize;
-        changed(rng, words, index, 0x0010_0000)
+        let [_, last] = end_sizes(words);
+        let size = rng.pick(&[0, CHIP, FAST]) | 0x0010_0000;
+        changed(rng, words, last, size)
     }),
     cause(34, "two of them", |rng, words| {
         let one = some(rng, words, Part::Size)?;
         let other = some(rng, words, Part::Size)?;
         let mut words = words.to_vec();
         words[one].value = HUNK_WORDS + 1;
-        words[other].value = u32::MAX;
+        words[other].value = rng.pick(&[!BOTH, CHIP | !BOTH, FAST | !BOTH]);
         Some((file(&words), 4 * one.min(other)))
+    }),
+    cause(34, "before a size with both bits", |rng, words| {
+        let index = some_with(rng, words, Part::Size, |index| index < end_sizes(words)[1])?;
+        let mut words = words.to_vec();
+        words[index].value = rng.pick(&[0, CHIP, FAST]) | too_large(rng);
+        words[index + 1].value |= BOTH;
+        Some((file(&words), 4 * index))
     }),
     cause(35, "second name", |rng, words| {
         let name = some(rng, words, Part::Name)?;
@@ -412,7 +453,7 @@ pub const CAUSES: &[Cause] = &[
         let mut words = words.to_vec();
         let size = rng.below(u64::from(words[body].value)) as u32;
         let hunk = words[body].hunk;
-        words[5 + hunk].value = size;
+        words[5 + hunk].value = words[5 + hunk].value & BOTH | size;
         Some((file(&words), 4 * body))
     }),
     cause(36, "length with a high bit", |rng, words| {
@@ -445,7 +486,7 @@ pub const CAUSES: &[Cause] = &[
         change(rng, words, Part::GroupHunk, &[total(words), total(words) + 1])
     }),
     cause(38, "hunk number far too high", |rng, words| {
-        change(rng, words, Part::GroupHunk, &[64, 65, 0x8000_0000, 0xFF00_0000, u32::MAX])
+        change(rng, words, Part::GroupHunk, &[64, 65, CHIP, FAST, 0xFF00_0000, u32::MAX])
     }),
     cause(38, "odd offset", |rng, words| {
         let index = some(rng, words, Part::Offset)?;
@@ -467,7 +508,7 @@ pub const CAUSES: &[Cause] = &[
     }),
     cause(38, "offset with a sign", |rng, words| {
         let index = some(rng, words, Part::Offset)?;
-        let high = rng.pick(&[0x8000_0000, 0x4000_0000, 0xC000_0000]);
+        let high = rng.pick(&[FAST, CHIP, BOTH]);
         changed(rng, words, index, words[index].value | high)
     }),
     cause(38, "offset 0 in bss", |rng, words| offset_in_bss(rng, words, 0)),
@@ -513,12 +554,43 @@ pub const CAUSES: &[Cause] = &[
     cause(42, "twice over blocks", |rng, words| near(rng, words, Near::Blocks, 0)),
     cause(42, "2 above over blocks", |rng, words| near(rng, words, Near::Blocks, 2)),
     cause(42, "2 below over blocks", |rng, words| near(rng, words, Near::Blocks, -2)),
+    cause(43, "the first size", |rng, words| both(rng, words, end_sizes(words)[0])),
+    cause(43, "the last size", |rng, words| both(rng, words, end_sizes(words)[1])),
+    cause(43, "some size", |rng, words| {
+        let index = some(rng, words, Part::Size)?;
+        both(rng, words, index)
+    }),
+    cause(43, "no words", |rng, words| change(rng, words, Part::Size, &[BOTH])),
+    cause(43, "as many words as there may be", |rng, words| change(rng, words, Part::Size, &[BOTH | HUNK_WORDS])),
+    cause(43, "one word too many", |rng, words| change(rng, words, Part::Size, &[BOTH | (HUNK_WORDS + 1)])),
+    cause(43, "too many words", |rng, words| too_large_in(rng, words, BOTH)),
+    cause(43, "the next size is missing", |rng, words| {
+        let index = some_with(rng, words, Part::Size, |index| index < end_sizes(words)[1])?;
+        let (bytes, place) = both(rng, words, index)?;
+        Some((bytes[..place + 4].to_vec(), place))
+    }),
+    cause(43, "the next size is too large", |rng, words| {
+        let next = rng.pick(&[0, CHIP, FAST]) | too_large(rng);
+        both_before(rng, words, next)
+    }),
+    cause(43, "the next size has both bits too", |rng, words| {
+        let next = BOTH | rng.pick(&[0, 1, HUNK_WORDS, !BOTH]);
+        both_before(rng, words, next)
+    }),
+    cause(43, "after chip and fast memory", |rng, words| {
+        // one bit in each of the sizes before is not both
+        let index = some_with(rng, words, Part::Size, |index| index > 6)?;
+        let mut words = words.to_vec();
+        words[index - 2].value = words[index - 2].value & !BOTH | CHIP;
+        words[index - 1].value = words[index - 1].value & !BOTH | FAST;
+        both(rng, &words, index)
+    }),
 ];
 
 /// The file with some length of this part that reaches beyond the file's end.
 fn longer_than_the_file(rng: &mut Rng, words: &[Written], part: Part) -> Faulty {
     let index = some(rng, words, part)?;
-    let length = rng.pick(&[words.len() as u32, 0x4000_0000, 0x8000_0000, 0xFFFF_FFFC, u32::MAX]);
+    let length = rng.pick(&[words.len() as u32, CHIP, FAST, BOTH, 0xFFFF_FFFC, u32::MAX]);
     let (bytes, _) = changed(rng, words, index, length)?;
     let end = bytes.len();
     Some((bytes, end))
@@ -709,7 +781,7 @@ pub fn short_room(rng: &mut Rng, needed: Room) -> Room {
 }
 
 /// Words that mean something, or nearly so.
-const TELLING: [u32; 24] = [
+const TELLING: [u32; 27] = [
     0,
     1,
     2,
@@ -732,6 +804,9 @@ const TELLING: [u32; 24] = [
     0x1_0000,
     0x1_0001,
     0x0100_0001,
+    CHIP,
+    FAST,
+    BOTH,
     0xFFFF_FFFE,
     u32::MAX,
 ];
@@ -744,8 +819,9 @@ pub fn scratch(rng: &mut Rng, bytes: &mut Vec<u8>) {
             return;
         }
         let at = 4 * rng.below(words as u64) as usize;
-        match rng.below(8) {
+        match rng.below(9) {
             0 => bytes[at + 3] ^= 1 << rng.below(8),
+            8 => bytes[at] ^= rng.pick(&[0x40, 0x80, 0xC0]),
             1 => bytes[at + rng.below(4) as usize] = rng.draw() as u8,
             2 | 3 => bytes[at..at + 4].copy_from_slice(&rng.pick(&TELLING).to_be_bytes()),
             4 => drop(bytes.drain(at..at + 4)),
@@ -788,12 +864,12 @@ mod tests {
 
     #[test]
     fn every_number_has_a_handful_of_causes() {
-        for number in (30..40).chain([42]) {
+        for number in (30..40).chain([42, 43]) {
             let different: BTreeSet<_> = causes(number).map(|cause| cause.what).collect();
             assert!(different.len() >= 5, "{number}");
             assert_eq!(different.len(), causes(number).count(), "{number}");
         }
-        assert!(CAUSES.iter().all(|cause| (30..43).contains(&cause.number)));
+        assert!(CAUSES.iter().all(|cause| (30..44).contains(&cause.number)));
     }
 
     /// The harm says what is due, the check finds it, neither knowing of the other.
@@ -893,7 +969,7 @@ mod tests {
             met.insert(read(&bytes).map_or_else(|refusal| refusal.number, |_| 0));
         }
         // whole words come and go, so the length stays a multiple of 4
-        let wanted = [0].into_iter().chain(31..40).collect();
+        let wanted = [0].into_iter().chain(31..40).chain([43]).collect();
         assert_eq!(met, wanted);
     }
 }

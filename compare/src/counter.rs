@@ -25,7 +25,7 @@ pub const MEMORY: usize = 1_048_576;
 pub const BASES: usize = 256;
 
 /// What each refusal means, in words; to that of 41 belong two numbers.
-pub const SENTENCES: [(u32, &str); 33] = [
+pub const SENTENCES: [(u32, &str); 34] = [
     (1, "the image is not 901120 bytes long"),
     (2, "the claim area is too short"),
     (3, "the image does not begin with the boot tag DOS 0"),
@@ -59,6 +59,7 @@ pub const SENTENCES: [(u32, &str); 33] = [
     (40, "the bases are not one for each hunk, or this one is not allowed"),
     (41, "the room is too small"),
     (42, "the offset is less than 4 bytes from another one of its hunk"),
+    (43, "chip and fast memory are asked for at once"),
 ];
 
 /// Exit statuses: all was accepted, something was refused, the tool could not ask. Of several it is the highest.
@@ -184,13 +185,17 @@ impl Areas {
     fn shown(&self, loaded: Loaded) -> Vec<u8> {
         let word = |four: &[u8]| four.iter().map(|byte| format!("{byte:02X}")).collect::<String>() + "\n";
         let words: String = self.memory[..loaded.bytes].chunks(4).map(word).collect();
-        let record = |(index, record): (usize, &[u32])| {
-            let &[kind, place, size, base] = record else { unreachable!("a record of four numbers") };
-            format!("hunk {index}: kind {kind:03X}, place {place}, size {size}, base {base:08X}\n")
-        };
-        let records: String = self.table.chunks(RECORD).take(loaded.hunks).enumerate().map(record).collect();
+        let (records, _) = self.table.as_chunks::<RECORD>();
+        let line = |(index, record): (usize, &[u32; RECORD])| hunk_line(index, record) + "\n";
+        let records: String = records.iter().take(loaded.hunks).enumerate().map(line).collect();
         (words + &records).into_bytes()
     }
+}
+
+/// What is said of hunk `index`, which has this record.
+pub fn hunk_line(index: usize, &[kind, place, size, base, memory]: &[u32; RECORD]) -> String {
+    let memory = ["any", "chip", "fast"][memory as usize];
+    format!("hunk {index}: kind {kind:03X}, place {place}, size {size}, base {base:08X}, memory {memory}")
 }
 
 /// What a load says of a file with this name.
@@ -252,7 +257,7 @@ mod tests {
     #[test]
     fn sentences_tell_the_numbers_apart() {
         let numbers: Vec<u32> = SENTENCES.iter().map(|&(number, _)| number).collect();
-        assert_eq!(numbers, (1..21).chain(30..43).collect::<Vec<u32>>());
+        assert_eq!(numbers, (1..21).chain(30..44).collect::<Vec<u32>>());
         let different: BTreeSet<&str> = SENTENCES.iter().map(|&(_, text)| text).collect();
         assert_eq!(different.len(), SENTENCES.len());
     }
@@ -284,14 +289,29 @@ mod tests {
         let text = String::from_utf8(said.out).expect("a text");
         let lines: Vec<&str> = text.lines().collect();
         assert_eq!((lines.len(), lines[0], lines[9]), (12, "00003008", "0000300A"));
-        assert_eq!(lines[10], "hunk 0: kind 3E9, place 0, size 6, base 00003000");
-        assert_eq!(lines[11], "hunk 1: kind 3E9, place 24, size 4, base 00007000");
+        assert_eq!(lines[10], "hunk 0: kind 3E9, place 0, size 6, base 00003000, memory any");
+        assert_eq!(lines[11], "hunk 1: kind 3E9, place 24, size 4, base 00007000, memory any");
         let said = moved(b"f", &worked_file(), &[0x3000, 0x7000], &[0x4000, 0x9000]);
         assert_eq!(said, loaded(b"f", &worked_file(), &[0x4000, 0x9000]));
         assert_eq!(said.out[..9], *b"00004008\n");
         let said = moved(b"f", &worked_file(), &[0x3000, 0x7000], &[0, 1]);
         let due = "f: refused 40 at 3 (the bases are not one for each hunk, or this one is not allowed)\n";
         assert_eq!(said, Said::answer(due.into(), false));
+    }
+
+    /// The worked file, its first hunk in chip memory and its second in fast memory; and one with both bits.
+    #[test]
+    fn kinds_of_memory() {
+        let mut file = worked_file();
+        (file[20], file[24]) = (0x40, 0x80);
+        let said = loaded(b"f", &file, &[0x3000, 0x7000]);
+        let text = String::from_utf8(said.out).expect("a text");
+        let lines: Vec<&str> = text.lines().collect();
+        assert_eq!(lines[10], "hunk 0: kind 3E9, place 0, size 6, base 00003000, memory chip");
+        assert_eq!(lines[11], "hunk 1: kind 3E9, place 24, size 4, base 00007000, memory fast");
+        file[24] = 0xC0;
+        let due = "f: refused 43 at 24 (chip and fast memory are asked for at once)\n";
+        assert_eq!(loaded(b"f", &file, &[0x3000, 0x7000]), Said::answer(due.into(), false));
     }
 
     #[test]

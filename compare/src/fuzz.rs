@@ -489,6 +489,10 @@ mod tests {
         let Case::Program { file, calls } = &case else { panic!("a program") };
         // header, one size, body and its length, block, count, hunk number and at most one offset
         assert!(file.len() <= 4 * 12 && calls.len() == 1, "{}", told(&case));
+        // a header of one hunk, and the two bits
+        let case = caught(|_, line| line.strip_prefix("refused 43 ").map(|rest| format!("refused 34 {rest}")));
+        let Case::Program { file, calls } = &case else { panic!("a program") };
+        assert!(file.len() == 4 * 6 && file[20..] == [0xC0, 0, 0, 0] && calls.len() == 1, "{}", told(&case));
         let case = caught(|_, line| line.strip_prefix("moved ").map(|rest| format!("loaded {rest}")));
         let Case::Program { file, calls } = &case else { panic!("a program") };
         assert!(file.len() == 4 * 9 && calls.len() == 2, "{}", told(&case));

@@ -8,8 +8,8 @@ use std::ops::Range;
 
 use crate::program::{read, Hunk, Refusal};
 
-/// Numbers in a record of the hunk table: kind, place, size and base.
-pub const RECORD: usize = 4;
+/// Numbers in a record of the hunk table: kind, place, size, base and kind of memory.
+pub const RECORD: usize = 5;
 
 /// What a caller lends for a load or a move.
 pub struct Lent<'a> {
@@ -137,14 +137,16 @@ fn add(bytes: &mut [u8], number: u32) {
 fn write_table(hunks: &[Hunk], bases: &[u32], table: &mut [u32]) {
     let rows = hunks.iter().zip(places(hunks)).zip(bases);
     for (record, ((hunk, place), &base)) in table.chunks_exact_mut(RECORD).zip(rows) {
-        record.copy_from_slice(&[hunk.kind.word(), place as u32, hunk.size as u32, base]);
+        let numbers: [u32; RECORD] =
+            [hunk.kind.word(), place as u32, hunk.size as u32, base, hunk.memory.number()];
+        record.copy_from_slice(&numbers);
     }
 }
 
 #[cfg(test)]
 mod tests {
     use super::*;
-    use crate::program::{BSS, CODE, DATA, END, HEADER, RELOCATIONS};
+    use crate::program::{BSS, CHIP, CODE, DATA, END, FAST, HEADER, RELOCATIONS};
     use crate::programs::{bytes, file, good_bases, good_program, worked_file, Room};
     use crate::rng::Rng;
 
@@ -205,8 +207,8 @@ mod tests {
         assert_eq!(answer, Ok(Loaded { hunks: 2, bytes: 40 }));
         assert_eq!(areas.words()[..10], [&FIRST[..], &SECOND].concat());
         assert_eq!(areas.memory[40..], [0x55; 24], "after the last hunk");
-        assert_eq!(areas.table[..8], [0x3E9, 0, 6, 0x3000, 0x3E9, 24, 4, 0x7000]);
-        assert_eq!(areas.table[8..], [0x5555_5555; 4], "further records");
+        assert_eq!(areas.table[..10], [0x3E9, 0, 6, 0x3000, 0, 0x3E9, 24, 4, 0x7000, 0]);
+        assert_eq!(areas.table[10..], [0x5555_5555; 5], "further records");
         assert_eq!(areas.work, [0; 70]);
     }
 
@@ -237,7 +239,7 @@ mod tests {
     fn tails_and_bss_are_zeros_and_the_next_hunk_follows() {
         let words = [
             [HEADER, 0, 4, 0, 3].to_vec(),
-            vec![3, 2, 0, 1],
+            vec![3, CHIP | 2, FAST, 1],
             vec![DATA, 1, 0x0102_0304, END],
             vec![BSS, 1, RELOCATIONS, 0, END],
             vec![CODE, 0, END],
@@ -247,8 +249,34 @@ mod tests {
             .loaded(&bytes(&words.concat()), &[0x100, 0x200, 0x1_0100, 0x10C]);
         let memory = [1, 2, 3, 4, 0, 0, 0, 0, 0, 0, 0, 0, 0, 0, 0, 0, 0, 0, 0, 0, 5, 7, 8, 8, 0x55, 0x55];
         assert_eq!(areas.memory, memory);
-        let table = [[0x3EA, 0, 3, 0x100], [0x3EB, 12, 2, 0x200], [0x3E9, 20, 0, 0x1_0100], [0x3EA, 20, 1, 0x10C]];
+        let table = [
+            [0x3EA, 0, 3, 0x100, 0],
+            [0x3EB, 12, 2, 0x200, 1],
+            [0x3E9, 20, 0, 0x1_0100, 2],
+            [0x3EA, 20, 1, 0x10C, 0],
+        ];
         assert_eq!(areas.table, table.concat());
+    }
+
+    /// The kind of memory stands in the record and is nowhere else: not in the memory, not in the bases.
+    #[test]
+    fn kinds_of_memory_change_the_records_alone() {
+        let (old, new) = ([0x3000, 0x7000], [0x4000, 0x9000]);
+        let plain = Areas::new(PLENTY).loaded(&worked_file(), &old);
+        for (first, second) in [(0, 1), (1, 0), (2, 0), (0, 2), (1, 1), (2, 2), (1, 2), (2, 1)] {
+            let mut file = worked_file();
+            file[20] |= (first << 6) as u8;
+            file[24] |= (second << 6) as u8;
+            let mut due = plain.clone();
+            (due.table[4], due.table[9]) = (first, second);
+            let loaded = Areas::new(PLENTY).loaded(&file, &old);
+            assert_eq!(loaded, due, "{first} and {second}");
+            // a move writes them whatever the table held
+            let mut moved = plain.moved(&file, &old, &new);
+            assert_eq!(moved, Areas::new(PLENTY).loaded(&file, &new));
+            moved.table.fill(7);
+            assert_eq!(moved.moved(&file, &new, &old).table[..10], due.table[..10]);
+        }
     }
 
     /// A refused call leaves memory and table alone and clears its work area.
@@ -273,6 +301,10 @@ mod tests {
         assert_eq!(refused(&worked[..144], &[1], None, room), (31, 144));
         assert_eq!(refused(&worked[..144], &[1], Some(&[]), room), (31, 144));
         assert_eq!(refused(&[&worked[..], &[0; 4]].concat(), &[1], None, room), (39, 148));
+        let mut both = worked;
+        both[24] |= 0xC0;
+        assert_eq!(refused(&both, &[1], None, room), (43, 24));
+        assert_eq!(refused(&both, &[1], Some(&[]), room), (43, 24));
     }
 
     #[test]
@@ -335,15 +367,15 @@ mod tests {
             assert_eq!(refused(&worked, old, new, short), (41, 0), "{short:?}");
         }
         Areas::new(enough).loaded(&worked, old);
-        // seven numbers are one record and a part of another
+        // nine numbers are one record and a part of another
         let mut areas = Areas::new(enough);
-        areas.table.truncate(7);
+        areas.table.truncate(9);
         assert_eq!(load(&worked, old, areas.lent()), Err(Refusal::at(41, 0)));
         // and what is left over after whole records stays
         let mut areas = Areas::new(enough);
-        areas.table.extend([1, 2, 3]);
+        areas.table.extend([1, 2, 3, 4]);
         assert!(load(&worked, old, areas.lent()).is_ok());
-        assert_eq!(areas.table[8..], [1, 2, 3]);
+        assert_eq!(areas.table[10..], [1, 2, 3, 4]);
     }
 
     /// A file of two hunks of four stored words each; these words follow the bodies.
@@ -438,7 +470,8 @@ mod tests {
             let areas = Areas::new(Room::needed(&sizes)).loaded(&file(&program.written()), &bases);
             let mut place = 0;
             for (index, hunk) in program.wanted().iter().enumerate() {
-                let record = [hunk.kind.word(), place as u32, sizes[index], bases[index]];
+                let memory = hunk.memory.number();
+                let record = [hunk.kind.word(), place as u32, sizes[index], bases[index], memory];
                 assert_eq!(areas.table[RECORD * index..][..RECORD], record);
                 let mut words = hunk.stored.clone();
                 words.resize(hunk.size, 0);

@@ -46,10 +46,10 @@ impl Default for Exports {
     }
 }
 
-/// The records of a table; up to three numbers after the last stay out.
+/// The records of a table; numbers after the last whole one stay out.
 fn records(table: &mut [u32]) -> &mut [Hunk] {
     const { assert!(size_of::<Hunk>() == RECORD * size_of::<u32>() && align_of::<Hunk>() == align_of::<u32>()) };
-    // a record is four such numbers, no more and at no other addresses, and any numbers are one
+    // a record is so many numbers, no more and at no other addresses, and any numbers are one
     unsafe { from_raw_parts_mut(table.as_mut_ptr().cast(), table.len() / RECORD) }
 }
 
@@ -213,7 +213,7 @@ mod tests {
 
     #[test]
     fn writing_where_nothing_may_be_written_is_seen() {
-        const ZERO: Hunk = Hunk { kind: 0, place: 0, size: 0, base: 0 };
+        const ZERO: Hunk = Hunk { kind: 0, place: 0, size: 0, base: 0, memory: 0 };
         for (name, functions) in [
             ("image", with!(audit(image, claim), image, 5, !image[5])),
             ("image", with!(audit(image, claim), image, -1, 0)),
@@ -296,6 +296,7 @@ mod tests {
             changed!(load(file, bases, memory, table, work), answer, answer.bytes += 4),
             changed!(load(file, bases, memory, table, work), answer, memory[50] ^= 1),
             changed!(load(file, bases, memory, table, work), answer, table[3].base ^= 1),
+            changed!(load(file, bases, memory, table, work), answer, table[1].memory ^= 1),
             changed!(load(file, bases, memory, table, work), answer, work[44] ^= 1),
             changed!(reason(number, output), answer, answer += 1),
             changed!(reason(number, output), answer, output[0] ^= 0x20),
@@ -303,6 +304,7 @@ mod tests {
             changed!(relocate(file, old, new, memory, table, work), answer, answer.hunks += 1),
             changed!(relocate(file, old, new, memory, table, work), answer, answer.place += 1),
             changed!(relocate(file, old, new, memory, table, work), answer, memory[0] ^= 1),
+            changed!(relocate(file, old, new, memory, table, work), answer, table[0].memory ^= 2),
         ]
         .into_iter()
         .enumerate()

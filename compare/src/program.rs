@@ -24,6 +24,11 @@ pub const DEBUG: u32 = 0x3F1;
 /// Ends a hunk.
 pub const END: u32 = 0x3F2;
 
+/// Bits of a size word: the hunk asks for chip memory, or for fast memory. The others are its size.
+pub const CHIP: u32 = 1 << 30;
+pub const FAST: u32 = 1 << 31;
+pub const BOTH: u32 = CHIP | FAST;
+
 /// The most hunks of a file.
 pub const HUNKS: u32 = 64;
 /// The most words of a hunk.
@@ -71,6 +76,57 @@ impl Kind {
     }
 }
 
+/// The kind of memory that a hunk asks for.
+#[derive(Clone, Copy, Debug, PartialEq, Eq)]
+pub enum Memory {
+    /// Any memory will do.
+    Any,
+    /// Memory that the chips for picture and sound reach.
+    Chip,
+    /// Memory that they do not reach.
+    Fast,
+}
+
+impl Memory {
+    /// Its number in the hunk table.
+    pub fn number(self) -> u32 {
+        match self {
+            Memory::Any => 0,
+            Memory::Chip => 1,
+            Memory::Fast => 2,
+        }
+    }
+
+    /// The bits by which a size word asks for it.
+    pub fn bits(self) -> u32 {
+        match self {
+            Memory::Any => 0,
+            Memory::Chip => CHIP,
+            Memory::Fast => FAST,
+        }
+    }
+
+    fn of(word: u32) -> Option<Memory> {
+        [Memory::Any, Memory::Chip, Memory::Fast].into_iter().find(|memory| memory.bits() == word & BOTH)
+    }
+}
+
+/// What the header says of a hunk, in one word.
+#[derive(Clone, Copy, Debug, PartialEq, Eq)]
+pub struct SizeWord {
+    /// The hunk's words in memory.
+    pub size: u32,
+    /// The kind of memory that it asks for.
+    pub memory: Memory,
+}
+
+impl SizeWord {
+    /// The word that says this.
+    pub fn word(self) -> u32 {
+        self.memory.bits() | self.size
+    }
+}
+
 /// Four bytes of a hunk to which a base is added.
 #[derive(Clone, Copy, Debug, PartialEq, Eq)]
 pub struct Target {
@@ -89,6 +145,8 @@ pub struct Hunk {
     pub kind: Kind,
     /// Its words in memory, by the header.
     pub size: usize,
+    /// The kind of memory that it asks for, by the header too.
+    pub memory: Memory,
     /// The words that the file gives a value, from the hunk's first on.
     pub stored: Vec<u32>,
     /// Where bases are added, in file order.
@@ -159,7 +217,7 @@ pub fn read(file: &[u8]) -> Result<Vec<Hunk>, Refusal> {
     }
     let rest = &mut Rest { file, taken: 0 };
     let sizes = header(rest)?;
-    let hunks: Vec<Hunk> = sizes.iter().map(|&size| hunk(rest, size, sizes.len())).collect::<Result<_, _>>()?;
+    let hunks: Vec<Hunk> = sizes.iter().map(|&said| hunk(rest, said, sizes.len())).collect::<Result<_, _>>()?;
     if rest.is_empty() {
         Ok(hunks)
     } else {
@@ -167,18 +225,29 @@ pub fn read(file: &[u8]) -> Result<Vec<Hunk>, Refusal> {
     }
 }
 
-/// The header; the sizes of the hunks.
-fn header(rest: &mut Rest) -> Result<Vec<u32>, Refusal> {
+/// The header; what it says of each hunk.
+fn header(rest: &mut Rest) -> Result<Vec<SizeWord>, Refusal> {
     rest.word()?.held_to(32, |first| first == HEADER)?;
     rest.word()?.held_to(33, |library| library == 0)?;
     let total = rest.word()?.held_to(32, |total| (1..=HUNKS).contains(&total))?;
     rest.word()?.held_to(32, |first| first == 0)?;
     rest.word()?.held_to(32, |last| last == total - 1)?;
-    (0..total).map(|_| rest.word()?.held_to(34, |size| size <= HUNK_WORDS)).collect()
+    (0..total).map(|_| size_word(rest)).collect()
 }
 
-/// One of `total` hunks; the header gives it `size` words.
-fn hunk(rest: &mut Rest, size: u32, total: usize) -> Result<Hunk, Refusal> {
+/// A size word. It may not ask for two kinds of memory, whatever its size.
+fn size_word(rest: &mut Rest) -> Result<SizeWord, Refusal> {
+    let word = rest.word()?;
+    let memory = Memory::of(word.value).ok_or(word.refused(43))?;
+    let size = word.value & !BOTH;
+    if size > HUNK_WORDS {
+        return Err(word.refused(34));
+    }
+    Ok(SizeWord { size, memory })
+}
+
+/// One of `total` hunks, of which the header says this.
+fn hunk(rest: &mut Rest, SizeWord { size, memory }: SizeWord, total: usize) -> Result<Hunk, Refusal> {
     let mut opening = rest.word()?;
     if opening.value == NAME {
         rest.counted()?;
@@ -195,7 +264,7 @@ fn hunk(rest: &mut Rest, size: u32, total: usize) -> Result<Hunk, Refusal> {
             RELOCATIONS => targets.append(&mut relocations(rest, stored.len(), total)?),
             SYMBOLS => symbols(rest)?,
             DEBUG => drop(rest.counted()?),
-            END => return Ok(Hunk { kind, size: size as usize, stored, targets }),
+            END => return Ok(Hunk { kind, size: size as usize, memory, stored, targets }),
             _ => return Err(opening.refused(35)),
         }
     }
@@ -262,7 +331,7 @@ mod tests {
     #[test]
     fn a_file_with_everything() {
         let words = [
-            sized(&[4, 0, 5]),
+            sized(&[4, CHIP, FAST | 5]),
             vec![NAME, 2, 0x4E61, 0x6D65, CODE, 3, 10, 11, 12, RELOCATIONS, 2, 2, 8, 0, 1, 1, 4, 0],
             vec![DEBUG, 1, 0xFFFF_FFFF, SYMBOLS, 1, 0x61, 5, 2, 0x62, 0x63, 6, 0, RELOCATIONS, 0, END],
             vec![NAME, 0, DATA, 0, DEBUG, 0, SYMBOLS, 0, END],
@@ -271,9 +340,9 @@ mod tests {
         let target = |names, offset, written_at| Target { names, offset, written_at };
         let targets = vec![target(2, 8, 4 * 20), target(2, 0, 4 * 21), target(1, 4, 4 * 24)];
         let wanted = [
-            Hunk { kind: Kind::Code, size: 4, stored: vec![10, 11, 12], targets },
-            Hunk { kind: Kind::Data, size: 0, stored: vec![], targets: vec![] },
-            Hunk { kind: Kind::Bss, size: 5, stored: vec![], targets: vec![] },
+            Hunk { kind: Kind::Code, size: 4, memory: Memory::Any, stored: vec![10, 11, 12], targets },
+            Hunk { kind: Kind::Data, size: 0, memory: Memory::Chip, stored: vec![], targets: vec![] },
+            Hunk { kind: Kind::Bss, size: 5, memory: Memory::Fast, stored: vec![], targets: vec![] },
         ];
         assert_eq!(read(&file(&words.concat())).as_deref(), Ok(&wanted[..]));
     }
@@ -282,8 +351,11 @@ mod tests {
     fn the_limits_are_still_allowed() {
         let most = [sized(&[0; 64]), [BSS, 0, END].repeat(64)].concat();
         assert_eq!(read(&file(&most)).map(|hunks| hunks.len()), Ok(64));
-        let largest = [&sized(&[HUNK_WORDS])[..], &[CODE, HUNK_WORDS], &[6; 65_536], &[END]].concat();
-        assert_eq!(read(&file(&largest)).map(|hunks| hunks[0].stored.len()), Ok(65_536));
+        for memory in [0, CHIP, FAST] {
+            let header = sized(&[memory | HUNK_WORDS]);
+            let largest = [&header[..], &[CODE, HUNK_WORDS], &[6; 65_536], &[END]].concat();
+            assert_eq!(read(&file(&largest)).map(|hunks| hunks[0].stored.len()), Ok(65_536));
+        }
     }
 
     #[test]
@@ -337,13 +409,76 @@ mod tests {
         assert_eq!(fault(&words), (32, 16));
     }
 
+    /// Sizes just above the limit and far above it: the last is the largest that 30 bits hold.
+    const TOO_LARGE: [u32; 4] = [HUNK_WORDS + 1, 0x2_0000, 0x2000_0000, 0x3FFF_FFFF];
+
     #[test]
     fn refusal_34_is_for_sizes() {
-        for size in [HUNK_WORDS + 1, 0x4000_0001, 0x8000_0001, u32::MAX] {
+        for size in [0, CHIP, FAST].into_iter().flat_map(|memory| TOO_LARGE.map(|size| memory | size)) {
             assert_eq!(fault(&sized(&[0, size])), (34, 24), "{size:X}");
             assert_eq!(fault(&sized(&[size, size])), (34, 20), "{size:X}");
+            // an earlier word comes first, whatever is wrong with a later one
+            assert_eq!(fault(&sized(&[size, BOTH])), (34, 20), "{size:X}");
         }
-        assert_eq!(fault(&sized(&[0, HUNK_WORDS])), (31, 28));
+        for size in [0, 1, HUNK_WORDS] {
+            for memory in [0, CHIP, FAST] {
+                assert_eq!(fault(&sized(&[0, memory | size])), (31, 28), "{memory:X} {size:X}");
+            }
+        }
+    }
+
+    #[test]
+    fn refusal_43_is_for_both_kinds_of_memory_at_once() {
+        for size in [0, 1, HUNK_WORDS].into_iter().chain(TOO_LARGE) {
+            let both = BOTH | size;
+            assert_eq!(fault(&sized(&[both])), (43, 20), "{size:X}");
+            assert_eq!(fault(&sized(&[CHIP, both, both])), (43, 24), "{size:X}");
+            assert_eq!(fault(&sized(&[both, HUNK_WORDS + 1])), (43, 20), "{size:X}");
+            // before the next size is missed
+            assert_eq!(fault(&sized(&[FAST, both, 0])[..7]), (43, 24), "{size:X}");
+        }
+        // one bit in each of two words is not both
+        assert_eq!(fault(&[&sized(&[CHIP, FAST])[..], &[BSS, 0, END].repeat(2)].concat()), (0, 0));
+    }
+
+    /// The two bits mean something in a size word alone: elsewhere they are bits of a number or of a type.
+    #[test]
+    fn the_bits_for_memory_are_read_in_size_words_alone() {
+        let good = after_body(&[SYMBOLS, 1, 0x61, 5, 0, DEBUG, 1, 6, RELOCATIONS, 1, 0, 8, 0, END]);
+        assert_eq!(fault(&good), (0, 0));
+        let end = 4 * good.len();
+        // the word, its number and place with a bit in it; where a count is too large, the words after it are offsets
+        let cases = [
+            (0, 32, 0),
+            (1, 33, 4),
+            (2, 32, 8),
+            (3, 32, 12),
+            (4, 32, 16),
+            (6, 35, 24),
+            (7, 36, 28),
+            (8, 0, 0),
+            (11, 35, BODY_END),
+            (12, 37, BODY_END + 4),
+            (13, 0, 0),
+            (14, 0, 0),
+            (15, 37, BODY_END + 16),
+            (16, 35, BODY_END + 20),
+            (17, 31, end),
+            (18, 0, 0),
+            (19, 35, BODY_END + 32),
+            (20, 38, end - 4),
+            (21, 38, BODY_END + 40),
+            (22, 38, BODY_END + 44),
+            (23, 38, end - 4),
+            (24, 35, end - 4),
+        ];
+        for (index, number, place) in cases {
+            for bits in [CHIP, FAST, BOTH] {
+                let mut words = good.clone();
+                words[index] |= bits;
+                assert_eq!(fault(&words), (number, place), "word {index}, {bits:X}");
+            }
+        }
     }
 
     #[test]
@@ -434,6 +569,19 @@ mod tests {
             let words = [&good[..], &[more, 0]].concat();
             assert_eq!(fault(&words), (39, BODY_END + 4), "{more:X}");
         }
+    }
+
+    #[test]
+    fn the_kinds_of_memory_have_the_numbers_of_the_table() {
+        for (memory, number) in [(Memory::Any, 0), (Memory::Chip, 1), (Memory::Fast, 2)] {
+            assert_eq!(memory.number(), number);
+            for size in [0, 1, HUNK_WORDS, 0x3FFF_FFFF] {
+                let word = SizeWord { size, memory }.word();
+                assert_eq!((word >> 30, word % (1 << 30)), (number, size));
+                assert_eq!(Memory::of(word), Some(memory));
+            }
+        }
+        assert_eq!([0xC000_0000, 0xC000_0001, u32::MAX].map(Memory::of), [None; 3]);
     }
 
     #[test]

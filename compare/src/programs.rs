@@ -4,7 +4,7 @@
 //! reading it. The written words carry their parts in the file with them: that is where harm is done to them, see
 //! [`bad_programs`](crate::bad_programs).
 
-use crate::program::{Hunk as Wanted, Target};
+use crate::program::{Hunk as Wanted, Memory, SizeWord, Target};
 use crate::program::{Kind, BSS, CODE, DATA, DEBUG, END, HEADER, NAME, RELOCATIONS, SYMBOLS};
 use crate::rng::Rng;
 
@@ -45,6 +45,8 @@ pub struct Program {
 pub struct Hunk {
     /// Its words in memory.
     pub size: u32,
+    /// The kind of memory that it asks for.
+    pub memory: Memory,
     /// Its name, if it has one.
     pub name: Option<Vec<u32>>,
     /// Its body.
@@ -88,7 +90,7 @@ pub enum Part {
     First,
     /// The last hunk.
     Last,
-    /// A hunk's size.
+    /// A hunk's size and kind of memory.
     Size,
     /// The word that opens a name.
     Name,
@@ -175,7 +177,7 @@ impl Program {
         writer.put(Part::Last, length(&self.hunks) - 1);
         for (index, hunk) in self.hunks.iter().enumerate() {
             writer.hunk = index;
-            writer.put(Part::Size, hunk.size);
+            writer.put(Part::Size, SizeWord { size: hunk.size, memory: hunk.memory }.word());
         }
         for (index, hunk) in self.hunks.iter().enumerate() {
             writer.hunk = index;
@@ -213,7 +215,7 @@ impl Program {
                     Body::Data(stored) => (Kind::Data, stored.clone()),
                     Body::Bss(_) => (Kind::Bss, Vec::new()),
                 };
-                Wanted { kind, size: hunk.size as usize, stored, targets }
+                Wanted { kind, size: hunk.size as usize, memory: hunk.memory, stored, targets }
             })
             .collect()
     }
@@ -348,6 +350,7 @@ fn hunk(rng: &mut Rng, total: usize) -> Hunk {
     // programs of many hunks have small ones, so that none grows too long
     let most = if total > 8 { 6 } else { rng.pick(&[0, 1, 2, 8, 8, 20, 40]) };
     let size = up_to(rng, most) as u32;
+    let memory = rng.pick(&[Memory::Any, Memory::Any, Memory::Chip, Memory::Fast]);
     let count = up_to(rng, u64::from(size)) as u32;
     let named = rng.below(3) == 0;
     let name_length = rng.below(4);
@@ -359,7 +362,7 @@ fn hunk(rng: &mut Rng, total: usize) -> Hunk {
     };
     let stored = if let Body::Bss(_) = body { 0 } else { count };
     let blocks = blocks(rng, stored, total);
-    Hunk { size, name, body, blocks }
+    Hunk { size, memory, name, body, blocks }
 }
 
 /// A program that breaks no rule.
@@ -479,6 +482,11 @@ mod tests {
         let (stored, size) = (wanted.stored.len(), wanted.size);
         vec![
             ("size 0", hunk.size == 0),
+            ("any memory", hunk.memory == Memory::Any),
+            ("chip memory", hunk.memory == Memory::Chip),
+            ("fast memory", hunk.memory == Memory::Fast),
+            ("size 0 in chip memory", hunk.size == 0 && hunk.memory == Memory::Chip),
+            ("size 0 in fast memory", hunk.size == 0 && hunk.memory == Memory::Fast),
             ("code", matches!(hunk.body, Body::Code(_))),
             ("data", matches!(hunk.body, Body::Data(_))),
             ("bss", is_bss),

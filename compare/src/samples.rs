@@ -5,6 +5,7 @@
 
 use crate::disk::Disk;
 use crate::names::put_name;
+use crate::program::Memory;
 use crate::programs::{file, Block, Body, Hunk, Program};
 use crate::rng::Rng;
 use crate::volumes::{Filling, Kind, Met, Order, Part, Plan, Style, Volume};
@@ -59,6 +60,7 @@ fn code() -> Hunk {
     let symbols = vec![(text_words(b"start"), 0), (text_words(b"show"), 0x1E)];
     Hunk {
         size: 10,
+        memory: Memory::Any,
         name: Some(text_words(b"title")),
         body: Body::Code(words(&[&start.concat()[..], &show].concat())),
         blocks: vec![
@@ -76,6 +78,7 @@ fn data() -> Hunk {
     let addresses = words(&[24, 0, 0, 0, 0x001E, 0]);
     Hunk {
         size: 12,
+        memory: Memory::Any,
         name: None,
         body: Body::Data([line, addresses].concat()),
         blocks: vec![Block::Relocations(vec![(1, vec![26]), (0, vec![30])])],
@@ -84,7 +87,7 @@ fn data() -> Hunk {
 
 /// The frame, and whether it is shown.
 fn bss() -> Hunk {
-    Hunk { size: 7, name: None, body: Body::Bss(7), blocks: Vec::new() }
+    Hunk { size: 7, memory: Memory::Any, name: None, body: Body::Bss(7), blocks: Vec::new() }
 }
 
 /// The title program: a code, a data and a bss hunk.

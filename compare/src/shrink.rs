@@ -7,7 +7,7 @@ use std::rc::Rc;
 use crate::bad_volumes::Patch;
 use crate::disk::Disk;
 use crate::fuzz::{differing_words, patched, told, Asked, Call, Case};
-use crate::program::END;
+use crate::program::{BOTH, END};
 use crate::programs::bytes;
 use crate::words::{mend, put, slot_word, sum, word, BLOCK_BYTES, TABLE};
 
@@ -213,12 +213,17 @@ fn smaller_program(file: Vec<u8>, calls: Vec<Call>, fails: &mut Fails) -> (Vec<u
     (file, calls)
 }
 
+/// Values to try in the place of a word: the smallest, the word without the bits for memory or these alone, and ever
+/// less below the word, so that a limit is come near in few rounds.
+fn smaller_values(old: u32) -> impl Iterator<Item = u32> {
+    let below = (1..32).map(move |bit| old - (old >> bit));
+    [0, 1, 2, old & !BOTH, old & BOTH].into_iter().chain(below).filter(move |&new| new < old)
+}
+
 /// Words of the file made 0, or as small as they can be.
 fn smaller_words(mut words: Vec<u32>, calls: &[Call], fails: &mut Fails) -> Vec<u32> {
     for index in 0..words.len() {
-        let old = words[index];
-        let smaller = [0, 1, 2, old / 2, old.wrapping_sub(1)].into_iter().filter(|&new| new < old);
-        for new in smaller {
+        for new in smaller_values(words[index]) {
             let mut changed = words.clone();
             changed[index] = new;
             if fails(&program(&bytes(&changed), calls)) {
@@ -385,6 +390,24 @@ mod tests {
         let kept: Vec<usize> =
             (0..20).filter(|&at| good[at * BLOCK_BYTES..][..8].iter().any(|&b| b != 0)).collect();
         assert_eq!(kept, [13]);
+    }
+
+    /// Down to a limit, whatever the kind of memory, or to the bits for memory alone.
+    #[test]
+    fn a_word_becomes_as_small_as_it_can_be() {
+        let smallest = |old: u32, fails: &dyn Fn(u32) -> bool| {
+            let case = program(&old.to_be_bytes(), &[]);
+            let small = shrink(
+                &case,
+                &mut |case| matches!(case, Case::Program { file, .. } if file.len() == 4 && fails(word(file, 0))),
+            );
+            let Case::Program { file, .. } = small else { panic!("a case about a program") };
+            word(&file, 0)
+        };
+        for old in [0xFFFF_FFFF, 0xC001_2345, 0x8001_0001, 0x7FFF_FFFF, 0x0001_FFFF, 0x0001_0001] {
+            assert_eq!(smallest(old, &|word| word & !BOTH > 65_536), 65_537, "{old:X}");
+            assert_eq!(smallest(old, &|word| word & BOTH == old & BOTH), old & BOTH, "{old:X}");
+        }
     }
 
     #[test]

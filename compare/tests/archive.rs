@@ -140,7 +140,9 @@ fn structs_lie_as_in_c() {
     assert_eq!(offset_of!(ProgramNumbers, place), 8);
     assert_eq!(offset_of!(ProgramNumbers, hunks), 16);
     assert_eq!(offset_of!(ProgramNumbers, bytes), 24);
-    assert_eq!(size_of::<Hunk>(), 16);
+    assert_eq!(size_of::<Hunk>(), 20);
+    assert_eq!(offset_of!(Hunk, base), 12);
+    assert_eq!(offset_of!(Hunk, memory), 16);
 }
 
 /// `pub const NAME: u32 = 7;` or `#define JUFFERDEEG_NAME 7 /* why */`, as name and number.
@@ -160,7 +162,7 @@ fn stretch<'a>(text: &'a str, from: &str, to: &str) -> &'a str {
 fn refusals_have_the_same_numbers() {
     let (c, rust) = (text("include/jufferdeeg.h"), text("include/rust/src/lib.rs"));
     let proved = constants(&text("crates/answers/src/lib.rt"), "pub const ", ": u32 = ");
-    assert_eq!(proved.len(), 33);
+    assert_eq!(proved.len(), 34);
     let defined = stretch(&c, "/* The numbers of refusals", "\n\n");
     assert_eq!(constants(defined, "#define JUFFERDEEG_", " "), proved);
     let faults = stretch(&rust, "pub mod fault {", "\n}");
@@ -178,6 +180,9 @@ fn lengths_and_versions_are_the_same() {
     assert_eq!(of("REASON_BYTES"), jufferdeeg::REASON_BYTES.to_string());
     assert_eq!(of("DIRECTORY"), format!("{}u", jufferdeeg::DIRECTORY));
     assert_eq!(of("FILE"), format!("0x{:X}u", jufferdeeg::FILE));
+    assert_eq!(of("ANY_MEMORY"), format!("{}u", jufferdeeg::ANY_MEMORY));
+    assert_eq!(of("CHIP_MEMORY"), format!("{}u", jufferdeeg::CHIP_MEMORY));
+    assert_eq!(of("FAST_MEMORY"), format!("{}u", jufferdeeg::FAST_MEMORY));
     let version = of("VERSION");
     let parts = [of("VERSION_MAJOR"), of("VERSION_MINOR"), of("VERSION_PATCH")];
     assert_eq!(version, format!("\"{}\"", parts.join(".")));

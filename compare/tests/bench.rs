@@ -26,7 +26,7 @@ use compare::disk::Disk;
 use compare::driver::rattle;
 use compare::names::{put_name, slot};
 use compare::paths::{bad_forms, Paths};
-use compare::program::{BSS, CODE, END, HEADER, HUNK_WORDS, RELOCATIONS, SYMBOLS};
+use compare::program::{BOTH, BSS, CHIP, CODE, DATA, END, FAST, HEADER, HUNK_WORDS, RELOCATIONS, SYMBOLS};
 use compare::programs::{bytes, file, good_bases, good_program, long_file, worked_file};
 use compare::rng::Rng;
 use compare::samples::{damaged, title, titles, FONT, SETTINGS, TITLE};
@@ -570,6 +570,80 @@ fn programs_of_64_hunks_and_of_one_more() {
     desk.hold_load("more", &bases);
 }
 
+/// A program of four hunks: any memory, chip, fast, and chip without words. The first has two targets, one of which
+/// lies over two words.
+fn with_kinds_of_memory() -> Vec<u8> {
+    let header = [HEADER, 0, 4, 0, 3, 3, CHIP | 2, FAST | 1, CHIP];
+    let first = [CODE, 3, 0x10, 0, 0x20, RELOCATIONS, 1, 1, 0, 1, 2, 6, 0, END];
+    let others = [DATA, 1, 7, END, BSS, 1, END, BSS, 0, END];
+    bytes(&[&header[..], &first, &others].concat())
+}
+
+/// What is printed after a load of that program, or a move, to addresses of which these are the high digits.
+fn kinds_of_memory_at([first, second, third, fourth]: [&str; 4]) -> String {
+    format!(
+        "{second}0010\n0000{third}\n00000020\n00000007\n00000000\n00000000\n\
+         hunk 0: kind 3E9, place 0, size 3, base {first}0000, memory any\n\
+         hunk 1: kind 3EA, place 12, size 2, base {second}0000, memory chip\n\
+         hunk 2: kind 3EB, place 20, size 1, base {third}0000, memory fast\n\
+         hunk 3: kind 3EB, place 24, size 0, base {fourth}0000, memory chip\n"
+    )
+}
+
+/// Its lines are written out here, and are those of this package too.
+#[test]
+fn programs_with_kinds_of_memory() {
+    let program = with_kinds_of_memory();
+    let (old, new) = ([0x1_0000, 0x2_0000, 0x3_0000, 0x4_0000], [0x10_0000, 0xFFFE_0000, 0x1_0000, 0x10_0000]);
+    let desk = Desk::new([("kinds", program.clone()), ("worked", worked_file())]);
+    for (words, due, said) in [
+        (
+            words_of("load", "kinds", &[&old]),
+            kinds_of_memory_at(["0001", "0002", "0003", "0004"]),
+            loaded(b"kinds", &program, &old),
+        ),
+        (
+            words_of("move", "kinds", &[&old, &new]),
+            kinds_of_memory_at(["0010", "FFFE", "0001", "0010"]),
+            moved(b"kinds", &program, &old, &new),
+        ),
+    ] {
+        assert_eq!(String::from_utf8(said.out).as_ref(), Ok(&due));
+        desk.hold_out(&words, due.as_bytes(), true);
+    }
+    // programs that ask for none in particular say so
+    let plain = desk.said(&words_of("load", "worked", &[&[0x3000, 0x7000]]));
+    assert_eq!(String::from_utf8_lossy(&plain.out).matches(", memory any\n").count(), 2);
+}
+
+/// The pin's way with that program, on a volume with nothing else; and with the same, but for both bits in a size.
+#[test]
+fn resets_with_kinds_of_memory() {
+    let program = with_kinds_of_memory();
+    let mut both = program.clone();
+    put(&mut both, 6, BOTH | 2);
+    let mut plan = empty();
+    plan.add_named(None, b"kinds", Kind::File(program.len() as u32));
+    let volume = laid_out(&mut Rng::new(177), &plan);
+    let entry = entry(&volume, "kinds");
+    let image = |program: &[u8]| {
+        let data = |block: &mut [u8]| block[Disk::DATA_START..][..program.len()].copy_from_slice(program);
+        changed(&volume, entry.data[0], data)
+    };
+    let desk = Desk::new([("kinds.adf", image(&program)), ("both.adf", image(&both))]);
+    let bases = [0x1_0000, 0x2_0000, 0x3_0000, 0x4_0000];
+    for (name, last, accepted) in [
+        ("kinds.adf", "4 hunks, 24 bytes", true),
+        ("both.adf", "refused 43 at 24 (chip and fast memory are asked for at once)", false),
+    ] {
+        let find = looked_up(desk.file(name), b"kinds").0;
+        let start = format!("audit: {}\nfind: {find}\n", audited(desk.file(name)).0);
+        let due = format!("{start}read: {} bytes\nload: {last}\n", program.len());
+        assert_eq!(reset(desk.file(name), b"kinds", &bases), Said::answer(due.clone().into_bytes(), accepted));
+        desk.hold_reset(name, b"kinds", &bases);
+    }
+}
+
 #[test]
 fn a_program_file_as_long_as_the_room() {
     let desk = Desk::new([("long", long_file(FILE_ROOM / 4)), ("worked", worked_file())]);
@@ -899,6 +973,7 @@ fn program_flaws() -> Vec<(u32, Vec<u8>, Vec<u32>)> {
         (40, whole, vec![2]),
         (41, bytes(&large), apart),
         (42, good(&[RELOCATIONS, 2, 0, 4, 6, 0]), vec![0]),
+        (43, with(5, BOTH | 4), vec![0]),
     ]
 }
 

@@ -5,10 +5,11 @@ use compare::calls::Opinion;
 use compare::counter::SENTENCES;
 use compare::disk::Disk;
 use compare::driver::checksum;
+use compare::loader::RECORD;
 use compare::model::Model;
 use compare::native::Exports;
 use compare::paths::{far_offsets, Paths};
-use compare::program::{BSS, END, HEADER};
+use compare::program::{Memory, BOTH, BSS, CHIP, END, FAST, HEADER, HUNK_WORDS};
 use compare::programs::{bytes, long_file, worked_file, Room};
 use compare::rng::Rng;
 use compare::volumes::{any_style, Kind, Plan, Volume};
@@ -133,17 +134,29 @@ fn claim_areas_and_paths_of_any_length() {
     }
 }
 
-/// 64 hunks of the largest size, which take 16 MiB, with room to the byte, with more, and with less of each.
+/// 64 hunks of the largest size, which take 16 MiB, with room to the byte, with more, and with less of each. They ask
+/// for all kinds of memory in turn, which is seen in the table.
 #[test]
 fn the_largest_program_of_all() {
-    let file = bytes(&[&[HEADER, 0, 64, 0, 63], &[65_536; 64][..], &[BSS, 65_536, END].repeat(64)].concat());
+    let sizes: Vec<u32> = [HUNK_WORDS, CHIP | HUNK_WORDS, FAST | HUNK_WORDS].repeat(22)[..64].to_vec();
+    let file = bytes(&[&[HEADER, 0, 64, 0, 63], &sizes[..], &[BSS, 65_536, END].repeat(64)].concat());
     let bases = |from: u32| (0..64).map(|index| from.wrapping_add(index << 18)).collect::<Vec<u32>>();
     let room = Room { memory: 1 << 24, records: 64, work: 1 << 24 };
     let mut both = Both::default();
     same!(both.take_file(&file));
     assert_eq!(same!(both.check()), "checked 64 16777216");
+    // one of them asks for two kinds, the first or the last
+    for place in [20, 20 + 4 * 63] {
+        let mut wrong = file.clone();
+        wrong[place] |= 0xC0;
+        same!(both.take_file(&wrong));
+        assert_eq!(same!(both.check()), format!("refused 43 {place}"));
+    }
+    same!(both.take_file(&file));
     let more = Room { memory: room.memory + 1, records: 65, work: room.work + 3 };
     expect!(both.load(more, &bases(0)), "loaded 64 16777216 ");
+    let memories: Vec<u32> = both.exports.table.chunks_exact(RECORD).take(64).map(|record| record[4]).collect();
+    assert_eq!(memories, [0, 1, 2].repeat(22)[..64]);
     expect!(both.relocate(room, &bases(0), &bases(0xFF00_0000)), "moved 64 16777216 ");
     expect!(both.relocate(room, &bases(0), &bases(0xFF00_0004)), "refused 40 127 ");
     for short in [
@@ -188,6 +201,34 @@ fn files_lists_and_tables_of_any_length() {
     }
 }
 
+/// The numbers of the crate are those of the hunk table, and its refusal is the one that is given.
+#[test]
+fn kinds_of_memory_by_their_names() {
+    let named = [
+        (Memory::Any, jufferdeeg::ANY_MEMORY),
+        (Memory::Chip, jufferdeeg::CHIP_MEMORY),
+        (Memory::Fast, jufferdeeg::FAST_MEMORY),
+    ];
+    let file = |word: u32| bytes(&[HEADER, 0, 1, 0, 0, word, BSS, 0, END]);
+    for (memory, number) in named {
+        assert_eq!(memory.number(), number);
+        let (mut bytes, mut table, mut work) = ([7; 4], [jufferdeeg::Hunk::default(); 2], [7; 4]);
+        let file = file(memory.bits() | 1);
+        let answer = jufferdeeg::load(&file, &[0x1000], &mut bytes, &mut table, &mut work);
+        assert_eq!((answer.number, answer.hunks, answer.bytes), (0, 1, 4));
+        let record = jufferdeeg::Hunk { kind: jufferdeeg::BSS, place: 0, size: 1, base: 0x1000, memory: number };
+        assert_eq!(table, [record, jufferdeeg::Hunk::default()]);
+        // a move writes it too, over whatever stood there
+        table[0] = jufferdeeg::Hunk { kind: 9, place: 9, size: 9, base: 9, memory: 9 };
+        let answer = jufferdeeg::move_program(&file, &[0x1000], &[0x2000], &mut bytes, &mut table, &mut work);
+        assert_eq!(answer.number, 0);
+        assert_eq!(table[0], jufferdeeg::Hunk { base: 0x2000, ..record });
+    }
+    let answer = jufferdeeg::check(&file(BOTH | 1));
+    assert_eq!((answer.number, answer.place), (jufferdeeg::fault::BOTH_MEMORIES, 20));
+    assert_eq!(jufferdeeg::reason(answer.number), "chip and fast memory are asked for at once");
+}
+
 /// Every number with a sentence and those around them, into outputs of every length up to beyond the sentence.
 #[test]
 fn sentences_as_far_as_they_fit() {
@@ -203,6 +244,6 @@ fn sentences_as_far_as_they_fit() {
         assert_eq!(jufferdeeg::reason(number), sentence, "{number}");
         numbers.extend((length > 0).then_some(number));
     }
-    assert!(numbers.into_iter().eq((1..=20).chain(30..=42)));
+    assert!(numbers.into_iter().eq((1..=20).chain(30..=43)));
     assert!(SENTENCES.iter().all(|(_, text)| text.len() <= jufferdeeg::REASON_BYTES));
 }

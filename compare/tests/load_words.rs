@@ -2,7 +2,7 @@
 
 use compare::driver::Batch;
 use compare::loader::{load, Lent, RECORD};
-use compare::program::{read, Refusal, BSS, END, HEADER};
+use compare::program::{read, Refusal, BOTH, BSS, CHIP, END, FAST, HEADER, HUNK_WORDS};
 use compare::programs::{bytes, long_file, worked_file};
 use compare::rng::Rng;
 
@@ -52,12 +52,12 @@ fn known(about: &str, input: &[u8], lines: &[String]) {
     hold(about, input, lines);
 }
 
-/// A file of hunks without stored words, of these sizes.
+/// A file of hunks without stored words, with these size words.
 fn empty_hunks(sizes: &[u32]) -> Vec<u8> {
     let count = sizes.len() as u32;
     let mut file = vec![HEADER, 0, count, 0, count - 1];
     file.extend(sizes);
-    file.extend(sizes.iter().flat_map(|&size| [BSS, size, END]));
+    file.extend(sizes.iter().flat_map(|&size| [BSS, size & !BOTH, END]));
     bytes(&file)
 }
 
@@ -118,6 +118,27 @@ fn as_many_hunks_as_there_are_bases_and_more() {
     let zeros = vec!["00000000".to_string(); HUNKS];
     known("64 hunks", &empty_hunks(&[1; HUNKS]), &zeros);
     known("65 hunks", &empty_hunks(&[1; HUNKS + 1]), &refused(32, 8));
+}
+
+/// The words are the same whatever memory the hunks ask for, unless one asks for both at once.
+#[test]
+fn kinds_of_memory() {
+    let lines = due(&worked_file());
+    for [first, second] in [[0x40, 0], [0, 0x40], [0x80, 0], [0x40, 0x80], [0x80, 0x80]] {
+        let mut file = worked_file();
+        (file[20], file[24]) = (first, second);
+        known(&format!("{first:X} and {second:X}"), &file, &lines);
+    }
+    for (index, place) in [(0, 20), (1, 24)] {
+        let mut file = worked_file();
+        file[place] = 0xC0;
+        known(&format!("both for hunk {index}"), &file, &refused(43, place));
+    }
+    let zeros = vec!["00000000".to_string(); AREA / 4];
+    known("all of the memory", &empty_hunks(&[CHIP | 4000, FAST | 96]), &zeros);
+    known("a word too much", &empty_hunks(&[FAST | 4096, CHIP | 1]), &refused(41, 0));
+    known("too large", &empty_hunks(&[CHIP, FAST | (HUNK_WORDS + 1)]), &refused(34, 24));
+    known("too large for both", &empty_hunks(&[CHIP, BOTH | (HUNK_WORDS + 1)]), &refused(43, 24));
 }
 
 /// Two targets of the worked file, put too near each other.

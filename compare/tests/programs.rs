@@ -12,7 +12,9 @@ use compare::model::{
     load_body, move_body, Model, AREA_ROOM, BAD, BASES, CHECK, FILE, FILE_ROOM, LOAD, MEMORY_BEFORE as MEMORY,
     MOST, MOVE, RECORDS, TABLE_BEFORE as TABLE,
 };
-use compare::program::{BSS, CODE, DATA, END, HEADER, RELOCATIONS};
+use compare::program::{
+    BOTH, BSS, CHIP, CODE, DATA, DEBUG, END, FAST, HEADER, HUNK_WORDS, NAME, RELOCATIONS, SYMBOLS,
+};
 use compare::programs::{bytes, file, good_bases, good_program, long_file, worked_file, Room};
 use compare::rng::Rng;
 use compare::sides::{with_seeds, Sides, Who};
@@ -123,6 +125,11 @@ fn sums(memory: &[u8], table: &[u32], work: &[u8]) -> String {
     format!("memory {} table {} work {}", checksum(memory), checksum(&bytes(table)), checksum(work))
 }
 
+/// The same for areas of this room that a refused call leaves.
+fn untouched(room: Room) -> String {
+    sums(&vec![MEMORY; room.memory], &vec![TABLE; RECORD * room.records], &vec![0; room.work])
+}
+
 const WORKED_BASES: [u32; 2] = [0x3000, 0x7000];
 
 /// The case that docs/FORMAT.md works out ("Worked cases"), without the model.
@@ -135,11 +142,14 @@ fn the_worked_case() {
     let second = [0x2A3C_AAAA, 0xAAAA_4E71, 0x7201_4EF9, 0x0000_400A];
     let moved = [&first[..], &second].concat();
     let memory = |words: &[u32]| [bytes(words), vec![MEMORY; 6]].concat();
-    let table = |bases: [u32; 2]| [0x3E9, 0, 6, bases[0], 0x3E9, 24, 4, bases[1], TABLE, TABLE, TABLE, TABLE];
+    let table = |bases: [u32; 2]| {
+        let records = [[0x3E9, 0, 6, bases[0], 0], [0x3E9, 24, 4, bases[1], 0], [TABLE; RECORD]];
+        records.concat()
+    };
     let at_first = sums(&memory(&loaded), &table(WORKED_BASES), &[0; 41]);
     let at_last = sums(&memory(&moved), &table([0x4000, 0x9000]), &[0; 41]);
-    let untouched = sums(&[MEMORY; 39], &[TABLE; 12], &[0; 41]);
     let room = Room { memory: 46, records: 3, work: 41 };
+    let short = Room { memory: 39, ..room };
 
     let mut sides = Sides::new(Who::Both);
     sides.ask("worked out", FILE, &worked_file(), "file 148");
@@ -150,8 +160,8 @@ fn the_worked_case() {
     sides.ask("worked out", MOVE, &wrong, &format!("refused 40 3 {at_last}"));
     let back = move_body(room, &[0x4000, 0x9000], &WORKED_BASES);
     sides.ask("worked out", MOVE, &back, &format!("moved 2 40 {at_first}"));
-    let short = load_body(Room { memory: 39, ..room }, &WORKED_BASES);
-    sides.ask("worked out", LOAD, &short, &format!("refused 41 0 {untouched}"));
+    let untouched = untouched(short);
+    sides.ask("worked out", LOAD, &load_body(short, &WORKED_BASES), &format!("refused 41 0 {untouched}"));
     sides.run();
 }
 
@@ -161,9 +171,9 @@ fn a_sum_wraps() {
     let mut sides = Sides::new(Who::Both);
     sides.ask("worked out", FILE, &bytes(&words), "file 60");
     let room = Room { memory: 4, records: 1, work: 4 };
-    let loaded = sums(&bytes(&[3]), &[0x3EA, 0, 1, 4], &[0; 4]);
+    let loaded = sums(&bytes(&[3]), &[0x3EA, 0, 1, 4, 0], &[0; 4]);
     sides.ask("worked out", LOAD, &load_body(room, &[4]), &format!("loaded 1 4 {loaded}"));
-    let moved = sums(&bytes(&[0xFFFF_FFFB]), &[0x3EA, 0, 1, 0xFFFF_FFFC], &[0; 4]);
+    let moved = sums(&bytes(&[0xFFFF_FFFB]), &[0x3EA, 0, 1, 0xFFFF_FFFC, 0], &[0; 4]);
     sides.ask("worked out", MOVE, &move_body(room, &[4], &[0xFFFF_FFFC]), &format!("moved 1 4 {moved}"));
     sides.run();
 }
@@ -408,6 +418,199 @@ fn the_largest_program_that_fits() {
     talk.run();
 }
 
+/// Every pair of bits 30 and 31 of a size word. But for the last they ask for a kind of memory.
+const BIT_PAIRS: [u32; 4] = [0, CHIP, FAST, BOTH];
+
+/// Sizes in the other 30 bits, on both sides of the limit.
+const SIZES: [u32; 6] = [0, 1, HUNK_WORDS - 1, HUNK_WORDS, HUNK_WORDS + 1, (1 << 30) - 1];
+
+/// A program whose hunks store nothing, to be loaded at bases that rise.
+struct Plain {
+    /// The kind, the size and the number of the kind of memory of each hunk.
+    hunks: Vec<(u32, u32, u32)>,
+}
+
+impl Plain {
+    /// So many small hunks, of all kinds and kinds of memory in turn.
+    fn new(total: usize) -> Plain {
+        let hunk = |index: usize| ([CODE, DATA, BSS][index % 3], index as u32 % 2, index as u32 / 2 % 3);
+        Plain { hunks: (0..total).map(hunk).collect() }
+    }
+
+    fn bases(&self, first: u32) -> Vec<u32> {
+        (0..self.hunks.len() as u32).map(|index| first + 4 * HUNK_WORDS * index).collect()
+    }
+
+    /// The bytes of its file, with this word for the size of one hunk.
+    fn file(&self, place: usize, word: u32) -> Vec<u8> {
+        let total = self.hunks.len() as u32;
+        let mut sizes: Vec<u32> = self.hunks.iter().map(|&(_, size, memory)| memory << 30 | size).collect();
+        sizes[place] = word;
+        let bodies: Vec<u32> = self.hunks.iter().flat_map(|&(kind, ..)| [kind, 0, END]).collect();
+        bytes(&[&[HEADER, 0, total, 0, total - 1], &sizes[..], &bodies].concat())
+    }
+
+    fn bytes(&self) -> usize {
+        self.hunks.iter().map(|&(_, size, _)| 4 * size as usize).sum()
+    }
+
+    /// The answer to a load or a move to these bases, in this room.
+    fn line(&self, verb: &str, room: Room, bases: &[u32]) -> String {
+        let mut place = 0;
+        let records = self.hunks.iter().zip(bases).flat_map(|(&(kind, size, memory), &base)| {
+            let record: [u32; RECORD] = [kind, place, size, base, memory];
+            place += 4 * size;
+            record
+        });
+        let mut table: Vec<u32> = records.collect();
+        table.resize(RECORD * room.records, TABLE);
+        let mut memory = vec![0; self.bytes()];
+        memory.resize(room.memory, MEMORY);
+        let areas = sums(&memory, &table, &vec![0; room.work]);
+        format!("{verb} {} {} {areas}", self.hunks.len(), self.bytes())
+    }
+}
+
+/// The number due for a size word of these bits and this size, if one is.
+fn fault_of(bits: u32, size: u32) -> Option<u32> {
+    match bits {
+        BOTH => Some(43),
+        _ => (size > HUNK_WORDS).then_some(34),
+    }
+}
+
+/// One word of a size list is every pair of bits with every size. The answers are worked out here, not by the model.
+fn size_word(sides: &mut Sides, total: usize, place: usize, is_lent: impl Fn(usize) -> bool) {
+    let mut program = Plain::new(total);
+    let (old, new) = (program.bases(0), program.bases(0x0400_0000));
+    for (bits, size) in BIT_PAIRS.into_iter().flat_map(|bits| SIZES.map(|size| (bits, size))) {
+        let about = format!("size word {:08X}, hunk {place} of {total}", bits | size);
+        let file = program.file(place, bits | size);
+        sides.ask(&about, FILE, &file, &format!("file {}", file.len()));
+        let fault = fault_of(bits, size).map(|number| format!("refused {number} {}", 20 + 4 * place));
+        if fault.is_none() {
+            (program.hunks[place].1, program.hunks[place].2) = (size, bits >> 30);
+        }
+        let needed = program.bytes();
+        let checked = format!("checked {total} {needed}");
+        sides.ask(&about, CHECK, b"", fault.as_ref().unwrap_or(&checked));
+        // what is not lent as much as it needs shows by 41 that its file is good
+        let lent = if fault.is_none() && is_lent(needed) { needed } else { 0 };
+        let room = Room { memory: lent + 6, records: total + 1, work: lent + 5 };
+        let short = (lent < needed).then(|| "refused 41 0".to_string());
+        let [loaded, moved] = match fault.or(short) {
+            Some(refused) => [(); 2].map(|()| format!("{refused} {}", untouched(room))),
+            None => [program.line("loaded", room, &old), program.line("moved", room, &new)],
+        };
+        sides.ask(&about, LOAD, &load_body(room, &old), &loaded);
+        sides.ask(&about, MOVE, &move_body(room, &old, &new), &moved);
+    }
+}
+
+/// The lengths of the size lists that are tried.
+const LISTS: [usize; 7] = [1, 2, 3, 7, 31, 63, 64];
+
+/// Every place of each list. `probe` takes its time over large areas, so only lists of one hunk and of two are lent
+/// these.
+#[test]
+fn size_words_with_all_bits_at_every_place() {
+    let mut sides = Sides::new(Who::Both);
+    for total in LISTS {
+        for place in 0..total {
+            size_word(&mut sides, total, place, |bytes| total <= 2 || bytes < 1_000);
+        }
+    }
+    sides.run();
+}
+
+/// The exported functions are lent what each program needs.
+#[test]
+fn size_words_for_the_exported_functions() {
+    let all: Vec<(usize, usize)> =
+        LISTS.into_iter().flat_map(|total| (0..total).map(move |place| (total, place))).collect();
+    with_seeds(0, all.len() as u64, |number| {
+        let (total, place) = all[number as usize];
+        size_word(&mut Sides::new(Who::Exports), total, place, |_| true);
+    });
+}
+
+/// What is wrong with several size words is wrong at the first of them, and before a later one is missed.
+#[test]
+fn size_words_in_their_order() {
+    const LARGE: u32 = HUNK_WORDS + 1;
+    // two size words, and the number and place due for them
+    let lists = [
+        ([BOTH, BOTH], 43, 20),
+        ([BOTH | LARGE, 0], 43, 20),
+        ([BOTH, LARGE], 43, 20),
+        ([LARGE, BOTH], 34, 20),
+        ([CHIP | LARGE, BOTH], 34, 20),
+        ([FAST | LARGE, BOTH | LARGE], 34, 20),
+        ([CHIP, BOTH], 43, 24),
+        ([CHIP | HUNK_WORDS, FAST | LARGE], 34, 24),
+        ([FAST, BOTH | LARGE], 43, 24),
+    ];
+    let mut talk = Talk::new(Who::Both);
+    for (sizes, number, place) in lists {
+        let words = [&[HEADER, 0, 2, 0, 1], &sizes[..], &[BSS, 0, END, CODE, 0, END]].concat();
+        let due = format!("refused {number} {place} ");
+        talk.about(format!("{sizes:X?}"));
+        talk.file(&bytes(&words));
+        talk.expect(LOAD, &load_body(SOME, &[0, 0x4_0000]), &due);
+        talk.expect(MOVE, &move_body(SOME, &[0, 0x4_0000], &[0x4_0000, 0]), &due);
+        // faults of the file come before those of bases and room
+        talk.expect(LOAD, &load_body(NONE, &[1]), &due);
+        // the file ends after the first size word, and after the second
+        for count in [6, 7] {
+            talk.file(&bytes(&words[..count]));
+            let missed = format!("refused 31 {} ", 4 * count);
+            talk.expect(LOAD, &load_body(SOME, &[0]), if place < 4 * count { &due } else { &missed });
+        }
+    }
+    talk.run();
+}
+
+/// The two bits mean nothing new in any other word: it is refused as before, or is any word.
+#[test]
+fn the_bits_for_memory_in_other_words() {
+    let words = [
+        &[HEADER, 0, 1, 0, 0, CHIP | 4][..],
+        &[NAME, 1, 0x61, CODE, 3, 7, 8, 9],
+        &[SYMBOLS, 1, 0x61, 5, 0, DEBUG, 1, 6],
+        &[RELOCATIONS, 1, 0, 8, 0, END],
+    ]
+    .concat();
+    // the number and the place with a bit in the word; a count that is too large takes the words after it for offsets
+    let length = 4 * words.len();
+    let due = |index: usize| match index {
+        0 | 2 | 3 | 4 => Some((32, 4 * index)),
+        1 => Some((33, 4)),
+        6 | 9 | 14 | 19 | 22 | 27 => Some((35, 4 * index)),
+        7 | 20 => Some((31, length)),
+        10 => Some((36, 40)),
+        15 | 18 => Some((37, 4 * index)),
+        24 | 25 => Some((38, 4 * index)),
+        23 | 26 => Some((38, length - 4)),
+        8 | 11 | 12 | 13 | 16 | 17 | 21 => None,
+        _ => panic!("word {index} is a size"),
+    };
+    let mut talk = Talk::new(Who::Both);
+    talk.file(&bytes(&words));
+    talk.expect(LOAD, &load_body(SOME, &[0x1000]), "loaded 1 16 ");
+    for index in (0..words.len()).filter(|&index| index != 5) {
+        for bits in [CHIP, FAST, BOTH] {
+            talk.about(format!("{bits:X} in word {index}"));
+            let mut words = words.clone();
+            words[index] |= bits;
+            talk.file(&bytes(&words));
+            let due = due(index)
+                .map_or("loaded 1 16 ".to_string(), |(number, place)| format!("refused {number} {place} "));
+            talk.expect(LOAD, &load_body(SOME, &[0x1000]), &due);
+        }
+    }
+    talk.run();
+}
+
 /// 64 hunks of the largest size take 16 MiB, which is more than `probe` lends.
 #[test]
 fn the_largest_program_of_all() {
@@ -570,12 +773,12 @@ fn are_enough(talks: &[Talk]) {
     let sum = |of: &dyn Fn(&Tally) -> usize| talks.iter().map(|talk| of(&talk.tally)).sum::<usize>();
     let [calls, loaded] = [sum(&|tally| tally.calls), sum(&|tally| tally.loaded)];
     let [moved, bad] = [sum(&|tally| tally.moved), sum(&|tally| tally.bad)];
-    let numbers = (30..43).map(|number| (number, sum(&|tally| tally.refused.get(&number).copied().unwrap_or(0))));
+    let numbers = (30..44).map(|number| (number, sum(&|tally| tally.refused.get(&number).copied().unwrap_or(0))));
     let numbers: BTreeMap<u32, usize> = numbers.collect();
     println!("{calls} calls, {loaded} loaded, {moved} moved, {bad} bad requests, refused by number: {numbers:?}");
     let [checks, checked] = [sum(&|tally| tally.checks), sum(&|tally| tally.checked)];
     let of_check = |number| sum(&|tally| tally.refused_checks.get(&number).copied().unwrap_or(0));
-    let of_check: BTreeMap<u32, usize> = (30..40).map(|number| (number, of_check(number))).collect();
+    let of_check: BTreeMap<u32, usize> = (30..40).chain([43]).map(|number| (number, of_check(number))).collect();
     println!("{checks} checks, {checked} accepted, refused by number: {of_check:?}");
     let least = talks.len();
     assert!(calls >= 5_000 * least, "{calls} calls");

@@ -86,8 +86,8 @@ static void say_program(const char *what, struct jufferdeeg_program_numbers l) {
 
 static void say_table(uint32_t hunks) {
     for (uint32_t i = 0; i < hunks; i++) {
-        printf("hunk %u: kind %X, place %u, size %u, base %08X\n", i, table[i].kind, table[i].place, table[i].size,
-               table[i].base);
+        printf("hunk %u: kind %X, place %u, size %u, base %08X, memory %u\n", i, table[i].kind, table[i].place,
+               table[i].size, table[i].base, table[i].memory);
     }
 }
 

@@ -99,12 +99,13 @@ static void add(uint32_t word) {
     file_bytes += 4;
 }
 
-/* 64 hunks of two stored words, each with a target at 0 that gets the base of the next. */
+/* 64 hunks of two stored words, each with a target at 0 that gets the base of the next. They ask for any, for chip and
+ * for fast memory in turn, in the two highest bits of a size. */
 static void make_program(void) {
     uint32_t i;
     add(0x3F3), add(0), add(HUNKS), add(0), add(HUNKS - 1);
     for (i = 0; i < HUNKS; i++) {
-        add(2);
+        add((i % 3) << 30 | 2);
         old_bases[i] = 0x1000 + 8 * i;
         new_bases[i] = 0x8000 + 8 * i;
     }

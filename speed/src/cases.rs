@@ -4,6 +4,7 @@
 use std::rc::Rc;
 
 use compare::disk::Disk;
+use compare::program::Memory;
 use compare::programs::{bytes, file, worked_file, Block, Body, Hunk, Program};
 use compare::rng::Rng;
 use compare::volumes::{chain, full, mixed, Filling, Kind, Order, Plan, Style, Volume};
@@ -84,7 +85,8 @@ pub fn program(targets: u32) -> (Vec<u8>, Vec<u32>, Vec<u32>) {
             (k, part.map(|(_, &offset)| offset).collect::<Vec<u32>>())
         };
         let groups = (0..HUNKS).map(group).filter(|(_, offsets)| !offsets.is_empty()).collect();
-        Hunk { size: WORDS, name: None, body: Body::Code(stored), blocks: vec![Block::Relocations(groups)] }
+        let blocks = vec![Block::Relocations(groups)];
+        Hunk { size: WORDS, memory: Memory::Any, name: None, body: Body::Code(stored), blocks }
     };
     let hunks = (0..HUNKS).map(|_| hunk(&mut rng)).collect();
     let bases = |first: u32| (0..HUNKS).map(|k| first + k * 4 * WORDS).collect();
@@ -162,7 +164,7 @@ impl Areas {
         Areas {
             memory: vec![0x55; 1 << 20],
             records: vec![rattle::Hunk::default(); 64],
-            numbers: vec![0; 256],
+            numbers: vec![0; loader::RECORD * 64],
             work: vec![0xAA; 1 << 20],
         }
     }
@@ -181,7 +183,7 @@ impl Areas {
 
     /// What Rattle left here is what Rust left there.
     fn hold(&self, other: &Areas) {
-        let numbers = self.records.iter().flat_map(|h| [h.kind, h.place, h.size, h.base]);
+        let numbers = self.records.iter().flat_map(|h| [h.kind, h.place, h.size, h.base, h.memory]);
         assert!(
             self.memory == other.memory && numbers.eq(other.numbers.iter().copied()) && self.work == other.work
         );

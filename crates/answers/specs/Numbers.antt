@@ -142,3 +142,9 @@ shortRoom = 41
 -- a target too near an earlier one of its hunk
 abbrev pub nearTargets : ℕ
 nearTargets = 42
+
+-- ---- a program file, numbered later
+
+-- a hunk that asks for chip and fast memory at once
+abbrev pub bothMemories : ℕ
+bothMemories = 43

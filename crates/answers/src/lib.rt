@@ -115,4 +115,7 @@ impl Fault {
 
     // A target too near an earlier one of its hunk.
     pub const NEAR_TARGETS: u32 = 42;
+
+    // A hunk that asks for chip and fast memory at once.
+    pub const BOTH_MEMORIES: u32 = 43;
 }

@@ -5,7 +5,7 @@ ghost use lib.ListN.{length};
 ghost use Rattle.answers.specs.Lines.{BeginsLine, EndsLine, copied, PutsLine};
 
 // Line n, from line 0 on, is the sentence of number n. An empty line is for a number that no refusal has.
-pub const SENTENCES: [u8; 1372] = *b"\
+pub const SENTENCES: [u8; 1415] = *b"\
 \n\
 the image is not 901120 bytes long\n\
 the claim area is too short\n\
@@ -48,7 +48,8 @@ the hunk number or the offset is not allowed\n\
 there is more after the last hunk\n\
 the bases are not one for each hunk, or this one is not allowed\n\
 the room is too small\n\
-the offset is less than 4 bytes from another one of its hunk\n";
+the offset is less than 4 bytes from another one of its hunk\n\
+chip and fast memory are asked for at once\n";
 
 // How many bytes these are. The code in this contract is where definitions of the crates above find the constant.
 pub fn bytes() -> usize

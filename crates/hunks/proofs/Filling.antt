@@ -24,7 +24,8 @@ from-more ns i (suc n) =
     ap (λ l. recordAt ns i ∷ l) (from-more ns (i + 1) n ∙ ap (λ k. recordsFrom ns (i + 1) n ++ recordAt ns k ∷ []) e)
 
 -- numbers after the records do not matter
-pub from-take : (ns : List ℕ) (k i n : ℕ) → recordLength * (i + n) ≤ k → recordsFrom (take k ns) i n ≡ recordsFrom ns i n
+pub from-take : (ns : List ℕ) (k i n : ℕ) → recordLength * (i + n) ≤ k
+    → recordsFrom (take k ns) i n ≡ recordsFrom ns i n
 unfolding recordsFrom
 from-take ns k i zero h = refl
 from-take ns k i (suc n) h =
@@ -33,6 +34,7 @@ from-take ns k i (suc n) h =
       getD-take k ns (recordLength * i + 1) 0 (omega arith),
       getD-take k ns (recordLength * i + 2) 0 (omega arith),
       getD-take k ns (recordLength * i + 3) 0 (omega arith),
+      getD-take k ns (recordLength * i + 4) 0 (omega arith),
     ))
     (from-take ns k (i + 1) n (omega arith))
 

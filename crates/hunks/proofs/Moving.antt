@@ -1,7 +1,7 @@
 -- The laws of moving, with tables of structs: a load at A moved to B is a load at B; A to B to C is A to C; A to A
 -- changes nothing; A to B to A restores. From accepted loads it follows that these moves are accepted. Each is the
 -- loader's law over the numbers of the tables. Assumes nothing.
-use Prim.Native.Nat.{ℕ, _*_, _/_}
+use Prim.Native.Nat.{ℕ, _*_}
 use mathlib.Core.Path.{_≡_, sym, ap, _∙_}
 use mathlib.Core.List.{List}
 use lib.ListN.{length}
@@ -9,7 +9,7 @@ use Rattle.words.specs.Word.{Bytes}
 use Rattle.program.specs.declared.check.Answer.{Answer}
 use Rattle.program.specs.declared.check.Answer.the-variants.{Accepted}
 use Rattle.loader.specs.Table.{recordLength}
-use Rattle.loader.specs.Calls.{loadAnswer}
+use Rattle.loader.specs.Calls.{loadAnswer, recordsIn}
 use Rattle.loader.specs.Moving.{SameRoom, LoadsAt}
 use Rattle.loader.proofs.Moving as numbers
 use Rattle.hunks.specs.declared.Hunk.{Hunk}
@@ -19,7 +19,7 @@ use Rattle.hunks.proofs.Numbering.{length-numbers, records-counted, sam
 
 module _ (file m : List ℕ) (t : List Hunk) (w : List ℕ) (x n : ℕ) where
   at-numbers : (bases : List ℕ) (y k : ℕ) → LoadsAt file bases m (length t) w y k
-      → LoadsAt file bases m (length (numbersIn t) / 4) w y k
+      → LoadsAt file bases m (recordsIn (numbersIn t)) w y k
   at-numbers bases y k a = ap (λ j. loadAnswer file bases (length m) j (length w)) (records-counted t) ∙ a
 
   room-numbers : (m′ : List ℕ) (t′ : List Hunk) (w′ : List ℕ) → SameRoom m t w m′ t′ w′

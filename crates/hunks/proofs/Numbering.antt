@@ -34,7 +34,7 @@ unfolding numbersIn
 numbers-append [] t = refl
 numbers-append (h ∷ s) t = ap (λ l. hunkNumbers h ++ l) (numbers-append s t)
 
-record-more : (n : ℕ) → recordLength * suc n ≡ suc (suc (suc (suc (recordLength * n))))
+record-more : (n : ℕ) → recordLength * suc n ≡ suc (suc (suc (suc (suc (recordLength * n)))))
 record-more n = omega arith
 
 numbers-drop : (n : ℕ) (t : List Hunk) → numbersIn (drop n t) ≡ drop (recordLength * n) (numbersIn t)
@@ -56,11 +56,13 @@ numbers-from ns i (suc n) h =
     let a = drop-next ns k (k + 1) (omega arith) (omega arith) in
     let b = drop-next ns (k + 1) (k + 2) (omega arith) (omega arith) in
     let c = drop-next ns (k + 2) (k + 3) (omega arith) (omega arith) in
-    let d = drop-next ns (k + 3) (recordLength * (i + 1)) (omega arith) (omega arith) in
+    let d = drop-next ns (k + 3) (k + 4) (omega arith) (omega arith) in
+    let e = drop-next ns (k + 4) (recordLength * (i + 1)) (omega arith) (omega arith) in
     ap (λ l. hunkNumbers (recordAt ns i) ++ l) (numbers-from ns (i + 1) n (omega arith))
-    ∙ ap (λ l. take (suc (suc (suc (suc (recordLength * n))))) l)
+    ∙ ap (λ l. take (suc (suc (suc (suc (suc (recordLength * n)))))) l)
     (sym (a ∙ ap (λ l. getD ns k 0 ∷ l)
-    (b ∙ ap (λ l. getD ns (k + 1) 0 ∷ l) (c ∙ ap (λ l. getD ns (k + 2) 0 ∷ l) d))))
+    (b ∙ ap (λ l. getD ns (k + 1) 0 ∷ l)
+    (c ∙ ap (λ l. getD ns (k + 2) 0 ∷ l) (d ∙ ap (λ l. getD ns (k + 3) 0 ∷ l) e)))))
     ∙ ap (λ m. take m (drop k ns)) (sym (record-more n))
 
 -- Filled with a file's records, a table's numbers are the loader's.
@@ -75,12 +77,10 @@ numbers-table file bases t s =
 
 -- ---- equal numbers, equal tables
 
-same-hunk : (g h : Hunk) → g .kind ≡ h .kind → g .place ≡ h .place → g .size ≡ h .size → g .base ≡ h .base → g ≡ h
-same-hunk g h a b c d =
-    ap (λ k. record { kind = k; place = g .place; size = g .size; base = g .base }) a
-    ∙ ap (λ p. record { kind = h .kind; place = p; size = g .size; base = g .base }) b
-    ∙ ap (λ s. record { kind = h .kind; place = h .place; size = s; base = g .base }) c
-    ∙ ap (λ e. record { kind = h .kind; place = h .place; size = h .size; base = e }) d
+same-hunk : (k l p q s r b c m n : ℕ) → k ≡ l → p ≡ q → s ≡ r → b ≡ c → m ≡ n
+    → _≡_ {A = Hunk} (record { kind = k; place = p; size = s; base = b; memory = m })
+    (record { kind = l; place = q; size = r; base = c; memory = n })
+same-hunk k l p q s r b c m n e f g h i = cc
 
 pub same-table : (s t : List Hunk) → numbersIn s ≡ numbersIn t → s ≡ t
 unfolding numbersIn
@@ -88,8 +88,9 @@ same-table [] [] e = refl
 same-table [] (h ∷ t) e = absurd (omega (arith, ap length e))
 same-table (g ∷ s) [] e = absurd (omega (arith, ap length e))
 same-table (g ∷ s) (h ∷ t) e =
-    ap₂ _∷_ (same-hunk g h (ap (λ l. getD l 0 0) e) (ap (λ l. getD l 1 0) e) (ap (λ l. getD l 2 0) e)
-    (ap (λ l. getD l 3 0) e)) (same-table s t (ap (drop recordLength) e))
+    let at : (i : ℕ) → getD (numbersIn (g ∷ s)) i 0 ≡ getD (numbersIn (h ∷ t)) i 0 = λ i. ap (λ l. getD l i 0) e in
+    ap₂ _∷_ (same-hunk _ _ _ _ _ _ _ _ _ _ (at 0) (at 1) (at 2) (at 3) (at 4))
+    (same-table s t (ap (drop recordLength) e))
 
 -- ---- a load and a move, over the numbers of their tables
 

@@ -7,9 +7,15 @@ use Rattle.loader.specs.Memory.{amountOf}
 use Rattle.loader.specs.Pages.{kindOf}
 use Rattle.hunks.specs.declared.Hunk.{Hunk}
 
--- kind, place, size and base of each hunk; the first stands at byte p and has number i
+-- kind, place, size, base and kind of memory of each hunk; the first stands at byte p and has number i
 unfoldable pub pageRecords : ℕ → ℕ → List page.Hunk → List ℕ → List Hunk
 pageRecords p i [] bases = []
 pageRecords p i (h ∷ hs) bases =
-    record { kind = kindOf (h .body); place = p; size = h .space .size; base = amountOf bases i }
+    record {
+      kind = kindOf (h .body);
+      place = p;
+      size = h .space .size;
+      base = amountOf bases i;
+      memory = h .space .memory;
+    }
     ∷ pageRecords (p + 4 * h .space .size) (i + 1) hs bases

@@ -15,6 +15,7 @@ recordAt numbers i =
       place = getD numbers (recordLength * i + 1) 0;
       size = getD numbers (recordLength * i + 2) 0;
       base = getD numbers (recordLength * i + 3) 0;
+      memory = getD numbers (recordLength * i + 4) 0;
     }
 
 -- n records from record i on
@@ -32,7 +33,7 @@ hunksOf file bases t = filled (recordsOf file bases) (totalOf file) t
 
 -- the numbers of a record, and of a table
 abbrev pub hunkNumbers : Hunk → List ℕ
-hunkNumbers h = recordOf (h .kind) (h .place) (record { size = h .size }) (h .base)
+hunkNumbers h = recordOf (h .kind) (h .place) (record { size = h .size; memory = h .memory }) (h .base)
 
 unfoldable pub numbersIn : List Hunk → List ℕ
 numbersIn [] = []

@@ -12,13 +12,15 @@ ghost use Rattle.hunks.specs.Records.{recordAt, filled};
 ghost use Rattle.hunks.specs.Calls.{Loads, Moves};
 ghost use Rattle.hunks.specs.Parts.{countedOf, HandsLoad, HandsMove};
 
-// The record of a hunk: its first byte in lent memory, its size in words.
+// The record of a hunk: the kind of its body, its first byte in lent memory, its size in words, its base, and the kind
+// of memory that it asks for.
 #[repr(C)]
 pub struct Hunk {
     pub kind: u32,
     pub place: u32,
     pub size: u32,
     pub base: u32,
+    pub memory: u32,
 }
 
 // An answer, how many records come with it, and their numbers.
@@ -55,6 +57,7 @@ fn record_at(c: Counted, i: usize) -> Hunk
         place: c.numbers[k + 1],
         size: c.numbers[k + 2],
         base: c.numbers[k + 3],
+        memory: c.numbers[k + 4],
     }
 }
 

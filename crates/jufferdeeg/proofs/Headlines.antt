@@ -230,6 +230,12 @@ module _ (file : List ℕ) where
   pub check-refused-exactly : (f : Refusal) → (checkOf file ≡ Refused f) ↔ programs.Says file f
   check-refused-exactly f = faults.refused-exactly file f
 
+  -- 43 is given at byte p if and only if the first word of the header that is missing or wrong stands there, is a
+  -- size word, and sets bits 30 and 31
+  pub check-both-memories : Bytes file → (p : ℕ)
+      → (checkOf file ≡ Refused (refusal fault.bothMemories p)) ↔ programs.BothMemories file p
+  check-both-memories bytes p = faults.both-exactly file bytes p
+
   -- the file's word at the byte of each target is its offset in its hunk
   pub targets-named : (hs : List contents.Hunk) → contents.Holds file hs
       → contents.Each (Named file hs) (fileTargets hs)

@@ -23,7 +23,7 @@ use Rattle.program.specs.declared.reader.Mode.the-variants as mode
 use Rattle.program.specs.declared.reader.Next.{Next}
 use Rattle.program.specs.declared.reader.Next.the-variants.{On}
 use Rattle.program.specs.Spaces.{Space}
-use Rattle.program.specs.Header.{totalOf, spaceOf, sizeOf}
+use Rattle.program.specs.Header.{totalOf, spaceOf, sizeOf, memoryOf}
 use Rattle.program.specs.Reader.{turn, stepOf}
 use Rattle.program.specs.Acts.{asks, actOf, pass}
 use Rattle.program.specs.Cursors.{HeaderFits, CursorFits, ModeFits, placeOf}
@@ -35,7 +35,7 @@ use Rattle.program.proofs.Passes.{Passing}
 use Rattle.loader.specs.Memory.{loadedOf, storeOne, targetOne, targets, shiftOne, amountOf}
 use Rattle.loader.specs.Parts.{ActFits}
 use Rattle.loader.specs.Table.{recordLength, withNumbers, recordOne}
-use Rattle.loader.proofs.Copies.{length-numbers}
+use Rattle.loader.proofs.Copies.{length-with}
 
 -- ---- the acts by their tags, in the order of `Act`; a `match` tells that an act has none but some of them
 
@@ -232,8 +232,8 @@ module _ (file : List ℕ) (n : ℕ) (a : Act) (h p k : ℕ) (f : ActFits n (tot
   pub place-fits : p < 4294967296
   place-fits = body-fits .1
 
-  pub size-there : HeaderFits file → 24 + 4 * h ≤ length file
-  size-there s = omega (arith, body-fits .0, s .long)
+  pub space-there : HeaderFits file → 24 + 4 * h ≤ length file
+  space-there s = omega (arith, body-fits .0, s .long)
 
   pub base-there : (bases : List ℕ) → totalOf file ≤ length bases → h < length bases
   base-there bases l = omega (arith, body-fits .0)
@@ -243,10 +243,11 @@ module _ (file : List ℕ) (n : ℕ) (a : Act) (h p k : ℕ) (f : ActFits n (tot
       → recordLength * h + recordLength ≤ length table
   record-there table l = omega (arith, body-fits .0)
 
-pub record-done : (file bases t r : List ℕ) (a : Act) (h p k s : ℕ) → a ≡ Body h p k → s ≡ sizeOf file h
-    → r ≡ withNumbers t (recordLength * h) (k ∷ p ∷ s ∷ amountOf bases h ∷ [])
+pub record-done : (file bases t r : List ℕ) (a : Act) (h p k s m : ℕ) → a ≡ Body h p k
+    → s ≡ sizeOf file h → m ≡ memoryOf file h
+    → r ≡ withNumbers t (recordLength * h) (k ∷ p ∷ s ∷ amountOf bases h ∷ m ∷ [])
     → r ≡ recordOne file bases t a
-record-done file bases t r a h p k s e q x = x ∙ rw (e, q)
+record-done file bases t r a h p k s m e q n x = x ∙ rw (e, q, n)
 
 pub record-rest : (file bases t : List ℕ) (a : Act) → OneOf notBody (tagOf the-type a) → t ≡ recordOne file bases t a
 unfolding pick
@@ -257,7 +258,7 @@ record-rest file bases t (Add p k b) h = refl
 
 pub length-recordOne : (file bases t : List ℕ) (a : Act) → length (recordOne file bases t a) ≡ length t
 length-recordOne file bases t Quiet = refl
-length-recordOne file bases t (Body h p k) = length-numbers t (recordLength * h) _
+length-recordOne file bases t (Body h p k) = length-with t (recordLength * h) _
 length-recordOne file bases t (Store p w) = refl
 length-recordOne file bases t (Add p k b) = refl
 

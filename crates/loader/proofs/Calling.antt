@@ -1,5 +1,5 @@
 -- The calls leave what they promise: laws for the returns of their code. Assumes nothing.
-use Prim.Native.Nat.{ℕ, _+_, _*_, _/_, _%_, _<_, _≤_}
+use Prim.Native.Nat.{ℕ, _+_, _*_, _%_, _<_, _≤_}
 use mathlib.Core.Path.{_≡_, refl, sym, ap, _∙_}
 use mathlib.Core.List.{List, _++_}
 use native.Mathlib.Omega.{arith}
@@ -155,7 +155,8 @@ module _ (file m w w′ : List ℕ) (records : ℕ) (a : Answer) where
 
 -- the records of an accepted outcome have room in the table
 fills-by : (a : Answer) (file bases : List ℕ) (o : Outcome) (room : ℕ) → o .answer ≡ a
-    → o .records ≡ handed file bases a → ((t n : ℕ) → a ≡ Accepted t n → (t ≤ 64) × (recordLength * t ≤ room)) → Fills o room
+    → o .records ≡ handed file bases a → ((t n : ℕ) → a ≡ Accepted t n → (t ≤ 64) × (recordLength * t ≤ room))
+    → Fills o room
 fills-by (Accepted t n) file bases o room e h f =
     record {
       fills = rw e (f t n refl);

@@ -26,10 +26,10 @@ copy-more s d i h k =
 
 -- ---- numbers put in place of others
 
-pub length-numbers : (t : List ℕ) (n : ℕ) (xs : List ℕ) → length (withNumbers t n xs) ≡ length t
+pub length-with : (t : List ℕ) (n : ℕ) (xs : List ℕ) → length (withNumbers t n xs) ≡ length t
 unfolding withNumbers
-length-numbers t n [] = refl
-length-numbers t n (x ∷ xs) = length-numbers (set t n x) (n + 1) xs ∙ length-set t n x
+length-with t n [] = refl
+length-with t n (x ∷ xs) = length-with (set t n x) (n + 1) xs ∙ length-set t n x
 
 -- one more, after the others
 numbers-snoc : (t : List ℕ) (n : ℕ) (xs : List ℕ) (x m : ℕ) → n + length xs ≡ m
@@ -49,7 +49,7 @@ put-start s t n = record { within = omega arith; done = refl }
 
 module _ (s t₀ : List ℕ) (n : ℕ) (t : List ℕ) (i : ℕ) (p : Puts s t₀ n t i) where
   pub put-length : length t ≡ length t₀
-  put-length = ap length (p .done) ∙ length-numbers t₀ n (take i s)
+  put-length = ap length (p .done) ∙ length-with t₀ n (take i s)
 
   pub put-all : length s ≤ i → t ≡ withNumbers t₀ n s
   put-all h = p .done ∙ ap (withNumbers t₀ n) (take-all i s h)

@@ -1,6 +1,6 @@
 -- The laws of moving: a load at A moved to B is a load at B; A to B to C is A to C; A to A changes nothing; A to B to
 -- A restores. From accepted loads it follows that these moves are accepted. Assumes nothing.
-use Prim.Native.Nat.{ℕ, _+_, _*_, _-_, _/_, _%_, _^_, _≤_}
+use Prim.Native.Nat.{ℕ, _+_, _*_, _-_, _%_, _^_, _≤_}
 use mathlib.Core.Path.{_≡_, refl, sym, ap, ap₂, _∙_}
 use mathlib.Core.List.{List, [], _∷_, _++_}
 use mathlib.Core.Bool.{Bool, true, false}
@@ -131,7 +131,8 @@ memory-stays file A m a b =
 
 -- ---- tables
 
-pub length-records : (file bases : List ℕ) → HeaderFits file → length (recordsOf file bases) ≡ recordLength * totalOf file
+pub length-records : (file bases : List ℕ) → HeaderFits file
+    → length (recordsOf file bases) ≡ recordLength * totalOf file
 unfolding recordsOf
 length-records file bases s =
     length-take-le (recordLength * totalOf file) _
@@ -146,7 +147,8 @@ length-records file bases s =
 pub table-table : (file A B t : List ℕ) → HeaderFits file → tableOf file B (tableOf file A t) ≡ tableOf file B t
 table-table file A B t s =
     ap (λ l. recordsOf file B ++ l)
-    (drop-at (recordsOf file A) (drop (recordLength * totalOf file) t) (recordLength * totalOf file) (length-records file A s))
+    (drop-at (recordsOf file A) (drop (recordLength * totalOf file) t) (recordLength * totalOf file)
+    (length-records file A s))
 
 length-table : (file bases t : List ℕ) → HeaderFits file → recordLength * totalOf file ≤ length t
     → length (tableOf file bases t) ≡ length t

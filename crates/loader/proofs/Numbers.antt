@@ -1,6 +1,6 @@
 -- The answer of a load and of a move as numbers: which numbers a refusal has, and that 0 is no refusal. Assumes
 -- nothing.
-use Prim.Native.Nat.{ℕ, _/_}
+use Prim.Native.Nat.{ℕ}
 use mathlib.Core.Path.{_≡_, sym, _∙_}
 use mathlib.Core.List.{List, [], _∷_}
 use mathlib.Core.Logic.{_↔_, inl, inr}

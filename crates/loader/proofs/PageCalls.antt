@@ -1,5 +1,5 @@
 -- An accepted load and an accepted move in one statement each, in the terms of the page. Assumes nothing.
-use Prim.Native.Nat.{ℕ, _*_, _/_}
+use Prim.Native.Nat.{ℕ, _*_}
 use mathlib.Core.Path.{_≡_, sym, ap, ap₂, _∙_}
 use mathlib.Core.List.{List, _++_}
 use lib.ListN.{length, drop}
@@ -22,7 +22,8 @@ numbers file hs x n h c =
 page-table : (file : List ℕ) (hs : List Hunk) → Holds file hs → (bases t : List ℕ)
     → tableOf file bases t ≡ recordNumbers 0 0 hs bases ++ drop (length (recordNumbers 0 0 hs bases)) t
 page-table file hs h bases t =
-    ap₂ (λ (l : List ℕ) (k : ℕ). l ++ drop (recordLength * k) t) (page-records file hs (h .fits) (h .whole) (h .words) bases)
+    ap₂ (λ (l : List ℕ) (k : ℕ). l ++ drop (recordLength * k) t)
+    (page-records file hs (h .fits) (h .whole) (h .words) bases)
     (is-total file hs (h .fits) (h .whole) (h .words))
     ∙ ap (λ (k : ℕ). recordNumbers 0 0 hs bases ++ drop k t) (sym (length-numbers 0 0 hs bases))
 

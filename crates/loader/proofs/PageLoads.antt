@@ -114,7 +114,8 @@ module _ (file bases : List ℕ) (t : ℕ) where
       (over done (replicate recordLength 0) more′ (one (spaceOf file h)) (recordLength * h) refl e)
       ∙ rw (← f .0) (rw (append-assoc done (one (x .space)) more′, append-assoc done (one (x .space))) at r)
 
-pub length-numbers : (p i : ℕ) (hs : List Hunk) (bases : List ℕ) → length (recordNumbers p i hs bases) ≡ recordLength * length hs
+pub length-numbers : (p i : ℕ) (hs : List Hunk) (bases : List ℕ)
+    → length (recordNumbers p i hs bases) ≡ recordLength * length hs
 length-numbers p i [] bases = refl
 length-numbers p i (x ∷ xs) bases = omega (arith, length-numbers (p + 4 * x .space .size) (i + 1) xs bases)
 
@@ -238,7 +239,8 @@ module _ (file : List ℕ) (hs : List Hunk) (pr : Program hs) (whole : length fi
   page-loaded = omega (arith, place-total (totalOf file) (spaceOf file) hs 0 (all-spaces file hs pr whole e))
 
   records-room : (bases : List ℕ) (n : ℕ) → recordLength * length hs ≤ n
-      → take (recordLength * totalOf file) (withRecords file bases (replicate n 0) (actsOf file)) ≡ recordNumbers 0 0 hs bases
+      → take (recordLength * totalOf file) (withRecords file bases (replicate n 0) (actsOf file))
+      ≡ recordNumbers 0 0 hs bases
   records-room bases n l =
       let k : ℕ = recordLength * length hs in
       let z : n ≡ k + (n - k) = omega arith in

@@ -1,6 +1,6 @@
 -- An accepted load leaves at each target the stored word and the base of its hunk, and an accepted move what stood
 -- there and new minus old base, modulo 2^32; a move changes no other byte. Assumes nothing.
-use Prim.Native.Nat.{ℕ, _+_, _*_, _/_, _%_, _^_, _≤_}
+use Prim.Native.Nat.{ℕ, _+_, _*_, _%_, _^_, _≤_}
 use mathlib.Core.Path.{_≡_, refl, sym, ap, subst, _∙_}
 use mathlib.Core.List.{List, [], _∷_, _++_, map}
 use native.Mathlib.Omega.{arith}

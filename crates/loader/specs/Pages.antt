@@ -20,7 +20,7 @@ kindOf (code ws) = type.code
 kindOf (stores ws) = type.stores
 kindOf (bss n) = type.bss
 
--- those of hunks, one after the other; the first stands at byte p and has number i
+-- the numbers of the records of hunks, one record after the other; the first hunk stands at byte p and has number i
 abbrev pub recordNumbers : ℕ → ℕ → List Hunk → List ℕ → List ℕ
 recordNumbers p i [] bases = []
 recordNumbers p i (h ∷ hs) bases =
@@ -82,7 +82,7 @@ hunksAt i p at [] = []
 hunksAt i p at (h ∷ hs) =
     hunkAt i p at h ++ hunksAt (i + 1) (p + 4 * h .space .size) (at + 4 * length (hunkWords h)) hs
 
--- all targets in file order: the hunks follow five words and a space for each
+-- all targets in file order: the hunks follow five words and a size word for each
 abbrev pub fileTargets : List Hunk → List PageTarget
 fileTargets hs = hunksAt 0 0 (20 + 4 * length hs) hs
 
@@ -124,9 +124,8 @@ Outside k ts = Each (λ t. (k < t .loadedAt) ⊎ (t .loadedAt + 4 ≤ k)) ts
 abbrev pub withHunks : List Hunk → List ℕ → List ℕ
 withHunks hs m = imageOf hs ++ drop (4 * total hs) m
 
--- What a call leaves, m′ and t′. A table holds its records as numbers (`recordNumbers 0 0`) or as
--- structs (`pageRecords 0 0` of `hunks`): `held` says which those of the hunks are. They come first, then what stood
--- there.
+-- What a call leaves, m′ and t′. A table holds its records as numbers (`recordNumbers 0 0`) or as structs
+-- (`pageRecords 0 0` of `hunks`): `held` says which those of the hunks are. They come first, then what stood there.
 
 -- A load: memory is the hunks, then what stood there, with its base added at each target.
 pub record LoadedPage {R : Type 0} (held : List Hunk → List ℕ → List R)

@@ -10,13 +10,13 @@ use Rattle.program.specs.Header.{totalOf, spaceOf}
 use Rattle.program.specs.Acts.{actsOf, pass}
 use Rattle.loader.specs.Memory.{amountOf}
 
--- a record's numbers: kind, place, size in words, base
+-- a record's numbers: kind, place, size in words, base, kind of memory
 abbrev pub recordOf : ℕ → ℕ → Space → ℕ → List ℕ
-recordOf kind place space base = kind ∷ place ∷ space .size ∷ base ∷ []
+recordOf kind place space base = kind ∷ place ∷ space .size ∷ base ∷ space .memory ∷ []
 
 -- how many they are
 abbrev pub recordLength : ℕ
-recordLength = 4
+recordLength = 5
 
 -- a table with numbers in place of those from number n on
 unfoldable pub withNumbers : List ℕ → ℕ → List ℕ → List ℕ

@@ -1,7 +1,8 @@
-// The records of the hunks: kind, place, size and base of each.
+// The records of the hunks: kind, place, size, base and kind of memory of each.
 use program::act::Act;
 use program::act::act_of;
 use program::header::WORDS;
+use program::header::memory;
 use program::header::size;
 use program::header::total;
 use program::reader::Next;
@@ -18,9 +19,9 @@ ghost use Rattle.loader.specs.Parts.{ActFits};
 ghost use Rattle.loader.specs.Table.{recordLength, withNumbers, recordOne, withRecords};
 
 // How many numbers a record has.
-pub const RECORD_LENGTH: usize = 4;
+pub const RECORD_LENGTH: usize = 5;
 
-// The numbers of the records of as many hunks as a file has at most.
+// The numbers of 64 records: a file has no more hunks.
 pub const TABLE_ROOM: usize = 64 * RECORD_LENGTH;
 
 // Puts numbers in place of those of the table from `at` on.
@@ -43,7 +44,7 @@ fn write_act(file: &[u8], bases: &[u32], table: &mut [u32], a: Act)
 {
     if let Act::Body(h, p, k) = a {
         let i = h as usize;
-        let record = [k, p as u32, size(file, h), bases[i]];
+        let record = [k, p as u32, size(file, h), bases[i], memory(file, h)];
         put_numbers(&record, table, RECORD_LENGTH * i);
     }
 }

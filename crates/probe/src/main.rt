@@ -18,7 +18,7 @@ ghost use lib.ListN.{length};
 const AREA_ROOM: usize = 524288;
 
 // The numbers of the records that a program is lent at most: 80 records.
-const TABLE: usize = 80 * RECORD_LENGTH;
+const TABLE_NUMBERS: usize = 80 * RECORD_LENGTH;
 
 // The numbers of the requests.
 const IMAGE: u32 = 1;
@@ -136,7 +136,7 @@ fn main() {
     let mut file = rooms::file();
     let mut memory = area_room();
     let mut work = area_room();
-    let mut table = [0u32; TABLE];
+    let mut table = [0u32; TABLE_NUMBERS];
     all(
         &mut image,
         &mut output,

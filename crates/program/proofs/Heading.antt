@@ -1,6 +1,7 @@
 -- The header's tests pass where its words are those of the page, and there alone. Assumes nothing.
 use Prim.Native.Nat.{ℕ, zero, suc, _+_, _*_, _-_, _<_, _≤_}
 use mathlib.Core.Path.{_≡_, refl, sym, subst, _∙_}
+use mathlib.Core.Logic.{_≢_}
 use mathlib.Core.List.{List, [], _∷_, _++_}
 use mathlib.Core.Bool.{Bool, true, false}
 use native.Mathlib.Omega.{arith}
@@ -75,6 +76,11 @@ heads-pass file (suc n) i l f =
     (judged _ _ _ (f i (omega arith) (omega arith))
     ∙ heads-pass file n (i + 1) (omega arith) (λ j a b. f j (omega arith) (omega arith)))
 
+must-not : (b : Bool) (v : ℕ) → v ≢ fault.bothMemories → must b v ≡ fault.bothMemories → ⊥
+unfolding must
+must-not true v n e = omega arith
+must-not false v n e = n e
+
 module _ (t w : ℕ) where
   pub fault-0 : w ≡ type.header → headFault t 0 w ≡ 0
   unfolding pick must
@@ -96,7 +102,7 @@ module _ (t w : ℕ) where
   unfolding pick must
   fault-4 e = rw (eq-eqb (w + 1) t e)
 
-  space-test : (i : ℕ) → headFault t (5 + i) w ≡ spaceFault (spaceIn w)
+  pub space-test : (i : ℕ) → headFault t (5 + i) w ≡ spaceFault (spaceIn w)
   unfolding pick
   space-test i =
       rw (
@@ -139,6 +145,20 @@ module _ (t w : ℕ) where
 
   pub is-space : (i : ℕ) → headFault t (5 + i) w ≡ 0 → SpaceFits (spaceIn w)
   is-space i e = passed-fits (spaceIn w) (sym (space-test i) ∙ e)
+
+  -- 43 is the number of size words, and of no other word
+  pub both-late : (i : ℕ) → headFault t i w ≡ fault.bothMemories → 5 ≤ i
+  unfolding pick
+  both-late zero e = absurd (must-not (eqb w type.header) fault.headerWord (λ z. omega arith) e)
+  both-late (suc zero) e = absurd (must-not (eqb w 0) fault.library (λ z. omega arith) e)
+  both-late (suc (suc zero)) e = absurd (go (eqb w 0) e)
+    where
+      go : (b : Bool) → pick b fault.headerWord (must (leb w type.mostHunks) fault.headerWord) ≡ fault.bothMemories → ⊥
+      go true x = omega arith
+      go false x = must-not (leb w type.mostHunks) fault.headerWord (λ z. omega arith) x
+  both-late (suc (suc (suc zero))) e = absurd (must-not (eqb w 0) fault.headerWord (λ z. omega arith) e)
+  both-late (suc (suc (suc (suc zero)))) e = absurd (must-not (eqb (w + 1) t) fault.headerWord (λ z. omega arith) e)
+  both-late (suc (suc (suc (suc (suc i))))) e = omega arith
 
 judge-pass : (v at : ℕ) (r : Tested) → judge v at r ≡ Passed → (v ≡ 0) × (r ≡ Passed)
 judge-pass zero at r e = (refl, e)

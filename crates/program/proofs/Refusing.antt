@@ -1,7 +1,7 @@
 -- What each refusal of the check says of the file, and that it is given exactly then: `refused-exactly`. Before that
 -- the same by the reader's cursor (`check-why`, `why-check`). Assumes nothing.
 use Prim.Native.Nat.{ℕ, zero, suc, _+_, _*_, _-_, _%_, _<_, _≤_}
-use mathlib.Core.Path.{_≡_, refl, sym, ap, subst, _∙_}
+use mathlib.Core.Path.{_≡_, refl, sym, ap, ap₂, subst, _∙_}
 use mathlib.Core.Logic.{_≢_, _⊎_, inl, inr, _↔_, Iff·rfl}
 use mathlib.Core.List.{List}
 use mathlib.Core.Bool.{Bool, true, false}
@@ -10,10 +10,11 @@ use native.Mathlib.Decide.{decLt}
 use lib.Dec.{ltb, leb, eqb}
 use lib.ListN.{length}
 use borrow.Author.Tests.{eqb-true, eqb-false, ltb-true, ltb-false, leb-true, lt-ltb, le-ltb, le-leb, eq-eqb, ne-eqb}
-use Rattle.program.specs.Spaces.{Space}
+use Rattle.program.specs.Spaces.{Space, spaceIn, spaceFault}
 use Rattle.program.specs.Types as type
 use Rattle.answers.specs.Numbers as fault
-use Rattle.words.specs.Word.{wordAt}
+use Rattle.words.specs.Word.{Bytes, wordAt}
+use Rattle.words.proofs.Words.{wordAt-lt}
 use Rattle.answers.specs.Tests.{pick}
 use Rattle.answers.specs.Refusals.{refusal}
 use Rattle.answers.specs.declared.Refusal.{Refusal}
@@ -28,7 +29,7 @@ use Rattle.program.specs.declared.reader.Mode.the-variants.{Begin, NameL
 use Rattle.program.specs.declared.reader.Mode.the-variants.{Count, Number, Offset, Symbol, DebugLength, Skip}
 use Rattle.program.specs.declared.reader.Mode.the-variants.{End}
 use Rattle.program.specs.declared.reader.Next.the-variants.{On, Bad}
-use Rattle.program.specs.Header.{totalOf, spaceOf, judge, heads}
+use Rattle.program.specs.Header.{totalOf, spaceOf, headFault, judge, heads}
 use Rattle.program.specs.Reader.{on, bodyOf, endOf, turn, stepOf}
 use Rattle.program.specs.Check.{refuse, endedOf, walkOf, and, checkOf}
 use Rattle.program.specs.Cursors.{HeaderFits}
@@ -37,10 +38,11 @@ use Rattle.program.specs.Begun.{PartBegun, Begun, aPart, aCount, aNumber
 use Rattle.program.specs.Begun.{debugLength, debugWord, first, nameLength, nameWord, aBody, bodyLength}
 use Rattle.program.specs.Begun.{bodyWord, afterBody, PartWrong, Wrong}
 use Rattle.program.specs.Verdicts.{WrongWord, MoreWords, MissingWord, Says, BadLength, GoodLength, OfHeader}
-use Rattle.program.specs.Verdicts.{HeadPasses, faultAt, HeadFails, HeadWord, Headed}
+use Rattle.program.specs.Verdicts.{HeadPasses, faultAt, HeadFails, HeadWord, BothMemories, Headed}
 use Rattle.program.proofs.Coming.{HunkWord, Missing, Refuses, Because}
 use Rattle.program.proofs.Answers.{not-refused, not-failed}
-use Rattle.program.proofs.Heading.{each-passes, heads-pass}
+use Rattle.program.proofs.Spaces.{both-refused}
+use Rattle.program.proofs.Heading.{each-passes, heads-pass, space-test, both-late}
 use Rattle.program.proofs.Heads.{header-fits}
 use Rattle.program.proofs.Pages.{accepted-page, page-accepted}
 use Rattle.program.proofs.CursorsFit.{pick-on}
@@ -165,17 +167,17 @@ module _ (file : List ℕ) (f : Refusal) where
 
 -- ---- and each of these reasons gives that refusal
 
--- the five words, then the sizes
+-- the five words, then the size words
 module _ (file : List ℕ) where
   pass-five : ((j : ℕ) → j < 5 → HeadPasses file j) → heads file 0 5 ≡ Passed
   pass-five g = heads-pass file 5 0 (omega (arith, g 4 (omega arith) .0)) (λ j l q. g j q .1)
 
-  pass-sizes : Headed file → heads file 5 (totalOf file) ≡ Passed
-  pass-sizes g =
+  pass-size-words : Headed file → heads file 5 (totalOf file) ≡ Passed
+  pass-size-words g =
       heads-pass file (totalOf file) 5 (omega (arith, g (4 + totalOf file) (omega arith) .0)) (λ j l q. g j q .1)
 
   headed-fits : Headed file → HeaderFits file
-  headed-fits g = header-fits file (pass-five (λ j q. g j (omega arith))) (pass-sizes g)
+  headed-fits g = header-fits file (pass-five (λ j q. g j (omega arith))) (pass-size-words g)
 
 module _ (file : List ℕ) (f : Refusal) where
   heads-fail : (w : HeadWord file f) (n i : ℕ) → i ≤ w .word → w .word < i + n → heads file i n ≡ Failed f
@@ -246,7 +248,7 @@ module _ (file : List ℕ) (f : Refusal) where
           go false = rw (ne-eqb _ _ h)
   why-check (inr (inl c)) = whole-check (c .0) ∙ head-refuses (c .1)
   why-check (inr (inr c)) =
-      whole-check (c .0) ∙ rw (pass-five file (λ j q. c .1 j (omega arith)), pass-sizes file (c .1))
+      whole-check (c .0) ∙ rw (pass-five file (λ j q. c .1 j (omega arith)), pass-size-words file (c .1))
       (walk-refuses (c .0) (headed-fits file (c .1)) (c .2))
 
 -- ---- which word is not taken, by what the reader expects: both ways
@@ -507,3 +509,96 @@ module _ (file : List ℕ) where
 
   pub said-once : (f g : Refusal) → Says file f → Says file g → f ≡ g
   said-once f g a b = refused-same g f (sym (refused-exactly file g .1 b) ∙ refused-exactly file f .1 a)
+
+-- ---- 43 in bits
+
+-- the reader of the hunks does not give it
+hunks-not-both : (t : ℕ) (space : ℕ → Space) (c : Cursor) (w v : ℕ) (m : Mode) → Refuses t space c w v m
+    → v ≡ fault.bothMemories → ⊥
+hunks-not-both t space c w v Begin r e = omega (arith, r .0)
+hunks-not-both t space c w v Body r e = omega (arith, r .0)
+hunks-not-both t space c w v (Length k) r e = omega (arith, r .0)
+hunks-not-both t space c w v Part r e = omega (arith, r .0)
+hunks-not-both t space c w v (Number n) r e = omega (arith, r .0)
+hunks-not-both t space c w v (Offset n k) r e = omega (arith, r .0)
+hunks-not-both t space c w v Symbol r e = omega (arith, r .0)
+hunks-not-both t space c w v End r e = omega arith
+hunks-not-both t space c w v NameLength r e = r
+hunks-not-both t space c w v (Stored i) r e = r
+hunks-not-both t space c w v Count r e = r
+hunks-not-both t space c w v DebugLength r e = r
+hunks-not-both t space c w v (Skip n a) r e = r
+
+module _ (file : List ℕ) (bytes : Bytes file) (p : ℕ) where
+  both-given : BothMemories file p → checkOf file ≡ Refused (refusal fault.bothMemories p)
+  both-given b =
+      refused-exactly file (refusal fault.bothMemories p) .1
+      (inr (inl (
+        b .sound,
+        record {
+          word = 5 + b .hunk;
+          within = omega (arith, b .within);
+          before = b .before;
+          cause = inr (omega (arith, b .there, b .place), λ z. omega (arith, number), said);
+        },
+      )))
+    where
+      at : 4 * (5 + b .hunk) ≡ p
+      at = omega (arith, b .place)
+
+      number : faultAt file (5 + b .hunk) ≡ fault.bothMemories
+      number =
+          space-test (totalOf file) (wordAt file (4 * (5 + b .hunk))) (b .hunk)
+          ∙ ap (λ (q : ℕ). spaceFault (spaceIn (wordAt file q))) at
+          ∙ both-refused (wordAt file p) (wordAt-lt file p bytes) .1 (b .chip, b .fast)
+
+      said : refusal fault.bothMemories p ≡ refusal (faultAt file (5 + b .hunk)) (4 * (5 + b .hunk))
+      said = ap₂ refusal (sym number) (sym at)
+
+  number-same : {f : Refusal} → refusal fault.bothMemories p ≡ f → fault.bothMemories ≡ f .number
+  number-same e = ap (λ (f : Refusal). f .number) e
+
+  both-found : Because file (refusal fault.bothMemories p) → BothMemories file p
+  both-found (inl r) = absurd (omega (arith, number-same (r .1)))
+  both-found (inr (inl r)) = go (r .1 .cause)
+    where
+      j : ℕ
+      j = r .1 .word
+
+      go : HeadFails file j (refusal fault.bothMemories p) → BothMemories file p
+      go (inl x) = absurd (omega (arith, number-same (x .1)))
+      go (inr x) =
+          let w : ℕ = wordAt file (4 * j) in
+          let n : headFault (totalOf file) j w ≡ fault.bothMemories = sym (number-same (x .2)) in
+          let q : p ≡ 4 * j = ap (λ (f : Refusal). f .place) (x .2) in
+          let l : 5 ≤ j = both-late (totalOf file) w j n in
+          let i : j ≡ 5 + (j - 5) = omega arith in
+          let e : spaceFault (spaceIn w) ≡ fault.bothMemories =
+          sym (space-test (totalOf file) w (j - 5)) ∙ ap (λ (k : ℕ). headFault (totalOf file) k w) (sym i) ∙ n in
+          let bits =
+          both-refused (wordAt file p) (wordAt-lt file p bytes) .0
+          (ap (λ (k : ℕ). spaceFault (spaceIn (wordAt file k))) q ∙ e) in
+          record {
+            sound = r .0;
+            hunk = j - 5;
+            within = omega (arith, r .1 .within);
+            before = λ k h. r .1 .before k (omega arith);
+            place = omega arith;
+            there = omega (arith, x .0);
+            chip = bits .0;
+            fast = bits .1;
+          }
+  both-found (inr (inr r)) = go (r .2)
+    where
+      go : HunkWord file (refusal fault.bothMemories p) ⊎ Missing file (refusal fault.bothMemories p)
+          → BothMemories file p
+      go (inl x) =
+          absurd (hunks-not-both _ _ (x .cursor) (wordAt file (x .at)) (x .number) (x .cursor .mode)
+          (step-why (totalOf file) (spaceOf file) (x .cursor) (wordAt file (x .at)) (x .number) .0 (x .refuses))
+          (sym (number-same (x .said))))
+      go (inr x) = absurd (omega (arith, number-same (x .said)))
+
+  -- 43 is given at byte p if and only if the first word of the header that is missing or wrong stands there, is a
+  -- size word, and sets bits 30 and 31
+  pub both-exactly : (checkOf file ≡ Refused (refusal fault.bothMemories p)) ↔ BothMemories file p
+  both-exactly = (λ e. both-found (check-why file _ e), both-given)

@@ -39,7 +39,8 @@ numbersOf (Refused r) = refusedAs (record { hunks = 0; bytes = 0 }) r
 abbrev pub checkRefusals : List ℕ
 checkRefusals =
     fault.fileLength ∷ fault.earlyEnd ∷ fault.headerWord ∷ fault.library ∷ fault.hunkSize
-    ∷ fault.misplacedBlock ∷ fault.bodyLength ∷ fault.symbolType ∷ fault.badTarget ∷ fault.trailingWords ∷ []
+    ∷ fault.misplacedBlock ∷ fault.bodyLength ∷ fault.symbolType ∷ fault.badTarget ∷ fault.trailingWords
+    ∷ fault.bothMemories ∷ []
 
 abbrev pub refuse : ℕ → ℕ → Answer
 refuse v at = Refused (refusal v at)

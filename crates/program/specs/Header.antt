@@ -1,5 +1,5 @@
--- The header: 3F3, no library, T hunks from 0 to T - 1, and a word for the space of each; with the faults of each of
--- these words (docs/FORMAT.md, "The program file" and "Numbers").
+-- The header: 3F3, no library, T hunks from 0 to T - 1, and a size word for each; with the faults of each of these
+-- words (docs/FORMAT.md, "The program file" and "Numbers").
 use Prim.Native.Nat.{ℕ, zero, suc, _+_, _*_}
 use mathlib.Core.List.{List}
 use lib.Dec.{ltb, leb, eqb}
@@ -17,12 +17,15 @@ use Rattle.answers.specs.declared.Tested.the-variants.{Passed, Failed}
 abbrev pub totalOf : List ℕ → ℕ
 totalOf file = wordAt file 8
 
--- what it says of hunk i, and the size of that in words
+-- what the header says of hunk i: the space, its size in words, its kind of memory
 unfoldable pub spaceOf : List ℕ → ℕ → Space
 spaceOf file i = spaceIn (wordAt file (20 + 4 * i))
 
 abbrev pub sizeOf : List ℕ → ℕ → ℕ
 sizeOf file i = spaceOf file i .size
+
+abbrev pub memoryOf : List ℕ → ℕ → ℕ
+memoryOf file i = spaceOf file i .memory
 
 -- where the hunks begin
 abbrev pub startAt : List ℕ → ℕ

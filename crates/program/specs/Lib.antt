@@ -1,5 +1,5 @@
 -- What the contracts of `program` cite. To read what a program file is: Page.
--- block types and limits, by name
+-- block types, limits and kinds of memory, by name
 pub mod Types
 -- what the header says of a hunk
 pub mod Spaces

@@ -1,4 +1,5 @@
--- The words that begin the parts of a program file, and its limits, by name (docs/FORMAT.md, "The program file").
+-- The words that begin the parts of a program file, its limits, and the kinds of memory, by name (docs/FORMAT.md,
+-- "The program file").
 -- Files that use them say `type.code`.
 use Prim.Native.Nat.{ℕ}
 
@@ -37,3 +38,13 @@ mostHunks = 64
 
 abbrev pub largestHunk : ℕ
 largestHunk = 65536
+
+-- the kinds of memory that a hunk may ask for
+abbrev pub anyMemory : ℕ
+anyMemory = 0
+
+abbrev pub chipMemory : ℕ
+chipMemory = 1
+
+abbrev pub fastMemory : ℕ
+fastMemory = 2

@@ -10,7 +10,7 @@ use Rattle.answers.specs.Refusals.{refusal}
 use Rattle.answers.specs.declared.Refusal.{Refusal}
 use Rattle.program.specs.Page.{Hunk, joined, hunkWords, HunkFits}
 use Rattle.program.specs.Begun.{Begun, soFar, BegunFits, Wrong}
-use Rattle.program.specs.Spaces.{Space}
+use Rattle.program.specs.Spaces.{Space, bit}
 use Rattle.program.specs.Header.{totalOf, spaceOf, sizeOf, startAt, headFault}
 
 -- ---- 30: a length of 0, or one that is no multiple of 4
@@ -21,9 +21,9 @@ BadLength file = (length file ≡ 0) ⊎ (length file % 4 ≢ 0)
 abbrev pub GoodLength : List ℕ → Type 0
 GoodLength file = (length file ≢ 0) × (length file % 4 ≡ 0)
 
--- ---- 31 to 34 in the header: word j is the first that is missing or wrong
+-- ---- 31 to 34, and 43, in the header: word j is the first that is missing or wrong
 
--- one of the five words, or the space of one of the hunks
+-- one of the five words, or the size word of one of the hunks
 abbrev pub OfHeader : List ℕ → ℕ → Type 0
 OfHeader file j = j < 5 + totalOf file
 
@@ -46,6 +46,18 @@ pub record HeadWord (file : List ℕ) (f : Refusal) : Type 0 where
   pub within : OfHeader file word
   pub before : (i : ℕ) → i < word → HeadPasses file i
   pub cause : HeadFails file word f
+
+-- 43 in bits: the first word of the header that is missing or wrong is the size word of a hunk, at byte p, and asks
+-- for chip and for fast memory
+pub record BothMemories (file : List ℕ) (p : ℕ) : Type 0 where
+  pub sound : GoodLength file
+  pub hunk : ℕ
+  pub within : hunk < totalOf file
+  pub before : (i : ℕ) → i < 5 + hunk → HeadPasses file i
+  pub place : p ≡ 20 + 4 * hunk
+  pub there : p + 4 ≤ length file
+  pub chip : bit 30 (wordAt file p) ≡ 1
+  pub fast : bit 31 (wordAt file p) ≡ 1
 
 -- no word of the header is missing or wrong
 abbrev pub Headed : List ℕ → Type 0

@@ -1,4 +1,4 @@
-// A program file's header: five words, and a word for the space of each hunk.
+// A program file's header: five words, and a size word for each hunk.
 use answers::Fault;
 use answers::Refusal;
 use answers::Tested;
@@ -6,16 +6,24 @@ ghost use mathlib.Core.Path.{_≡_};
 ghost use Prim.Native.Nat.{_+_, _*_, _≤_};
 ghost use lib.ListN.{length};
 ghost use Rattle.program.specs.Spaces.{spaceIn, spaceFault};
-ghost use Rattle.program.specs.Header.{totalOf, sizeOf, headFault, heads};
+ghost use Rattle.program.specs.Header.{totalOf, spaceOf, sizeOf, memoryOf, headFault, heads};
 
 const HEADER: u32 = 0x3F3;
 
-// The words before the sizes.
+// The words before the size words.
 pub const WORDS: usize = 5;
 
 const MOST_HUNKS: u32 = 64;
 
 const LARGEST: u32 = 65536;
+
+// In a size word, the size is below this bit; this one asks for chip memory, and the next for fast memory.
+const CHIP_BIT: u32 = 0x40000000;
+
+// Kinds of memory; 0 is any.
+pub const CHIP: u32 = 1;
+
+pub const FAST: u32 = 2;
 
 // The number of hunks.
 pub fn total(file: &[u8]) -> u32
@@ -25,19 +33,42 @@ pub fn total(file: &[u8]) -> u32
     words::word(file, 8)
 }
 
+// The size word of a hunk.
+fn size_word(file: &[u8], i: u32) -> u32
+    requires { ⌜ 24 + 4 * i ≤ length (now file) ⌝ }
+    ensures { λ r. ⌜ spaceIn r ≡ spaceOf (now (file .entry)) i ⌝ }
+{
+    words::word(file, 4 * WORDS + 4 * i as usize)
+}
+
 // The size of a hunk in words.
 pub fn size(file: &[u8], i: u32) -> u32
     requires { ⌜ 24 + 4 * i ≤ length (now file) ⌝ }
     ensures { λ r. ⌜ r ≡ sizeOf (now (file .entry)) i ⌝ }
 {
-    words::word(file, 4 * WORDS + 4 * i as usize)
+    size_word(file, i) % CHIP_BIT
 }
 
-// The fault of a hunk's space, or 0.
+// The kind of memory that a hunk asks for.
+pub fn memory(file: &[u8], i: u32) -> u32
+    requires { ⌜ 24 + 4 * i ≤ length (now file) ⌝ }
+    ensures { λ r. ⌜ r ≡ memoryOf (now (file .entry)) i ⌝ }
+{
+    size_word(file, i) / CHIP_BIT
+}
+
+// The fault of a size word, or 0.
 fn space_fault(w: u32) -> u32
     ensures { λ r. ⌜ r ≡ spaceFault (spaceIn w) ⌝ }
 {
-    if w <= LARGEST { 0 } else { Fault::HUNK_SIZE }
+    if FAST < w / CHIP_BIT {
+        return Fault::BOTH_MEMORIES;
+    }
+    if w % CHIP_BIT <= LARGEST {
+        0
+    } else {
+        Fault::HUNK_SIZE
+    }
 }
 
 // The header's word i: its fault, or 0.

@@ -44,6 +44,13 @@ pub const DATA: u32 = 0x3EA;
 /// `kind` of [`Hunk`] for bss.
 pub const BSS: u32 = 0x3EB;
 
+/// `memory` of [`Hunk`] if it asks for none in particular.
+pub const ANY_MEMORY: u32 = 0;
+/// `memory` of [`Hunk`] if it asks for chip memory.
+pub const CHIP_MEMORY: u32 = 1;
+/// `memory` of [`Hunk`] if it asks for fast memory.
+pub const FAST_MEMORY: u32 = 2;
+
 /// The numbers of refusals. In brackets the place: the key of a block, or a key just as it was read; a component of
 /// the path, counted from 0; the byte of a word of the program file; an entry of the bases, counted from 0.
 pub mod fault {
@@ -113,6 +120,8 @@ pub mod fault {
     pub const SHORT_ROOM: u32 = 41;
     /// `[byte]` an offset is less than 4 bytes from an earlier one of its hunk.
     pub const NEAR_TARGETS: u32 = 42;
+    /// `[byte]` a hunk asks for chip and fast memory at once.
+    pub const BOTH_MEMORIES: u32 = 43;
 }
 
 // The fields' comments are of the form that compare/tests/archive.rs leaves out when it reads these structs.
@@ -181,6 +190,8 @@ pub struct Hunk {
     pub size: u32,
     /** The address that it was loaded for. */
     pub base: u32,
+    /** What it asks for, [`ANY_MEMORY`], [`CHIP_MEMORY`] or [`FAST_MEMORY`]; nothing else depends on it. */
+    pub memory: u32,
 }
 
 /// The answer of [`check`], [`load`] and [`move_program`].

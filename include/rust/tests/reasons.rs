@@ -5,7 +5,7 @@ use jufferdeeg::{fault, reason, reason_into, REASON_BYTES};
 fn every_refusal_has_a_sentence() {
     for number in 0..100 {
         let has = (fault::IMAGE_LENGTH..=fault::WRONG_KIND).contains(&number)
-            || (fault::FILE_LENGTH..=fault::NEAR_TARGETS).contains(&number);
+            || (fault::FILE_LENGTH..=fault::BOTH_MEMORIES).contains(&number);
         let sentence = reason(number);
         assert_eq!(!sentence.is_empty(), has, "{number}");
         assert!(sentence.len() <= REASON_BYTES, "{number}");

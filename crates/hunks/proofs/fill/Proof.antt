@@ -74,7 +74,11 @@ use Rattle.hunks.proofs.fill.Code.Mir as mirs
 abbrev stayed : Stays (f.ended .signature .params) (f.ended .kept)
 stayed = (stay-slice (0 ∷ []) tt (plain (λ _. T.the-row)), (stay-none (λ _. L.the-row) yes, tt))
 
-near : (i n : ℕ) → i < n → n * 16 < 2 ^ 63 → i * 16 < 2 ^ 64
+-- the bytes of a record as C lays it out
+abbrev recordBytes : ℕ
+recordBytes = 20
+
+near : (i n : ℕ) → i < n → n * recordBytes < 2 ^ 63 → i * recordBytes < 2 ^ 64
 near i n l r = omega arith
 
 -- a test goes one way or the other
@@ -83,7 +87,7 @@ by-test true g h = g refl
 by-test false g h = h refl
 
 abbrev none : Hunk
-none = record { kind = 0; place = 0; size = 0; base = 0 }
+none = record { kind = 0; place = 0; size = 0; base = 0; memory = 0 }
 
 abbrev word : Ty
 word = tyInt w64
@@ -206,7 +210,7 @@ module _ {M : Type 1} (𝓤 : URA M) (H : Heap 𝓤) (A : Atoms 𝓤) (W : Given
         let inside : i .0 < length ys = omega (arith, pre .0) in
         let upto : i .0 ≤ length ys = omega arith in
         let within : i .0 < length (zs (i .0)) = omega (arith, length-filled (l .numbers) (i .0) ys upto) in
-        let byte : i .0 * 16 < 2 ^ 64 = near (i .0) (length ys) inside (room .1) in
+        let byte : i .0 * recordBytes < 2 ^ 64 = near (i .0) (length ys) inside (room .1) in
         let fits : i .0 + 1 < 2 ^ 64 = omega arith in
         assigns ! (bin ! (load ! (from ! (stop !)) (look ! 8 refl))
         (load ! (from ! (fld ! refl (stop !))) (look-in ! 10 (sub ! 1 refl (whole !)))) tt) (from ! (stop !))
@@ -231,7 +235,7 @@ module _ {M : Type 1} (𝓤 : URA M) (H : Heap 𝓤) (A : Atoms 𝓤) (W : Given
         (from ! (stop !)) (init ! 3 refl (tt, record { fits = byte })) $
         assigns ! (bin ! (load ! (from ! (fld ! refl (stop !))) (look-in ! 13 (sub ! 0 refl (whole !))))
         (load ! (from ! (stop !)) (look ! 3 refl)) tt) (from ! (stop !)) (init ! 1 refl (tt, tt)) $
-        rewrite ! 1 (λ (m : ℕ). ‵ (fat fullShare tyPtr l₇ 0 (vptr b m))) (sym (place-is 16 o (i .0))) refl $
+        rewrite ! 1 (λ (m : ℕ). ‵ (fat fullShare tyPtr l₇ 0 (vptr b m))) (sym (place-is recordBytes o (i .0))) refl $
         move ! (17 ∷ []) $ elem-out ! T.the-row (Is T.the-row) (shows 𝓤 H A T.the-row)
         (LL.vals T.the-type T′.the-laws) (LL.tells T.the-type T′.the-laws) fullShare (zs (i .0)) (i .0) none b o
         within (λ _.

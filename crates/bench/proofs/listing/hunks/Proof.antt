@@ -50,6 +50,15 @@ mul-hunk-4 c = search needs
 shared-slice-read-hunk-4 : tie.Need-shared-slice-read-hunk-4 Inv-loop μ-loop
 shared-slice-read-hunk-4 c = search needs
 
+add-hunk-4 : tie.Need-add-hunk-4 Inv-loop μ-loop
+add-hunk-4 c = search needs
+
+mul-hunk-5 : tie.Need-mul-hunk-5 Inv-loop μ-loop
+mul-hunk-5 c = search needs
+
+shared-slice-read-hunk-5 : tie.Need-shared-slice-read-hunk-5 Inv-loop μ-loop
+shared-slice-read-hunk-5 c = search needs
+
 hunk-requires : tie.Need-hunk-requires Inv-loop μ-loop
 hunk-requires c κs = search needs
 
@@ -84,6 +93,9 @@ hunks-spec =
     add-hunk-3
     mul-hunk-4
     shared-slice-read-hunk-4
+    add-hunk-4
+    mul-hunk-5
+    shared-slice-read-hunk-5
     hunk-requires
     add-i
     loop-less

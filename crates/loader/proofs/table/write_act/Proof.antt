@@ -1,5 +1,5 @@
 -- `loader::table::write_act` meets its contract. Assumes nothing.
-use Rattle.loader.proofs.Acts.{place-fits, size-there, base-there, record-there, record-done, record-rest}
+use Rattle.loader.proofs.Acts.{place-fits, space-there, base-there, record-there, record-done, record-rest}
 use borrow.Author.Needs.{needs}
 use Rattle.loader.proofs.table.write_act.Statement.{statement}
 use Rattle.loader.proofs.table.write_act.Tie as tie
@@ -14,13 +14,16 @@ cast-t10 : tie.Need-cast-t10
 cast-t10 c = search place-fits
 
 size-requires : tie.Need-size-requires
-size-requires c κs = search size-there
+size-requires c κs = search space-there
 
 mul-t12 : tie.Need-mul-t12
 mul-t12 c = search needs
 
 shared-slice-read-t14 : tie.Need-shared-slice-read-t14
 shared-slice-read-t14 c = search base-there
+
+memory-requires : tie.Need-memory-requires
+memory-requires c κs = search space-there
 
 slice-aggregate-put-numbers : tie.Need-slice-aggregate-put-numbers
 slice-aggregate-put-numbers c = search needs
@@ -50,6 +53,7 @@ write-act-spec =
     size-requires
     mul-t12
     shared-slice-read-t14
+    memory-requires
     slice-aggregate-put-numbers
     mul-put-numbers
     put-numbers-requires
