@@ -5,6 +5,7 @@ use mathlib.Core.List.{List, [], _∷_, _++_}
 use mathlib.Core.Bool.{Bool, true, false}
 use native.Mathlib.Omega.{arith}
 use lib.ListN.{length, getD, replicate, take, drop}
+use lib.Seq.{length-take-le}
 use lib.Dec.{ltb, eqb}
 use borrow.Author.Tests.{ltb-false, eqb-true}
 use Rattle.answers.specs.Numbers as fault
@@ -32,11 +33,12 @@ use Rattle.program.proofs.Heads.{header-fits}
 use Rattle.program.proofs.CursorsFit.{step-fits, start-fits}
 use Rattle.loader.specs.declared.calls.Outcome.{Outcome}
 use Rattle.loader.specs.Memory.{loadedOf}
-use Rattle.loader.specs.Table.{recordLength}
+use Rattle.loader.specs.Table.{recordLength, withNumbers}
 use Rattle.loader.specs.Bases.{basesFrom, basesFault}
 use Rattle.loader.specs.Near.{clashOf}
 use Rattle.loader.specs.Calls.{roomFault, also, lastTests, loadAnswer, moveAnswer}
 use Rattle.loader.specs.Parts.{Fills, filledBy, filled, AcceptedFile}
+use Rattle.loader.proofs.Copies.{over-front}
 
 same-numbers : (a b t n : ℕ) → Accepted a b ≡ Accepted t n → (a ≡ t) × (b ≡ n)
 same-numbers a b t n h = ((cc), (cc))
@@ -288,9 +290,16 @@ module _ (o : Outcome) (room t n : ℕ) (p : Fills o room) (e : o .answer ≡ Ac
   pub fill-from : recordLength * t ≤ length (o .records)
   fill-from = omega (arith, fills .0, p .whole)
 
-  pub fill-to : recordLength * t ≤ room
-  fill-to = fills .1
+  pub fill-cut : recordLength * t ≡ length (take (recordLength * t) (o .records))
+  fill-cut = sym (length-take-le (recordLength * t) (o .records) fill-from)
 
-pub fill-done : (o : Outcome) (table r : List ℕ) (t n : ℕ) → o .answer ≡ Accepted t n
-    → r ≡ take (recordLength * t) (o .records) ++ drop (recordLength * t) table → r ≡ filled o table
-fill-done o table r t n e h = h ∙ sym (ap (λ a. filledBy a (o .records) table) e)
+  pub fill-to : 0 + length (take (recordLength * t) (o .records)) ≤ room
+  fill-to = omega (arith, fill-cut, fills .1)
+
+pub fill-done : (o : Outcome) (table r : List ℕ) (t n : ℕ) → Fills o (length table) → o .answer ≡ Accepted t n
+    → r ≡ withNumbers table 0 (take (recordLength * t) (o .records)) → r ≡ filled o table
+fill-done o table r t n p e h =
+    let k : ℕ = recordLength * t in
+    h ∙ over-front table (take k (o .records)) (omega (arith, fill-to o (length table) t n p e))
+    ∙ ap (λ (j : ℕ). take k (o .records) ++ drop j table) (sym (fill-cut o (length table) t n p e))
+    ∙ sym (ap (λ a. filledBy a (o .records) table) e)

@@ -1,28 +1,15 @@
 -- Loops that write numbers one after the other. Assumes nothing.
-use Prim.Native.Nat.{ℕ, suc, _+_, _%_, _^_, _<_, _≤_}
+use Prim.Native.Nat.{ℕ, _+_, _%_, _^_, _<_, _≤_}
 use mathlib.Core.Path.{_≡_, refl, sym, ap, _∙_}
 use mathlib.Core.Logic.{_≢_}
 use mathlib.Core.List.{List, [], _∷_, _++_, append-assoc}
 use native.Mathlib.Omega.{arith}
 use native.Mathlib.Decide.{decLt}
 use native.Mathlib.Numerals.{add-one}
-use lib.ListN.{length, length-set, getD, take, drop, set}
-use lib.Seq.{length-take-le, take-suc, take-all, drop-cons, set-at, getD-set-same, getD-set-other}
+use lib.ListN.{length, length-set, length-append, take-append-drop, getD, take, drop, set}
+use lib.Seq.{length-take-le, take-suc, take-all, set-at, getD-set-same, getD-set-other}
 use Rattle.loader.specs.Memory.{amountOf, moved}
 use Rattle.loader.specs.Table.{withNumbers}
-
--- the first i numbers of s are copied over those of d; then one more
-pub copy-more : (s d : List ℕ) (i : ℕ) → i < length s → i < length d
-    → set (take i s ++ drop i d) i (getD s i 0) ≡ take (i + 1) s ++ drop (i + 1) d
-copy-more s d i h k =
-    rw (
-      add-one,
-      drop-cons d i 0 k,
-      set-at (take i s) (getD d i 0) (drop (suc i) d) (getD s i 0) i
-          (length-take-le i s (omega arith)),
-      take-suc s i 0 h,
-    )
-    (sym (append-assoc (take i s) (getD s i 0 ∷ []) (drop (suc i) d)))
 
 -- ---- numbers put in place of others
 
@@ -37,6 +24,26 @@ numbers-snoc : (t : List ℕ) (n : ℕ) (xs : List ℕ) (x m : ℕ) → n + leng
 unfolding withNumbers
 numbers-snoc t n [] x m e = let z : m ≡ n = omega arith in ap (λ (k : ℕ). set t k x) z
 numbers-snoc t n (y ∷ xs) x m e = numbers-snoc (set t n y) (n + 1) xs x m (omega arith)
+
+-- numbers take the place of as many others
+pub over : (done olds more xs : List ℕ) (n : ℕ) → length olds ≡ length xs → length done ≡ n
+    → withNumbers (done ++ (olds ++ more)) n xs ≡ done ++ (xs ++ more)
+unfolding withNumbers
+over done [] more [] n l e = refl
+over done [] more (x ∷ xs) n l e = absurd (omega arith)
+over done (o ∷ olds) more [] n l e = absurd (omega arith)
+over done (o ∷ olds) more (x ∷ xs) n l e =
+    ap (λ (u : List ℕ). withNumbers u (n + 1) xs)
+    (set-at done o (olds ++ more) x n e ∙ sym (append-assoc done (x ∷ []) (olds ++ more)))
+    ∙ over (done ++ (x ∷ [])) olds more xs (n + 1) (omega arith) (omega (arith, length-append done (x ∷ [])))
+    ∙ append-assoc done (x ∷ []) (xs ++ more)
+
+-- at the front
+pub over-front : (t xs : List ℕ) → length xs ≤ length t → withNumbers t 0 xs ≡ xs ++ drop (length xs) t
+over-front t xs l =
+    let n : ℕ = length xs in
+    ap (λ (u : List ℕ). withNumbers u 0 xs) (sym (take-append-drop n t))
+    ∙ over [] (take n t) (drop n t) xs 0 (length-take-le n t l) refl
 
 -- the first i numbers of s are put there
 pub record Puts (s t₀ : List ℕ) (n : ℕ) (t : List ℕ) (i : ℕ) : Type 0 where

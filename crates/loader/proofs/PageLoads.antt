@@ -5,8 +5,8 @@ use mathlib.Core.Path.{_≡_, refl, sym, ap, _∙_}
 use mathlib.Core.List.{List, [], _∷_, _++_, map, append-assoc, map-append}
 use native.Mathlib.Omega.{arith}
 use lib.ListN.{length, take, drop, replicate, length-append, length-replicate, replicate-append-replicate}
-use lib.Seq.{take-at, set-at}
-use Rattle.words.specs.Word.{wordsAt, setWord, addAt}
+use lib.Seq.{take-at}
+use Rattle.words.specs.Word.{wordsAt, setWord}
 use Rattle.words.specs.Shift.{Target, shiftAll}
 use Rattle.program.specs.declared.act.Act.{Act}
 use Rattle.program.specs.declared.act.Act.the-variants.{Quiet, Body, Store, Add}
@@ -26,6 +26,7 @@ use Rattle.loader.specs.Table.{recordOf, recordLength, withNumbers, reco
 use Rattle.loader.specs.Table.{recordsOf}
 use Rattle.loader.specs.Pages.{PageTarget, kindOf, recordNumbers, wordBytes, hunkBytes, imageOf, hunkAt}
 use Rattle.loader.specs.Pages.{hunksAt, fileTargets, bare, relocated}
+use Rattle.loader.proofs.Copies.{over}
 use Rattle.loader.proofs.PageActs.{plain, storing, adding, pageActs, page-acts}
 
 -- ---- passes
@@ -56,20 +57,7 @@ module _ {X : Type 0} (g : X → Act → X) where
 
 -- ---- numbers in a row
 
--- numbers take the place of as many others
-over : (done olds more xs : List ℕ) (n : ℕ) → length olds ≡ length xs → length done ≡ n
-    → withNumbers (done ++ (olds ++ more)) n xs ≡ done ++ (xs ++ more)
-unfolding withNumbers
-over done [] more [] n l e = refl
-over done [] more (x ∷ xs) n l e = absurd (omega arith)
-over done (o ∷ olds) more [] n l e = absurd (omega arith)
-over done (o ∷ olds) more (x ∷ xs) n l e =
-    ap (λ (u : List ℕ). withNumbers u (n + 1) xs)
-    (set-at done o (olds ++ more) x n e ∙ sym (append-assoc done (x ∷ []) (olds ++ more)))
-    ∙ over (done ++ (x ∷ [])) olds more xs (n + 1) (omega arith) (omega (arith, length-append done (x ∷ [])))
-    ∙ append-assoc done (x ∷ []) (xs ++ more)
-
--- a word is such numbers: its four bytes
+-- a stored word is four numbers put there: its bytes
 word-over : (m : List ℕ) (p w : ℕ) → setWord m p w ≡ withNumbers m p (wordBytes w)
 unfolding setWord withNumbers
 word-over m p w =
@@ -85,8 +73,7 @@ zeros-two a b n more e =
 zeros-three : (a b c n : ℕ) (more : List ℕ) → n ≡ a + (b + c)
     → replicate n 0 ++ more ≡ replicate a 0 ++ (replicate b 0 ++ (replicate c 0 ++ more))
 zeros-three a b c n more e =
-    rw (e, ← replicate-append-replicate {A = ℕ} a (b + c) 0, ← replicate-append-replicate {A = ℕ} b c 0)
-    (simp append-assoc)
+    zeros-two a (b + c) n more e ∙ ap (λ (l : List ℕ). replicate a 0 ++ l) (zeros-two b c (b + c) more refl)
 
 -- ---- records
 

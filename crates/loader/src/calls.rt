@@ -5,6 +5,7 @@ use crate::memory::add_all;
 use crate::memory::store_all;
 use crate::table::RECORD_LENGTH;
 use crate::table::TABLE_ROOM;
+use crate::table::put_numbers;
 use crate::table::write_all;
 use answers::Fault;
 use answers::Refusal;
@@ -15,9 +16,8 @@ use program::header::total;
 use words::clear;
 use words::wipe;
 ghost use mathlib.Core.Path.{_≡_};
-ghost use mathlib.Core.List.{_++_};
 ghost use Prim.Native.Nat.{ℕ, _<_, _≤_};
-ghost use lib.ListN.{length, getD, take, drop};
+ghost use lib.ListN.{length, getD};
 ghost use Rattle.answers.specs.Refusals.{refusal};
 ghost use Rattle.program.specs.Acts.{actsOf};
 ghost use Rattle.loader.specs.Memory.{loadedOf, loadOf, moveOf, moved, amountOf};
@@ -127,18 +127,6 @@ fn differences(old: &[u32], new: &[u32], amounts: &mut [u32])
     let mut i: usize = 0;
     while i < new.len() {
         amounts[i] = std::num::wrapping_sub_u32(new[i], old[i]);
-        i += 1;
-    }
-}
-
-// Copies the first n numbers.
-fn copy_numbers(from: &[u32], n: usize, to: &mut [u32])
-    requires { ⌜ (n ≤ length (now from)) × (n ≤ length (now to)) ⌝ }
-    ensures { λ _. ⌜ now (to .exit) ≡ take n (now (from .entry)) ++ drop n (now (to .entry)) ⌝ }
-{
-    let mut i: usize = 0;
-    while i < n {
-        to[i] = from[i];
         i += 1;
     }
 }
@@ -259,7 +247,8 @@ fn fill(o: Outcome, table: &mut [u32])
     let a = o.answer;
     let numbers = o.records;
     if let Answer::Accepted(t, _) = a {
-        copy_numbers(&numbers, RECORD_LENGTH * t as usize, table);
+        let n = RECORD_LENGTH * t as usize;
+        put_numbers(&numbers[..n], table, 0);
     }
 }
 

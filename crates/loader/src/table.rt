@@ -25,7 +25,7 @@ pub const RECORD_LENGTH: usize = 5;
 pub const TABLE_ROOM: usize = 64 * RECORD_LENGTH;
 
 // Puts numbers in place of those of the table from `at` on.
-fn put_numbers(numbers: &[u32], table: &mut [u32], at: usize)
+pub(crate) fn put_numbers(numbers: &[u32], table: &mut [u32], at: usize)
     requires { ⌜ at + length (now numbers) ≤ length (now table) ⌝ }
     ensures { λ _. ⌜ now (table .exit) ≡ withNumbers (now (table .entry)) at (now (numbers .entry)) ⌝ }
 {

@@ -1,5 +1,5 @@
 -- `loader::calls::fill` meets its contract. Assumes nothing.
-use Rattle.loader.proofs.Answering.{fill-from, fill-to, fill-done}
+use Rattle.loader.proofs.Answering.{fill-from, fill-cut, fill-to, fill-done}
 use borrow.Author.Needs.{needs}
 use Rattle.loader.proofs.calls.fill.Statement.{statement}
 use Rattle.loader.proofs.calls.fill.Tie as tie
@@ -7,17 +7,20 @@ use Rattle.loader.proofs.calls.fill.Tie as tie
 enum-known-a : tie.Need-enum-known-a
 enum-known-a c = search needs
 
-slice-aggregate-copy-numbers : tie.Need-slice-aggregate-copy-numbers
-slice-aggregate-copy-numbers c = search needs
+cast-n : tie.Need-cast-n
+cast-n c = search needs
 
-cast-copy-numbers : tie.Need-cast-copy-numbers
-cast-copy-numbers c = search needs
+mul-n : tie.Need-mul-n
+mul-n c = search needs
 
-mul-copy-numbers : tie.Need-mul-copy-numbers
-mul-copy-numbers c = search needs
+array-share-prefix-numbers : tie.Need-array-share-prefix-numbers
+array-share-prefix-numbers c = search fill-from
 
-copy-numbers-requires : tie.Need-copy-numbers-requires
-copy-numbers-requires c κs = (search fill-from, search fill-to)
+slice-aggregate-put-numbers : tie.Need-slice-aggregate-put-numbers
+slice-aggregate-put-numbers c = search fill-cut
+
+put-numbers-requires : tie.Need-put-numbers-requires
+put-numbers-requires c κs = search fill-to
 
 enum-told : tie.Need-enum-told
 enum-told c = search needs
@@ -36,10 +39,11 @@ fill-spec =
     tie.close
     (tie.spec
     enum-known-a
-    slice-aggregate-copy-numbers
-    cast-copy-numbers
-    mul-copy-numbers
-    copy-numbers-requires
+    cast-n
+    mul-n
+    array-share-prefix-numbers
+    slice-aggregate-put-numbers
+    put-numbers-requires
     enum-told
     same-length
     returns
