@@ -6,8 +6,8 @@ use mathlib.Core.Bool.{Bool, true, false}
 use mathlib.Core.List.{List, [], _∷_}
 use lib.Dec.{T}
 use Rattle.answers.specs.Tests.{pick, must, never, first, tests}
-use Rattle.answers.specs.Members.{_∈_}
-use Rattle.answers.proofs.Members.{has, part, listed, in-part}
+use Rattle.answers.specs.Members.{_∈_, has}
+use Rattle.answers.proofs.Members.{part, listed, in-part}
 
 pub record Given (ns : List ℕ) (v : ℕ) : Type 0 where
   pub member : v ≢ 0 → v ∈ ns

@@ -6,12 +6,7 @@ use mathlib.Core.Logic.{inl, inr}
 use mathlib.Core.Bool.{Bool, true, false, not, _&&_, _||_}
 use mathlib.Core.List.{List, [], _∷_}
 use lib.Dec.{T, T-not, eqb, eqb-refl, eqb→eq}
-use Rattle.answers.specs.Members.{_∈_}
-
--- whether v is one of ns
-abbrev pub has : List ℕ → ℕ → Bool
-has [] v = false
-has (x ∷ ns) v = eqb v x || has ns v
+use Rattle.answers.specs.Members.{_∈_, has}
 
 -- whether each of ms is
 abbrev pub part : List ℕ → List ℕ → Bool
@@ -34,7 +29,7 @@ listed (x ∷ ns) v h = go (eqb v x) refl h (listed ns v)
     go true e h more = inl (eqb→eq v x (rw e tt))
     go false e h more = inr (more h)
 
-found : (ns : List ℕ) (v : ℕ) → v ∈ ns → T (has ns v)
+pub found : (ns : List ℕ) (v : ℕ) → v ∈ ns → T (has ns v)
 found [] v h = h
 found (x ∷ ns) v (inl e) = or-left (eqb v x) (has ns v) (rw e (eqb-refl x))
 found (x ∷ ns) v (inr h) = or-right (eqb v x) (has ns v) (found ns v h)

@@ -5,7 +5,5 @@
 pub mod Volumes
 -- check, load and move
 pub mod Programs
--- numbers of a constant of code
-pub mod Constants
 -- the sentence of a refusal
 pub mod Reasons

@@ -1,9 +1,9 @@
 -- The sentence of a refusal's number as C meets it: a line of the constant `SENTENCES` of `answers::sentences`.
 use Prim.Native.Nat.{ℕ}
 use mathlib.Core.List.{List}
+use Rattle.answers.specs.Constants.{stored}
 use Rattle.answers.specs.Lines.{lineOf, PutsLine}
 use Rattle.answers.proofs.sentences.bytes.⟦let·text·SENTENCES·text·len⟧-asked.Mir.{t-1}
-use Rattle.jufferdeeg.specs.Constants.{stored}
 
 -- the bytes of the constant
 unfoldable pub sentences : List ℕ

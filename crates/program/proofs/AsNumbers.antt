@@ -9,11 +9,11 @@ use lib.Dec.{T}
 use Rattle.answers.specs.Numbers as fault
 use Rattle.words.specs.Word.{wordAt}
 use Rattle.answers.specs.Tests.{pick}
-use Rattle.answers.specs.Members.{_∈_}
+use Rattle.answers.specs.Members.{_∈_, has}
 use Rattle.answers.specs.declared.Refusal.{Refusal}
 use Rattle.answers.specs.declared.Tested.{Tested}
 use Rattle.answers.specs.declared.Tested.the-variants.{Passed, Failed}
-use Rattle.answers.proofs.Members.{has, listed, unlisted}
+use Rattle.answers.proofs.Members.{listed, unlisted}
 use Rattle.answers.proofs.Given.{Given, given}
 use Rattle.answers.proofs.Clashes.{impossible}
 use Rattle.program.specs.Spaces.{Space}

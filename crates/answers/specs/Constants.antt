@@ -1,17 +1,19 @@
--- The numbers of an array that is a constant of code. A definition cannot name the constant. It can name the code of
--- an expression in a contract of a crate below, as that is lowered (MIR): the statement that stores the constant there.
-use Prim.Native.Nat.{ℕ}
+-- The numbers of an array that is a constant of code. A definition cannot name the constant. It can name the lowered
+-- code (MIR) of an expression in a contract of a crate below, and a proof that of its function: the statement that
+-- stores the constant there.
+use Prim.Native.Nat.{ℕ, _-_, _^_}
 use mathlib.Core.List.{List, [], _∷_}
+use mir.Val.{bits}
 use mir.Syntax.{Opd, copy, int, intNeg, intBig, float, opdTrue, opdFalse, opdUnit, ptrConst}
 use mir.Syntax.{Rv, rvOpd, op2, op1, addrOf, aggregate, repeat}
 use mir.Syntax.{Body, skip, seq, assign, block, loop, cond, switch, exit, return, call}
 
--- a number as it is written; 0 for what is none
+-- a number as it is written; 0 for what is none. The upper half of a width is written from its end downward.
 abbrev number : Opd → ℕ
 number (int w n) = n
+number (intBig w n) = n
+number (intNeg w n) = 2 ^ bits w - n
 number (copy p) = 0
-number (intNeg w n) = 0
-number (intBig w n) = 0
 number (float f n) = 0
 number opdTrue = 0
 number opdFalse = 0
