@@ -1,5 +1,5 @@
--- What an accepted audit says: `accepted-exactly`, `accepted-claims`, `accepted-report`; and `audit-determined`.
--- Assumes nothing.
+-- What an accepted audit says: `accepted-exactly`, and `accepted-volume` of either kind; `accepted-claims`,
+-- `accepted-report`; and `audit-determined`. Assumes nothing.
 use Prim.Native.Nat.{ℕ, zero, suc, _+_, _-_, _≤_, _<_}
 use mathlib.Core.Path.{_≡_, refl, sym, ap, _∙_, subst}
 use mathlib.Core.Logic.{_⊎_, _↔_, inl, inr}
@@ -12,9 +12,10 @@ use Rattle.answers.specs.declared.Refusal.{Refusal}
 use Rattle.reach.specs.References.{top}
 use Rattle.reach.specs.Walk.{Outcome, done, free, Accepted as Through}
 use Rattle.volume.specs.declared.disk.Disk.{Disk}
-use Rattle.volume.specs.Disks.{firstKey, bitSpan, claimBytes, rootOf}
+use Rattle.volume.specs.Disks.{firstKey, bitSpan, claimBytes, rootOf, diskOf}
 use Rattle.volume.specs.References.{to, root}
-use Rattle.volume.specs.Law.{bitmapKeyOf, Used, Volume}
+use Rattle.volume.specs.Law.{bitmapKeyOf, Used, Volume, IsVolume}
+use Rattle.volume.proofs.Tags.{volume-of-kind}
 use Rattle.walk.specs.declared.Counts.{Counts}
 use Rattle.walk.specs.Nodes.{keyOf, walkOf}
 use Rattle.walk.specs.Reports.{Walked}
@@ -166,3 +167,11 @@ module _ (d : Disk) (s : List ℕ) where
               free = x .1;
               whole = omega (arith, w .total, w .used, x .1, free-blocks c m e f b);
             }
+
+-- An audit accepts if and only if the image is a volume of the kind that its boot tag names.
+pub accepted-volume : (s : List ℕ) (n : ℕ) → claimBytes (diskOf s) ≤ n
+    → ((r : Report) × (auditOf (diskOf s) s n ≡ Accepted r)) ↔ IsVolume s
+accepted-volume s n l =
+    let a = accepted-exactly (diskOf s) s n l in
+    let v = volume-of-kind s in
+    (λ e. v .0 (a .0 e), λ w. a .1 (v .1 w))

@@ -18,7 +18,7 @@ use Rattle.reach.specs.Walk.{done, refused, audit, free, Accepted as Through}
 use Rattle.reach.proofs.Claims.{free-all}
 use Rattle.reach.proofs.Runs.{run-end}
 use Rattle.volume.specs.declared.disk.Disk.{Disk}
-use Rattle.volume.specs.Disks.{Sized, mostBlocks, floppy, imageBytes, claimBytes, tagOf, rootOf}
+use Rattle.volume.specs.Disks.{Sized, mostBlocks, imageBytes, claimBytes, tagOf, rootOf, diskOf}
 use Rattle.volume.specs.Blocks.{slots, wordOf}
 use Rattle.walk.specs.declared.Counts.{Counts}
 use Rattle.walk.specs.Nodes.{Node, root, bitmap, leadsTo, noted, slotNodes, nothing, graph, walkOf}
@@ -235,9 +235,10 @@ module _ (d : Disk) (s X : List ℕ) (n b : ℕ) (r : Audited) (z : X ≡ replic
           ∙ rw (eq-eqb (length s) (imageBytes d) (l ∙ e), le-ltb n (claimBytes d) (omega arith), sym u ∙ v) refl)
           (rw g at (w .claim))
 
-pub on-floppy : (d : Disk) (s : List ℕ) (n : ℕ) (r : Audited) (X : List ℕ) → d ≡ floppy → Audits d s n r X
-    → Audits floppy s n r X
-on-floppy d s n r X e h = rw e at h
+-- on the disk that the image is taken for
+pub on-disk : (d : Disk) (s : List ℕ) (n : ℕ) (r : Audited) (X : List ℕ) → d ≡ diskOf s → Audits d s n r X
+    → Audits (diskOf s) s n r X
+on-disk d s n r X e h = rw e at h
 
 -- what the walk is lent: all of it was set to 0, and it is long enough
 pub is-fresh : (d : Disk) (X : List ℕ) (n a m : ℕ) → X ≡ replicate n 0 → length X ≡ n → a ≡ claimBytes d

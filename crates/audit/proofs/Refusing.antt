@@ -1,5 +1,5 @@
 -- What a refused audit says: `refused-exactly`, `refused-number`, and each number by itself (`refused-1`,
--- `refused-2`, `refused-3`, `refused-walk` with `refused-cause`, `refused-17`). Assumes nothing.
+-- `refused-2`, `refused-3` and `refused-tag`, `refused-walk` with `refused-cause`, `refused-17`). Assumes nothing.
 use Prim.Native.Nat.{ℕ, _≤_, _<_}
 use mathlib.Core.Path.{_≡_, subst}
 use mathlib.Core.Logic.{_≢_, _↔_}
@@ -11,8 +11,9 @@ use Rattle.answers.specs.Members.{_∈_}
 use Rattle.answers.proofs.Members.{listed, in-part}
 use Rattle.words.specs.Word.{wordAt}
 use Rattle.volume.specs.declared.disk.Disk.{Disk}
-use Rattle.volume.specs.Disks.{imageBytes, claimBytes, tagOf}
+use Rattle.volume.specs.Disks.{imageBytes, claimBytes, tagOf, diskOf, NoTag}
 use Rattle.volume.specs.Law.{Tree, Valid}
+use Rattle.volume.proofs.Tags.{no-tag}
 use Rattle.walk.specs.Refusals.{FirstRefusal, Cause}
 use Rattle.walk.proofs.Refuses.{refused-first}
 use Rattle.walk.proofs.Causes as causes
@@ -67,3 +68,12 @@ module _ (d : Disk) (s : List ℕ) (n k : ℕ) where
       ↔ ((claimBytes d ≤ n) × Tree d s × Valid d s × FirstWrong d s k)
   unfolding pick
   refused-17 = refused-exactly d s n fault.wrongBit k
+
+-- 3 is given if and only if the image has the boot tag of no kind
+pub refused-tag : (s : List ℕ) (n k : ℕ)
+    → (auditOf (diskOf s) s n ≡ refuse fault.bootTag k)
+    ↔ ((k ≡ 0) × (length s ≡ imageBytes (diskOf s)) × (claimBytes (diskOf s) ≤ n) × NoTag s)
+refused-tag s n k =
+    let r = refused-3 (diskOf s) s n k in
+    let t = no-tag s in
+    (λ e. let (q, l, h, u) = r .0 e in (q, l, h, t .0 u), λ (q, l, h, u). r .1 (q, l, h, t .1 u))

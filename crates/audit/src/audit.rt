@@ -14,7 +14,7 @@ use words::wipe;
 ghost use mathlib.Core.Path.{_≡_};
 ghost use Prim.Native.Nat.{_+_, _≤_};
 ghost use lib.ListN.{length, replicate};
-ghost use Rattle.volume.specs.Disks.{Sized, mostBlocks, floppy, imageBytes, claimBytes};
+ghost use Rattle.volume.specs.Disks.{Sized, mostBlocks, imageBytes, claimBytes, diskOf};
 ghost use Rattle.audit.specs.Walks.{total};
 ghost use Rattle.audit.specs.Audits.{refuse, reportOf, Audits};
 ghost use Rattle.audit.specs.Parts.{Fresh, Within, Tagged};
@@ -110,9 +110,11 @@ fn audit_on(disk: Disk, image: &[u8], claim: &mut [u8]) -> Audited
     refused(Fault::BOOT_TAG, 0)
 }
 
-// Audits the image of an 880 KB floppy of the old file system.
+// Audits the image of an 880 KB floppy of the kind that its boot tag names.
 pub fn audit(image: &[u8], claim: &mut [u8]) -> Audited
-    ensures { λ r. ⌜ Audits floppy (now (image .entry)) (length (now (claim .entry))) r (now (claim .exit)) ⌝ }
+    ensures { λ r. ⌜ Audits (diskOf (now (image .entry))) (now (image .entry)) (length (now (claim .entry))) r
+        (now (claim .exit)) ⌝ }
 {
-    audit_on(Disk::floppy(), image, claim)
+    let disk = Disk::of(image);
+    audit_on(disk, image, claim)
 }

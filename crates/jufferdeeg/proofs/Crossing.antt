@@ -2,7 +2,7 @@
 use Prim.Native.Nat.{ℕ}
 use mathlib.Core.Path.{_≡_, ap, subst, _∙_}
 use mathlib.Core.List.{List}
-use Rattle.volume.specs.Disks.{floppy}
+use Rattle.volume.specs.Disks.{diskOf}
 use Rattle.audit.specs.declared.audit.Audited.{Audited}
 use Rattle.audit.specs.Audits.{Audits}
 use Rattle.reading.specs.declared.read.Reading.{Reading}
@@ -13,20 +13,20 @@ use Rattle.hunks.specs.Calls.{Loads, Moves}
 use Rattle.jufferdeeg.specs.declared.volumes.AuditNumbers.{AuditNumbers}
 use Rattle.jufferdeeg.specs.declared.volumes.ReadNumbers.{ReadNumbers}
 use Rattle.jufferdeeg.specs.declared.programs.ProgramNumbers.{ProgramNumbers}
-use Rattle.jufferdeeg.specs.Volumes.{auditNumbers, readNumbers, AuditsFloppy, ReadsFloppy}
+use Rattle.jufferdeeg.specs.Volumes.{auditNumbers, readNumbers, AuditsImage, ReadsImage}
 use Rattle.jufferdeeg.specs.Programs.{programNumbers, LoadsNumbers, MovesNumbers}
 
-pub audits : (s : List ℕ) (n : ℕ) (a : Audited) (r : AuditNumbers) (claim′ : List ℕ) → Audits floppy s n a claim′
-    → r ≡ auditNumbers a → AuditsFloppy s n r claim′
+pub audits : (s : List ℕ) (n : ℕ) (a : Audited) (r : AuditNumbers) (claim′ : List ℕ) → Audits (diskOf s) s n a claim′
+    → r ≡ auditNumbers a → AuditsImage s n r claim′
 audits s n a r claim′ h e =
-    record { answer = e ∙ ap auditNumbers (h .answer); call = subst (λ x. Audits floppy s n x claim′) (h .answer) h }
+    record { answer = e ∙ ap auditNumbers (h .answer); call = subst (λ x. Audits (diskOf s) s n x claim′) (h .answer) h }
 
 pub reads : (s path : List ℕ) (o : ℕ) (output : List ℕ) (a : Reading) (r : ReadNumbers) (output′ : List ℕ)
-    → Reads floppy s path o output a output′ → r ≡ readNumbers a → ReadsFloppy s path o output r output′
+    → Reads (diskOf s) s path o output a output′ → r ≡ readNumbers a → ReadsImage s path o output r output′
 reads s path o output a r output′ h e =
     record {
       answer = e ∙ ap readNumbers (h .answer);
-      call = subst (λ x. Reads floppy s path o output x output′) (h .answer) h;
+      call = subst (λ x. Reads (diskOf s) s path o output x output′) (h .answer) h;
     }
 
 module _ (file : List ℕ) (m : List ℕ) (t : List Hunk) (w : List ℕ) (a : Answer) (r : ProgramNumbers) (m′ : List ℕ)

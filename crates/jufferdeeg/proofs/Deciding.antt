@@ -7,19 +7,19 @@ use Rattle.jufferdeeg.specs.declared.volumes.AuditNumbers.{AuditNumbers}
 use Rattle.jufferdeeg.specs.declared.volumes.FindNumbers.{FindNumbers}
 use Rattle.jufferdeeg.specs.declared.volumes.ReadNumbers.{ReadNumbers}
 use Rattle.jufferdeeg.specs.declared.programs.ProgramNumbers.{ProgramNumbers}
-use Rattle.jufferdeeg.specs.Volumes.{findOnFloppy, AuditsFloppy, ReadsFloppy}
+use Rattle.jufferdeeg.specs.Volumes.{findInImage, AuditsImage, ReadsImage}
 use Rattle.jufferdeeg.specs.Programs.{checkNumbers, LoadsNumbers, MovesNumbers}
 use Rattle.jufferdeeg.specs.Reasons.{Reasons}
 
-pub audit-crosses : (s : List ℕ) (n : ℕ) (r r′ : AuditNumbers) (c c′ : List ℕ) → AuditsFloppy s n r c
-    → AuditsFloppy s n r′ c′ → (r ≡ r′) × (c ≡ c′)
+pub audit-crosses : (s : List ℕ) (n : ℕ) (r r′ : AuditNumbers) (c c′ : List ℕ) → AuditsImage s n r c
+    → AuditsImage s n r′ c′ → (r ≡ r′) × (c ≡ c′)
 audit-crosses s n r r′ c c′ h h′ = (h .answer ∙ sym (h′ .answer), h .call .claim ∙ sym (h′ .call .claim))
 
-pub find-crosses : (s path : List ℕ) (r r′ : FindNumbers) → r ≡ findOnFloppy s path → r′ ≡ findOnFloppy s path → r ≡ r′
+pub find-crosses : (s path : List ℕ) (r r′ : FindNumbers) → r ≡ findInImage s path → r′ ≡ findInImage s path → r ≡ r′
 find-crosses s path r r′ h h′ = h ∙ sym h′
 
 pub read-crosses : (s path : List ℕ) (o : ℕ) (output : List ℕ) (r r′ : ReadNumbers) (a a′ : List ℕ)
-    → ReadsFloppy s path o output r a → ReadsFloppy s path o output r′ a′ → (r ≡ r′) × (a ≡ a′)
+    → ReadsImage s path o output r a → ReadsImage s path o output r′ a′ → (r ≡ r′) × (a ≡ a′)
 read-crosses s path o output r r′ a a′ h h′ = (h .answer ∙ sym (h′ .answer), h .call .left ∙ sym (h′ .call .left))
 
 pub check-crosses : (file : List ℕ) (r r′ : ProgramNumbers) → r ≡ checkNumbers file → r′ ≡ checkNumbers file

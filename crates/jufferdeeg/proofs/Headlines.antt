@@ -15,11 +15,13 @@ use Rattle.answers.specs.Tests.{pick}
 use Rattle.reach.specs.References.{Reached}
 use Rattle.words.specs.Word.{Bytes}
 use Rattle.volume.specs.declared.disk.Disk.{Disk}
-use Rattle.volume.specs.Disks.{floppy, rootOf, claimBytes, chainLimit}
+use Rattle.volume.specs.Disks.{kinds, floppy, rootOf, imageBytes, claimBytes, chainLimit, diskOf, NoTag}
 use Rattle.volume.specs.Blocks.{directory}
 use Rattle.volume.specs.Files.{sizeOf}
 use Rattle.volume.specs.References.{to, entry, references}
-use Rattle.volume.specs.Law.{Tree, Valid, Volume}
+use Rattle.volume.specs.Names.{foldOf, folded, slotOf}
+use Rattle.volume.specs.Law.{Tree, Valid, Volume, IsVolume}
+use Rattle.volume.proofs.Names as names
 use Rattle.volume.specs.Floppy.{Numerals}
 use Rattle.volume.proofs.Floppy as floppies
 use Rattle.walk.specs.Refusals.{Cause}
@@ -79,7 +81,7 @@ use Rattle.jufferdeeg.specs.declared.volumes.AuditNumbers.{AuditNumbers}
 use Rattle.jufferdeeg.specs.declared.volumes.FindNumbers.{FindNumbers}
 use Rattle.jufferdeeg.specs.declared.volumes.ReadNumbers.{ReadNumbers}
 use Rattle.jufferdeeg.specs.declared.programs.ProgramNumbers.{ProgramNumbers}
-use Rattle.jufferdeeg.specs.Volumes.{findOnFloppy, AuditsFloppy, ReadsFloppy}
+use Rattle.jufferdeeg.specs.Volumes.{findInImage, AuditsImage, ReadsImage}
 use Rattle.jufferdeeg.specs.Programs.{checkNumbers, LoadsNumbers, MovesNumbers}
 use Rattle.jufferdeeg.specs.Reasons.{sentenceOf, Reasons}
 use Rattle.jufferdeeg.proofs.Seen as seen
@@ -123,6 +125,18 @@ module _ (d : Disk) (s : List ℕ) (n : ℕ) where
   pub audit-determined : (r r′ : Audited) (c c′ : List ℕ) → audit.Audits d s n r c → audit.Audits d s n r′ c′
       → (audit.numbersOf r ≡ audit.numbersOf r′) × (r ≡ r′) × (c ≡ c′)
   audit-determined r r′ c c′ a a′ = accepting.audit-determined d s n r r′ c c′ a a′
+
+-- every call takes an image for the disk whose boot tag it has, and one statement is for all kinds: accepted if and
+-- only if a volume of such a kind; 3 if and only if the tag is of no kind
+module _ (s : List ℕ) (n : ℕ) where
+  pub accepted-volume : claimBytes (diskOf s) ≤ n
+      → ((r : Report) × (audit.auditOf (diskOf s) s n ≡ audited.Accepted r)) ↔ IsVolume s
+  accepted-volume h = accepting.accepted-volume s n h
+
+  pub audit-refused-tag : (k : ℕ)
+      → (audit.auditOf (diskOf s) s n ≡ audit.refuse fault.bootTag k)
+      ↔ ((k ≡ 0) × (length s ≡ imageBytes (diskOf s)) × (claimBytes (diskOf s) ≤ n) × NoTag s)
+  audit-refused-tag k = refusing.refused-tag s n k
 
 -- what such a cause says holds of no volume
 module _ (d : Disk) (s : List ℕ) where
@@ -208,11 +222,30 @@ module _ (d : Disk) (s : List ℕ) where
       × (output′ ≡ fileBytes d s k ++ drop (sizeOf s k) output)
   reached-read v k h e l output output′ r m q = reads.reached-read d s v k h e l output output′ r m q
 
+-- 3 of a lookup and of a read
+module _ (s path : List ℕ) (k : ℕ) where
+  pub find-refused-tag : (lookup.findOf (diskOf s) s path ≡ lookup.refuse fault.bootTag k)
+      ↔ ((k ≡ 0) × (length s ≡ imageBytes (diskOf s)) × lookups.GoodForm path × NoTag s)
+  find-refused-tag = missing.refused-tag s path k
+
+  pub read-refused-tag : (o n : ℕ)
+      → (read.readOf (diskOf s) s path o n ≡ read.refuse fault.bootTag k)
+      ↔ ((k ≡ 0) × (length s ≡ imageBytes (diskOf s)) × lookups.GoodForm path × NoTag s)
+  read-refused-tag o n = unread.refused-tag s path o n k
+
+-- on every kind of disk, folding twice is folding once, and equal folded names have equal slots
+module _ (d : Disk) where
+  pub fold-twice : (b : ℕ) → foldOf d (foldOf d b) ≡ foldOf d b
+  fold-twice b = names.fold-twice d b
+
+  pub slot-same : (xs ys : List ℕ) → folded d xs ≡ folded d ys → slotOf d xs ≡ slotOf d ys
+  slot-same xs ys e = names.slot-same d xs ys e
+
 -- the floppy's numbers, and the worked cases with a star
-pub floppy-numerals : Numerals floppy
+pub floppy-numerals : (kind : ℕ) → Numerals (floppy kind)
 floppy-numerals = floppies.floppy-numerals
 
-pub stars-hold : Hold floppy stars
+pub stars-hold : (kind : ℕ) → kind ∈ kinds → Hold (floppy kind) stars
 stars-hold = starred.stars-hold
 
 -- ---- a program file
@@ -359,14 +392,20 @@ module _ (file m : List ℕ) (t : List Hunk) (w : List ℕ) where
 -- ---- what a C program sees: each exported call, by its numbers and by what it leaves
 
 -- the audit of an image s with a claim area of n bytes
-module _ (s : List ℕ) (n : ℕ) (r : AuditNumbers) (claim : List ℕ) (a : AuditsFloppy s n r claim) where
-  -- the number is 0 if and only if there is a claim byte for each block and the image is a volume
-  pub audit-zero : (r .number ≡ 0) ↔ ((1760 ≤ n) × Volume floppy s)
+module _ (s : List ℕ) (n : ℕ) (r : AuditNumbers) (claim : List ℕ) (a : AuditsImage s n r claim) where
+  -- the number is 0 if and only if there is a claim byte for each block and the image is a volume of its tag's kind
+  pub audit-zero : (r .number ≡ 0) ↔ ((1760 ≤ n) × IsVolume s)
   audit-zero = seen.audit-zero s n r claim a
 
   -- another number v is given at place k if and only if its test says so
-  pub audit-refused-at : (v k : ℕ) → v ≢ 0 → ((r .number ≡ v) × (r .place ≡ k)) ↔ Says floppy s n v k (testOf v)
+  pub audit-refused-at : (v k : ℕ) → v ≢ 0 → ((r .number ≡ v) × (r .place ≡ k)) ↔ Says (diskOf s) s n v k (testOf v)
   audit-refused-at = seen.audit-refused-at s n r claim a
+
+  -- 3 if and only if length and claim area are right, and the image has the boot tag of no kind
+  pub audit-untagged : (k : ℕ)
+      → ((r .number ≡ fault.bootTag) × (r .place ≡ k))
+      ↔ ((k ≡ 0) × (length s ≡ 901120) × (1760 ≤ n) × NoTag s)
+  audit-untagged = seen.audit-untagged s n r claim a
 
   -- a number other than 0 is one of these; nothing is reported then, and the claim area is cleared
   pub audit-number : r .number ∈ (0 ∷ audit.auditRefusals)
@@ -378,18 +417,24 @@ module _ (s : List ℕ) (n : ℕ) (r : AuditNumbers) (claim : List ℕ) (a : Aud
   audit-refused = seen.audit-refused s n r claim a
 
 -- a path
-module _ (s path : List ℕ) (r : FindNumbers) (a : r ≡ findOnFloppy s path) where
+module _ (s path : List ℕ) (r : FindNumbers) (a : r ≡ findInImage s path) where
   -- the number is 0 if and only if the components lead to the directory of that key, or to the file of that key and
   -- size
   pub find-zero : (r .number ≡ 0)
-      ↔ (((r .kind ≡ 2) × (r .size ≡ 0) × lookups.Opened floppy s path
-      × Trail floppy s (rootOf floppy) (components path) (r .key) (r .compared))
-      ⊎ ((r .kind ≡ 0xFFFFFFFD) × lookups.IsFile floppy s path (r .key) (r .size) (r .compared)))
+      ↔ (((r .kind ≡ 2) × (r .size ≡ 0) × lookups.Opened (diskOf s) s path
+      × Trail (diskOf s) s (rootOf (diskOf s)) (components path) (r .key) (r .compared))
+      ⊎ ((r .kind ≡ 0xFFFFFFFD) × lookups.IsFile (diskOf s) s path (r .key) (r .size) (r .compared)))
   find-zero = seen.find-zero s path r a
 
   -- another number v is given at place k if and only if `Refuses` holds of them
-  pub find-refused-at : (v k : ℕ) → v ≢ 0 → ((r .number ≡ v) × (r .place ≡ k)) ↔ lookups.Refuses floppy s path v k
+  pub find-refused-at : (v k : ℕ) → v ≢ 0 → ((r .number ≡ v) × (r .place ≡ k)) ↔ lookups.Refuses (diskOf s) s path v k
   find-refused-at = seen.find-refused-at s path r a
+
+  -- 3 if and only if length and path are right, and the image has the boot tag of no kind
+  pub find-untagged : (k : ℕ)
+      → ((r .number ≡ fault.bootTag) × (r .place ≡ k))
+      ↔ ((k ≡ 0) × (length s ≡ 901120) × lookups.GoodForm path × NoTag s)
+  find-untagged = seen.find-untagged s path r a
 
   -- a number other than 0 is one of these; all values are 0 then
   pub find-number : r .number ∈ (0 ∷ lookup.findRefusals)
@@ -400,15 +445,21 @@ module _ (s path : List ℕ) (r : FindNumbers) (a : r ≡ findOnFloppy s path) w
 
 -- a read at offset o
 module _ (s path : List ℕ) (o : ℕ) (output : List ℕ) (r : ReadNumbers) (output′ : List ℕ)
-    (a : ReadsFloppy s path o output r output′) where
+    (a : ReadsImage s path o output r output′) where
   -- the number is 0 if and only if the path leads to a whole file, and `count` is what the room and the rest of the
   -- file allow
-  pub read-zero : (r .number ≡ 0) ↔ outcomes.Gives floppy s path o (length output) (r .count)
+  pub read-zero : (r .number ≡ 0) ↔ outcomes.Gives (diskOf s) s path o (length output) (r .count)
   read-zero = seen.read-zero s path o output r output′ a
 
   -- another number v is given at place k if and only if `Refuses` holds of them
-  pub read-refused-at : (v k : ℕ) → v ≢ 0 → ((r .number ≡ v) × (r .place ≡ k)) ↔ outcomes.Refuses floppy s path v k
+  pub read-refused-at : (v k : ℕ) → v ≢ 0 → ((r .number ≡ v) × (r .place ≡ k)) ↔ outcomes.Refuses (diskOf s) s path v k
   read-refused-at = seen.read-refused-at s path o output r output′ a
+
+  -- 3 if and only if length and path are right, and the image has the boot tag of no kind
+  pub read-untagged : (k : ℕ)
+      → ((r .number ≡ fault.bootTag) × (r .place ≡ k))
+      ↔ ((k ≡ 0) × (length s ≡ 901120) × lookups.GoodForm path × NoTag s)
+  read-untagged = seen.read-untagged s path o output r output′ a
 
   -- a number other than 0 is one of these; the output is as before then
   pub read-number : r .number ∈ (0 ∷ read.readRefusals)

@@ -5,11 +5,13 @@ use mathlib.Core.Path.{_≡_, refl, sym, ap, ap₂, _∙_}
 use mathlib.Core.Logic.{_≢_, _↔_, _⊎_, inl, inr}
 use mathlib.Core.List.{List, [], _∷_}
 use lib.ListN.{length, replicate}
+use native.Mathlib.Omega.{arith}
+use Rattle.answers.specs.Numbers as fault
 use Rattle.answers.specs.Members.{_∈_}
 use Rattle.answers.specs.Refusals.{refusal}
 use Rattle.answers.specs.declared.Refusal.{Refusal}
-use Rattle.volume.specs.Disks.{floppy, rootOf}
-use Rattle.volume.specs.Law.{Volume}
+use Rattle.volume.specs.Disks.{rootOf, diskOf, NoTag}
+use Rattle.volume.specs.Law.{IsVolume}
 use Rattle.audit.specs.declared.audit.Report.{Report}
 use Rattle.audit.specs.declared.audit.Audited.{Audited}
 use Rattle.audit.specs.declared.audit.Audited.the-variants as audited
@@ -55,8 +57,8 @@ use Rattle.jufferdeeg.specs.declared.volumes.AuditNumbers.{AuditNumbers}
 use Rattle.jufferdeeg.specs.declared.volumes.FindNumbers.{FindNumbers}
 use Rattle.jufferdeeg.specs.declared.volumes.ReadNumbers.{ReadNumbers}
 use Rattle.jufferdeeg.specs.declared.programs.ProgramNumbers.{ProgramNumbers}
-use Rattle.jufferdeeg.specs.Volumes.{auditNumbers, findNumbers, readNumbers, findOnFloppy, AuditsFloppy}
-use Rattle.jufferdeeg.specs.Volumes.{ReadsFloppy}
+use Rattle.jufferdeeg.specs.Volumes.{auditNumbers, findNumbers, readNumbers, findInImage, AuditsImage}
+use Rattle.jufferdeeg.specs.Volumes.{ReadsImage}
 use Rattle.jufferdeeg.specs.Programs.{programNumbers, checkNumbers, loadsAs, movesAs, LoadsNumbers, MovesNumbers}
 
 -- one condition for another, and that for a third
@@ -74,35 +76,43 @@ audit-says x v k z = (there x, λ e. rw e (refl, refl))
     there (audited.Accepted p) (a, b) = absurd (z (sym a))
     there (audited.Refused f) (a, b) = ap₂ audit.refuse a b
 
-module _ (s : List ℕ) (n : ℕ) (r : AuditNumbers) (claim′ : List ℕ) (a : AuditsFloppy s n r claim′) where
+module _ (s : List ℕ) (n : ℕ) (r : AuditNumbers) (claim′ : List ℕ) (a : AuditsImage s n r claim′) where
   -- the number is 0 if and only if the answer is one that accepts
-  audit-accepts : (r .number ≡ 0) ↔ ((p : Report) × (audit.auditOf floppy s n ≡ audited.Accepted p))
-  audit-accepts = rw (a .answer) (audit-numbers.zero-exactly floppy s n _ claim′ (a .call))
+  audit-accepts : (r .number ≡ 0) ↔ ((p : Report) × (audit.auditOf (diskOf s) s n ≡ audited.Accepted p))
+  audit-accepts = rw (a .answer) (audit-numbers.zero-exactly (diskOf s) s n _ claim′ (a .call))
 
-  -- the number is 0 if and only if there is a claim byte for each block and the image is a volume
-  pub audit-zero : (r .number ≡ 0) ↔ ((1760 ≤ n) × Volume floppy s)
-  audit-zero = (there, λ (h, v). audit-accepts .1 (auditing.accepted-exactly floppy s n h .1 v))
+  -- the number is 0 if and only if there is a claim byte for each block and the image is a volume of its tag's kind
+  pub audit-zero : (r .number ≡ 0) ↔ ((1760 ≤ n) × IsVolume s)
+  audit-zero = (there, λ (h, v). audit-accepts .1 (auditing.accepted-volume s n h .1 v))
     where
-      there : r .number ≡ 0 → (1760 ≤ n) × Volume floppy s
+      there : r .number ≡ 0 → (1760 ≤ n) × IsVolume s
       there z =
           let x = audit-accepts .0 z in
-          let h : 1760 ≤ n = answers-exactly floppy s n (audited.Accepted (x .0)) .0 (x .1) .opened .room in
-          (h, auditing.accepted-exactly floppy s n h .0 x)
+          let h : 1760 ≤ n = answers-exactly (diskOf s) s n (audited.Accepted (x .0)) .0 (x .1) .opened .room in
+          (h, auditing.accepted-volume s n h .0 x)
 
   -- with a claim byte for each block: if and only if the image is a volume
-  pub audit-volume : 1760 ≤ n → (r .number ≡ 0) ↔ Volume floppy s
+  pub audit-volume : 1760 ≤ n → (r .number ≡ 0) ↔ IsVolume s
   audit-volume h = (λ z. audit-zero .0 z .1, λ v. audit-zero .1 (h, v))
 
   -- another number v is given at place k if and only if its test says so
-  pub audit-refused-at : (v k : ℕ) → v ≢ 0 → ((r .number ≡ v) × (r .place ≡ k)) ↔ Says floppy s n v k (testOf v)
+  pub audit-refused-at : (v k : ℕ) → v ≢ 0 → ((r .number ≡ v) × (r .place ≡ k)) ↔ Says (diskOf s) s n v k (testOf v)
   audit-refused-at v k z =
-      rw (a .answer) (chain (audit-says (audit.auditOf floppy s n) v k z)
-      (audit-refusing.refused-exactly floppy s n v k))
+      rw (a .answer) (chain (audit-says (audit.auditOf (diskOf s) s n) v k z)
+      (audit-refusing.refused-exactly (diskOf s) s n v k))
+
+  -- 3 if and only if length and claim area are right, and the image has the boot tag of no kind
+  pub audit-untagged : (k : ℕ)
+      → ((r .number ≡ fault.bootTag) × (r .place ≡ k))
+      ↔ ((k ≡ 0) × (length s ≡ 901120) × (1760 ≤ n) × NoTag s)
+  audit-untagged k =
+      rw (a .answer) (chain (audit-says (audit.auditOf (diskOf s) s n) fault.bootTag k (λ e. omega arith))
+      (audit-refusing.refused-tag s n k))
 
   -- the number is 0 or one of these
   pub audit-number : r .number ∈ (0 ∷ audit.auditRefusals)
   audit-number =
-      rw (a .answer) (go (audit.auditOf floppy s n) (audit-numbers.number-listed floppy s n _ claim′ (a .call)))
+      rw (a .answer) (go (audit.auditOf (diskOf s) s n) (audit-numbers.number-listed (diskOf s) s n _ claim′ (a .call)))
     where
       go : (x : Audited) → ((f : Refusal) → x ≡ audited.Refused f → audit.numbersOf x .number ∈ audit.auditRefusals)
           → auditNumbers x .number ∈ (0 ∷ audit.auditRefusals)
@@ -113,9 +123,9 @@ module _ (s : List ℕ) (n : ℕ) (r : AuditNumbers) (claim′ : List ℕ) (a : 
   pub audit-refused : r .number ≢ 0
       → (claim′ ≡ replicate n 0) × (r .directories ≡ 0) × (r .files ≡ 0) × (r .«list_blocks» ≡ 0)
       × (r .«data_blocks» ≡ 0) × (r .used ≡ 0) × (r .free ≡ 0)
-  audit-refused z = go (audit.auditOf floppy s n) refl (a .call .claim)
+  audit-refused z = go (audit.auditOf (diskOf s) s n) refl (a .call .claim)
     where
-      go : (x : Audited) → audit.auditOf floppy s n ≡ x → claim′ ≡ audit.claimAfter floppy s x n
+      go : (x : Audited) → audit.auditOf (diskOf s) s n ≡ x → claim′ ≡ audit.claimAfter (diskOf s) s x n
           → (claim′ ≡ replicate n 0) × (r .directories ≡ 0) × (r .files ≡ 0) × (r .«list_blocks» ≡ 0)
           × (r .«data_blocks» ≡ 0) × (r .used ≡ 0) × (r .free ≡ 0)
       go (audited.Accepted p) e c = absurd (z (audit-accepts .1 (p, e)))
@@ -138,49 +148,57 @@ find-says x v k z = (there x, λ e. rw e (refl, refl))
 -- the path leads to the directory of that key, with so many entries compared
 abbrev pub FindsDirectory : List ℕ → List ℕ → FindNumbers → Type 0
 FindsDirectory s path r =
-    (r .kind ≡ 2) × (r .size ≡ 0) × lookups.Opened floppy s path × Trail floppy s (rootOf floppy) (components path)
+    (r .kind ≡ 2) × (r .size ≡ 0) × lookups.Opened (diskOf s) s path × Trail (diskOf s) s (rootOf (diskOf s)) (components path)
     (r .key) (r .compared)
 
 -- or to the file of that key and size
 abbrev pub FindsFile : List ℕ → List ℕ → FindNumbers → Type 0
-FindsFile s path r = (r .kind ≡ 0xFFFFFFFD) × lookups.IsFile floppy s path (r .key) (r .size) (r .compared)
+FindsFile s path r = (r .kind ≡ 0xFFFFFFFD) × lookups.IsFile (diskOf s) s path (r .key) (r .size) (r .compared)
 
-module _ (s path : List ℕ) (r : FindNumbers) (a : r ≡ findOnFloppy s path) where
-  finds : lookup.Finds floppy s path (lookup.findOf floppy s path)
+module _ (s path : List ℕ) (r : FindNumbers) (a : r ≡ findInImage s path) where
+  finds : lookup.Finds (diskOf s) s path (lookup.findOf (diskOf s) s path)
   finds = record { answer = refl; numbers = refl }
 
   -- the number is 0 if and only if the answer is a directory or a file
   find-answers : (r .number ≡ 0)
-      ↔ (((k : ℕ) × (c : ℕ) × (lookup.findOf floppy s path ≡ found.Directory k c))
-      ⊎ ((k : ℕ) × (z : ℕ) × (c : ℕ) × (lookup.findOf floppy s path ≡ found.File k z c)))
-  find-answers = rw a (lookup-numbers.zero-exactly floppy s path _ finds)
+      ↔ (((k : ℕ) × (c : ℕ) × (lookup.findOf (diskOf s) s path ≡ found.Directory k c))
+      ⊎ ((k : ℕ) × (z : ℕ) × (c : ℕ) × (lookup.findOf (diskOf s) s path ≡ found.File k z c)))
+  find-answers = rw a (lookup-numbers.zero-exactly (diskOf s) s path _ finds)
 
   -- the number is 0 if and only if the path leads to a directory or to a file
   pub find-zero : (r .number ≡ 0) ↔ (FindsDirectory s path r ⊎ FindsFile s path r)
   find-zero = (λ z. there (find-answers .0 z), back)
     where
-      there : ((k : ℕ) × (c : ℕ) × (lookup.findOf floppy s path ≡ found.Directory k c))
-          ⊎ ((k : ℕ) × (z : ℕ) × (c : ℕ) × (lookup.findOf floppy s path ≡ found.File k z c))
+      there : ((k : ℕ) × (c : ℕ) × (lookup.findOf (diskOf s) s path ≡ found.Directory k c))
+          ⊎ ((k : ℕ) × (z : ℕ) × (c : ℕ) × (lookup.findOf (diskOf s) s path ≡ found.File k z c))
           → FindsDirectory s path r ⊎ FindsFile s path r
       there (inl (k, c, e)) =
-          let q = finding.directory-exactly floppy s path k c .0 e in
+          let q = finding.directory-exactly (diskOf s) s path k c .0 e in
           inl (rw (a ∙ ap findNumbers e) (refl, refl, q .0, q .1))
-      there (inr (k, z, c, e)) = inr (rw (a ∙ ap findNumbers e) (refl, finding.file-exactly floppy s path k z c .0 e))
+      there (inr (k, z, c, e)) = inr (rw (a ∙ ap findNumbers e) (refl, finding.file-exactly (diskOf s) s path k z c .0 e))
 
       back : FindsDirectory s path r ⊎ FindsFile s path r → r .number ≡ 0
       back (inl (i, j, o, t)) =
-          find-answers .1 (inl (_, _, finding.directory-exactly floppy s path (r .key) (r .compared) .1 (o, t)))
+          find-answers .1 (inl (_, _, finding.directory-exactly (diskOf s) s path (r .key) (r .compared) .1 (o, t)))
       back (inr (i, f)) =
-          find-answers .1 (inr (_, _, _, finding.file-exactly floppy s path (r .key) (r .size) (r .compared) .1 f))
+          find-answers .1 (inr (_, _, _, finding.file-exactly (diskOf s) s path (r .key) (r .size) (r .compared) .1 f))
 
   -- another number v is given at place k if and only if `Refuses` holds of them
-  pub find-refused-at : (v k : ℕ) → v ≢ 0 → ((r .number ≡ v) × (r .place ≡ k)) ↔ lookups.Refuses floppy s path v k
+  pub find-refused-at : (v k : ℕ) → v ≢ 0 → ((r .number ≡ v) × (r .place ≡ k)) ↔ lookups.Refuses (diskOf s) s path v k
   find-refused-at v k z =
-      rw a (chain (find-says (lookup.findOf floppy s path) v k z) (finding.refused-exactly floppy s path v k))
+      rw a (chain (find-says (lookup.findOf (diskOf s) s path) v k z) (finding.refused-exactly (diskOf s) s path v k))
+
+  -- 3 if and only if length and path are right, and the image has the boot tag of no kind
+  pub find-untagged : (k : ℕ)
+      → ((r .number ≡ fault.bootTag) × (r .place ≡ k))
+      ↔ ((k ≡ 0) × (length s ≡ 901120) × lookups.GoodForm path × NoTag s)
+  find-untagged k =
+      rw a (chain (find-says (lookup.findOf (diskOf s) s path) fault.bootTag k (λ e. omega arith))
+      (finding.refused-tag s path k))
 
   -- the number is 0 or one of these
   pub find-number : r .number ∈ (0 ∷ lookup.findRefusals)
-  find-number = rw a (go (lookup.findOf floppy s path) (lookup-numbers.number-listed floppy s path _ finds))
+  find-number = rw a (go (lookup.findOf (diskOf s) s path) (lookup-numbers.number-listed (diskOf s) s path _ finds))
     where
       go : (x : Found) → ((f : Refusal) → x ≡ found.Refused f → lookup.numbersOf x .number ∈ lookup.findRefusals)
           → findNumbers x .number ∈ (0 ∷ lookup.findRefusals)
@@ -190,9 +208,9 @@ module _ (s path : List ℕ) (r : FindNumbers) (a : r ≡ findOnFloppy s path) w
 
   -- a refused lookup gives no values
   pub find-refused : r .number ≢ 0 → (r .kind ≡ 0) × (r .key ≡ 0) × (r .size ≡ 0) × (r .compared ≡ 0)
-  find-refused z = go (lookup.findOf floppy s path) refl
+  find-refused z = go (lookup.findOf (diskOf s) s path) refl
     where
-      go : (x : Found) → lookup.findOf floppy s path ≡ x
+      go : (x : Found) → lookup.findOf (diskOf s) s path ≡ x
           → (r .kind ≡ 0) × (r .key ≡ 0) × (r .size ≡ 0) × (r .compared ≡ 0)
       go (found.Directory k c) e = absurd (z (find-answers .1 (inl (k, c, e))))
       go (found.File k y c) e = absurd (z (find-answers .1 (inr (k, y, c, e))))
@@ -210,31 +228,40 @@ read-says x v k z = (there x, λ e. rw e (refl, refl))
     there (reading.Refused f) (a, b) = ap₂ read.refuse a b
 
 module _ (s path : List ℕ) (o : ℕ) (output : List ℕ) (r : ReadNumbers) (output′ : List ℕ)
-    (a : ReadsFloppy s path o output r output′) where
+    (a : ReadsImage s path o output r output′) where
   -- the number is 0 if and only if the answer is a number of bytes
-  read-answers : (r .number ≡ 0) ↔ ((n : ℕ) × (read.readOf floppy s path o (length output) ≡ reading.Bytes n))
-  read-answers = rw (a .answer) (read-numbers.zero-exactly floppy s path o output _ output′ (a .call))
+  read-answers : (r .number ≡ 0) ↔ ((n : ℕ) × (read.readOf (diskOf s) s path o (length output) ≡ reading.Bytes n))
+  read-answers = rw (a .answer) (read-numbers.zero-exactly (diskOf s) s path o output _ output′ (a .call))
 
   -- the number is 0 if and only if the path leads to a whole file, of which so many bytes are given
-  pub read-zero : (r .number ≡ 0) ↔ outcomes.Gives floppy s path o (length output) (r .count)
-  read-zero = (there, λ g. read-answers .1 (_, read-exactly floppy s path o (length output) (r .count) .1 g))
+  pub read-zero : (r .number ≡ 0) ↔ outcomes.Gives (diskOf s) s path o (length output) (r .count)
+  read-zero = (there, λ g. read-answers .1 (_, read-exactly (diskOf s) s path o (length output) (r .count) .1 g))
     where
-      there : r .number ≡ 0 → outcomes.Gives floppy s path o (length output) (r .count)
+      there : r .number ≡ 0 → outcomes.Gives (diskOf s) s path o (length output) (r .count)
       there z =
           let x = read-answers .0 z in
-          rw (a .answer ∙ ap readNumbers (x .1)) (read-exactly floppy s path o (length output) (x .0) .0 (x .1))
+          rw (a .answer ∙ ap readNumbers (x .1)) (read-exactly (diskOf s) s path o (length output) (x .0) .0 (x .1))
 
   -- another number v is given at place k if and only if `Refuses` holds of them
-  pub read-refused-at : (v k : ℕ) → v ≢ 0 → ((r .number ≡ v) × (r .place ≡ k)) ↔ outcomes.Refuses floppy s path v k
+  pub read-refused-at : (v k : ℕ) → v ≢ 0 → ((r .number ≡ v) × (r .place ≡ k)) ↔ outcomes.Refuses (diskOf s) s path v k
   read-refused-at v k z =
-      rw (a .answer) (chain (read-says (read.readOf floppy s path o (length output)) v k z)
-      (unread.refused-exactly floppy s path o (length output) v k))
+      rw (a .answer) (chain (read-says (read.readOf (diskOf s) s path o (length output)) v k z)
+      (unread.refused-exactly (diskOf s) s path o (length output) v k))
+
+  -- 3 if and only if length and path are right, and the image has the boot tag of no kind
+  pub read-untagged : (k : ℕ)
+      → ((r .number ≡ fault.bootTag) × (r .place ≡ k))
+      ↔ ((k ≡ 0) × (length s ≡ 901120) × lookups.GoodForm path × NoTag s)
+  read-untagged k =
+      rw (a .answer)
+      (chain (read-says (read.readOf (diskOf s) s path o (length output)) fault.bootTag k (λ e. omega arith))
+      (unread.refused-tag s path o (length output) k))
 
   -- the number is 0 or one of these
   pub read-number : r .number ∈ (0 ∷ read.readRefusals)
   read-number =
-      rw (a .answer) (go (read.readOf floppy s path o (length output))
-      (read-numbers.number-listed floppy s path o output _ output′ (a .call)))
+      rw (a .answer) (go (read.readOf (diskOf s) s path o (length output))
+      (read-numbers.number-listed (diskOf s) s path o output _ output′ (a .call)))
     where
       go : (x : Reading) → ((f : Refusal) → x ≡ reading.Refused f → read.numbersOf x .number ∈ read.readRefusals)
           → readNumbers x .number ∈ (0 ∷ read.readRefusals)
@@ -243,10 +270,10 @@ module _ (s path : List ℕ) (o : ℕ) (output : List ℕ) (r : ReadNumbers) (ou
 
   -- a refused read leaves the output
   pub read-refused : r .number ≢ 0 → (output′ ≡ output) × (r .count ≡ 0)
-  read-refused z = go (read.readOf floppy s path o (length output)) refl (a .call .left)
+  read-refused z = go (read.readOf (diskOf s) s path o (length output)) refl (a .call .left)
     where
-      go : (x : Reading) → read.readOf floppy s path o (length output) ≡ x
-          → output′ ≡ read.outputAfter floppy s path o output x → (output′ ≡ output) × (r .count ≡ 0)
+      go : (x : Reading) → read.readOf (diskOf s) s path o (length output) ≡ x
+          → output′ ≡ read.outputAfter (diskOf s) s path o output x → (output′ ≡ output) × (r .count ≡ 0)
       go (reading.Bytes n) e c = absurd (z (read-answers .1 (n, e)))
       go (reading.Refused f) e c = let q = a .answer ∙ ap readNumbers e in (c, rw q refl)
 

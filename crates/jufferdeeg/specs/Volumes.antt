@@ -4,7 +4,7 @@ use Prim.Native.Nat.{ℕ}
 use mathlib.Core.Path.{_≡_}
 use mathlib.Core.List.{List}
 use lib.ListN.{length}
-use Rattle.volume.specs.Disks.{floppy}
+use Rattle.volume.specs.Disks.{diskOf}
 use Rattle.audit.specs.declared.audit.Audited.{Audited}
 use Rattle.audit.specs.Audits as audit
 use Rattle.lookup.specs.declared.find.Found.{Found}
@@ -48,14 +48,14 @@ readNumbers a =
 -- ---- the promises: those of the call that it makes, and its answer's numbers
 
 -- of an audit of image s with a claim area of n bytes
-pub record AuditsFloppy (s : List ℕ) (n : ℕ) (r : AuditNumbers) (claim′ : List ℕ) : Type 0 where
-  pub answer : r ≡ auditNumbers (audit.auditOf floppy s n)
-  pub call : audit.Audits floppy s n (audit.auditOf floppy s n) claim′
+pub record AuditsImage (s : List ℕ) (n : ℕ) (r : AuditNumbers) (claim′ : List ℕ) : Type 0 where
+  pub answer : r ≡ auditNumbers (audit.auditOf (diskOf s) s n)
+  pub call : audit.Audits (diskOf s) s n (audit.auditOf (diskOf s) s n) claim′
 
-abbrev pub findOnFloppy : List ℕ → List ℕ → FindNumbers
-findOnFloppy s path = findNumbers (lookup.findOf floppy s path)
+abbrev pub findInImage : List ℕ → List ℕ → FindNumbers
+findInImage s path = findNumbers (lookup.findOf (diskOf s) s path)
 
 -- of a read at offset o
-pub record ReadsFloppy (s path : List ℕ) (o : ℕ) (output : List ℕ) (r : ReadNumbers) (output′ : List ℕ) : Type 0 where
-  pub answer : r ≡ readNumbers (read.readOf floppy s path o (length output))
-  pub call : read.Reads floppy s path o output (read.readOf floppy s path o (length output)) output′
+pub record ReadsImage (s path : List ℕ) (o : ℕ) (output : List ℕ) (r : ReadNumbers) (output′ : List ℕ) : Type 0 where
+  pub answer : r ≡ readNumbers (read.readOf (diskOf s) s path o (length output))
+  pub call : read.Reads (diskOf s) s path o output (read.readOf (diskOf s) s path o (length output)) output′

@@ -5,8 +5,8 @@ use reading::read::Reading;
 use volume::block::Block;
 ghost use mathlib.Core.Path.{_≡_};
 ghost use lib.ListN.{length};
-ghost use Rattle.jufferdeeg.specs.Volumes.{auditNumbers, findNumbers, readNumbers, findOnFloppy, AuditsFloppy};
-ghost use Rattle.jufferdeeg.specs.Volumes.{ReadsFloppy};
+ghost use Rattle.jufferdeeg.specs.Volumes.{auditNumbers, findNumbers, readNumbers, findInImage, AuditsImage};
+ghost use Rattle.jufferdeeg.specs.Volumes.{ReadsImage};
 
 // An audit's answer: refused where the number is not 0.
 #[repr(C)]
@@ -115,10 +115,10 @@ fn read_numbers(a: Reading) -> ReadNumbers
     }
 }
 
-// Audits the image of an 880 KB floppy of the old file system.
+// Audits the image of an 880 KB floppy of the kind that its boot tag names.
 #[no_mangle]
 pub extern "C" fn jufferdeeg_audit(image: &[u8], claim: &mut [u8]) -> AuditNumbers
-    ensures { λ r. ⌜ AuditsFloppy (now (image .entry)) (length (now (claim .entry))) r (now (claim .exit)) ⌝ }
+    ensures { λ r. ⌜ AuditsImage (now (image .entry)) (length (now (claim .entry))) r (now (claim .exit)) ⌝ }
 {
     audit_numbers(audit::audit::audit(image, claim))
 }
@@ -126,7 +126,7 @@ pub extern "C" fn jufferdeeg_audit(image: &[u8], claim: &mut [u8]) -> AuditNumbe
 // What a path leads to on such a floppy.
 #[no_mangle]
 pub extern "C" fn jufferdeeg_find(image: &[u8], path: &[u8]) -> FindNumbers
-    ensures { λ r. ⌜ r ≡ findOnFloppy (now (image .entry)) (now (path .entry)) ⌝ }
+    ensures { λ r. ⌜ r ≡ findInImage (now (image .entry)) (now (path .entry)) ⌝ }
 {
     find_numbers(lookup::find::find(image, path))
 }
@@ -139,7 +139,7 @@ pub extern "C" fn jufferdeeg_read(
     offset: usize,
     output: &mut [u8],
 ) -> ReadNumbers
-    ensures { λ r. ⌜ ReadsFloppy (now (image .entry)) (now (path .entry)) offset (now (output .entry)) r
+    ensures { λ r. ⌜ ReadsImage (now (image .entry)) (now (path .entry)) offset (now (output .entry)) r
         (now (output .exit)) ⌝ }
 {
     read_numbers(reading::read::read(image, path, offset, output))

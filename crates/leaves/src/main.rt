@@ -1,5 +1,6 @@
 // Runs the leaves of a volume, and of the words below it, on fixed vectors, and writes a line for each. What the
 // lines must be was written by hand from the rules, in the file `stdout`.
+mod accents;
 mod blocks;
 mod build;
 mod kinds;
@@ -14,6 +15,10 @@ fn main() {
     names::allowed();
     names::pairs();
     names::in_blocks();
+    accents::folds();
+    accents::slots();
+    accents::pairs();
+    accents::in_blocks();
     numbers::bits();
     numbers::sizes();
     numbers::held();

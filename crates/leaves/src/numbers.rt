@@ -141,7 +141,7 @@ fn hold(bytes: u32, n: u32)
     say::text(b"held");
     say::number(bytes);
     say::number(n);
-    say::number(Disk::floppy().held(bytes, n));
+    say::number(Disk::floppy(Disk::PLAIN).held(bytes, n));
     say::end();
 }
 
@@ -161,15 +161,18 @@ pub fn held() {
 fn key(k: u32) {
     say::text(b"key");
     say::number(k);
-    say::truth(Disk::floppy().in_range(k));
+    say::truth(Disk::floppy(Disk::PLAIN).in_range(k));
     say::end();
 }
 
+// Whether four bytes are the tag of a plain disk, and of an international one; and the kind that they are taken for.
 fn tagged(a: u8, b: u8, c: u8, d: u8) {
     let bytes = [a, b, c, d];
     say::text(b"tagged");
     say::word(words::word(&bytes, 0));
-    say::truth(Disk::floppy().has_tag(&bytes));
+    say::truth(Disk::floppy(Disk::PLAIN).has_tag(&bytes));
+    say::truth(Disk::floppy(Disk::INTERNATIONAL).has_tag(&bytes));
+    say::number(Disk::of(&bytes).kind as u32);
     say::end();
 }
 
@@ -188,7 +191,7 @@ fn limits() {
 }
 
 pub fn disk() {
-    let disk = Disk::floppy();
+    let disk = Disk::floppy(Disk::PLAIN);
     say::text(b"blocks");
     say::number(disk.blocks);
     say::text(b"\nroot");
@@ -208,7 +211,11 @@ pub fn disk() {
     say::end();
     tagged(0x44, 0x4F, 0x53, 0x00);
     tagged(0x44, 0x4F, 0x53, 0x01);
+    tagged(0x44, 0x4F, 0x53, 0x02);
+    tagged(0x44, 0x4F, 0x53, 0x03);
+    tagged(0x44, 0x4F, 0x53, 0xFF);
     tagged(0x44, 0x4F, 0x73, 0x00);
+    tagged(0x44, 0x4F, 0x73, 0x02);
     tagged(0x00, 0x53, 0x4F, 0x44);
     key(0);
     key(1);

@@ -15,8 +15,7 @@ use Rattle.answers.specs.declared.Tested.{Tested}
 use Rattle.answers.specs.declared.Tested.the-variants.{Passed, Failed}
 use Rattle.words.specs.Word.{wordAt}
 use Rattle.volume.specs.declared.disk.Disk.{Disk}
-use Rattle.volume.proofs.Sizes.{floppy-sized as sized}
-use Rattle.volume.specs.Disks.{Sized, floppy, imageBytes, tagOf, rootOf, chainLimit}
+use Rattle.volume.specs.Disks.{Sized, imageBytes, tagOf, rootOf, chainLimit, diskOf}
 use Rattle.volume.specs.Blocks.{Holds, directory}
 use Rattle.volume.specs.Files.{sizeOf}
 use Rattle.volume.specs.Rules.{rootFault}
@@ -207,8 +206,6 @@ module _ (d : Disk) (s path : List ℕ) (n : ℕ) (e : n ≡ imageBytes d) where
 
 -- ---- the disk of today
 
-pub floppy-sized : (d : Disk) → d ≡ floppy → Sized d
-floppy-sized d e = rw e sized
-
-pub on-floppy : (d : Disk) (s path : List ℕ) (r : Found) → d ≡ floppy → r ≡ findOf d s path → Finds floppy s path r
-on-floppy d s path r e f = let g = rw e at f in record { answer = g; numbers = ap numbersOf g }
+-- on the disk that the image is taken for
+pub on-disk : (d : Disk) (s path : List ℕ) (r : Found) → d ≡ diskOf s → r ≡ findOf d s path → Finds (diskOf s) s path r
+on-disk d s path r e f = let g = rw e at f in record { answer = g; numbers = ap numbersOf g }

@@ -14,10 +14,12 @@ use Rattle.answers.specs.Refusals.{refusal}
 use Rattle.answers.specs.declared.Tested.the-variants.{Failed}
 use Rattle.answers.proofs.Clashes.{impossible}
 use Rattle.answers.proofs.Members.{unlisted}
+use Rattle.words.specs.Word.{wordAt}
 use Rattle.volume.specs.declared.disk.Disk.{Disk}
-use Rattle.volume.specs.Disks.{rootOf, inRange, chainLimit}
+use Rattle.volume.specs.Disks.{imageBytes, tagOf, rootOf, inRange, chainLimit, diskOf, NoTag}
 use Rattle.volume.specs.Names.{slotOf}
 use Rattle.volume.specs.Rules.{rootFault, entryFault}
+use Rattle.volume.proofs.Tags.{no-tag}
 use Rattle.volume.proofs.Breaks.{root-breaks, entry-breaks, key-inside, key-outside}
 use Rattle.volume.proofs.Given.{rootRefusals, entryRefusals, root-number, entry-number}
 use Rattle.lookup.specs.declared.find.Found.the-variants.{Directory, File}
@@ -25,7 +27,7 @@ use Rattle.lookup.specs.Paths.{components}
 use Rattle.lookup.specs.Search.{positionFault}
 use Rattle.lookup.specs.Lookup.{refuse, findOf}
 use Rattle.lookup.specs.Trails.{Trail}
-use Rattle.lookup.specs.Verdicts.{Opened, keyIn, IsFile, Stands, Missing, AsDirectory, Refuses, number-1}
+use Rattle.lookup.specs.Verdicts.{GoodForm, Opened, keyIn, IsFile, Stands, Missing, AsDirectory, Refuses, number-1}
 use Rattle.lookup.specs.Verdicts.{number-18, number-3, of-root, number-5, number-6, of-entry, number-19}
 use Rattle.lookup.specs.Verdicts.{number-20}
 use Rattle.lookup.proofs.Chains.{faultAt}
@@ -198,6 +200,26 @@ module _ (d : Disk) (s path : List ℕ) where
       go (number-19 h a) = absurd (omega arith)
       go (number-20 h a) = h
 
+  -- 3 if and only if length and path are right, and the image has not the disk's tag.
+  pub untagged-exactly : (k : ℕ)
+      → (findOf d s path ≡ refuse fault.bootTag k)
+      ↔ ((k ≡ 0) × (length s ≡ imageBytes d) × GoodForm path × (wordAt s 0 ≢ tagOf d))
+  untagged-exactly k = (
+    (λ e. go (refused-exactly 3 k .0 e)),
+    (λ (q, h, p, u). refused-exactly 3 k .1 (number-3 h p u refl q)),
+  )
+    where
+      go : Refuses d s path 3 k → (k ≡ 0) × (length s ≡ imageBytes d) × GoodForm path × (wordAt s 0 ≢ tagOf d)
+      go (number-1 h a b) = absurd (omega arith)
+      go (number-18 h f a) = absurd (omega arith)
+      go (number-3 h p u a b) = (b, h, p, u)
+      go (of-root h p u z b) = unlisted rootRefusals 3 3 tt (root-number z) refl
+      go (number-5 h y a) = absurd (omega arith)
+      go (number-6 h y l a) = absurd (omega arith)
+      go (of-entry h y l z) = unlisted entryRefusals 3 3 tt (entry-number z) refl
+      go (number-19 h a) = absurd (omega arith)
+      go (number-20 h a) = absurd (omega arith)
+
   -- ---- what is found
 
   -- A directory is found if and only if every component leads to one.
@@ -255,3 +277,12 @@ module _ (d : Disk) (s path : List ℕ) where
       go (leads-to o (used w p f u b q)) e = impossible cc
       go (leads-to o (missing w p f q)) e = impossible cc
       go (leads-to o (failing w p f q)) e = impossible cc
+
+-- On the disk that the image is taken for: 3 if and only if it has the boot tag of no kind.
+pub refused-tag : (s path : List ℕ) (k : ℕ)
+    → (findOf (diskOf s) s path ≡ refuse fault.bootTag k)
+    ↔ ((k ≡ 0) × (length s ≡ imageBytes (diskOf s)) × GoodForm path × NoTag s)
+refused-tag s path k =
+    let r = untagged-exactly (diskOf s) s path k in
+    let t = no-tag s in
+    (λ e. let (q, h, p, u) = r .0 e in (q, h, p, t .0 u), λ (q, h, p, u). r .1 (q, h, p, t .1 u))

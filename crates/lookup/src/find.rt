@@ -14,7 +14,7 @@ use volume::root::root_fault;
 ghost use mathlib.Core.Path.{_≡_};
 ghost use Prim.Native.Nat.{_≤_};
 ghost use lib.ListN.{length};
-ghost use Rattle.volume.specs.Disks.{Sized, floppy, imageBytes};
+ghost use Rattle.volume.specs.Disks.{Sized, imageBytes, diskOf};
 ghost use Rattle.lookup.specs.Paths.{longestPath, split};
 ghost use Rattle.lookup.specs.Lookup.{refuse, lookupFrom, fromRoot, findOf, Finds};
 ghost use Rattle.lookup.specs.Parts.{Looks};
@@ -107,9 +107,10 @@ pub fn find_on(disk: Disk, image: &[u8], path: &[u8]) -> Found
     refused(Fault::BOOT_TAG, 0)
 }
 
-// What a path leads to on a floppy.
+// What a path leads to on an 880 KB floppy of the kind that its boot tag names.
 pub fn find(image: &[u8], path: &[u8]) -> Found
-    ensures { λ r. ⌜ Finds floppy (now (image .entry)) (now (path .entry)) r ⌝ }
+    ensures { λ r. ⌜ Finds (diskOf (now (image .entry))) (now (image .entry)) (now (path .entry)) r ⌝ }
 {
-    find_on(Disk::floppy(), image, path)
+    let disk = Disk::of(image);
+    find_on(disk, image, path)
 }

@@ -17,7 +17,7 @@ use Rattle.answers.specs.declared.Refusal.{Refusal}
 use Rattle.answers.specs.declared.Tested.{Tested}
 use Rattle.answers.specs.declared.Tested.the-variants.{Passed, Failed}
 use Rattle.volume.specs.declared.disk.Disk.{Disk}
-use Rattle.volume.specs.Disks.{floppy, imageBytes}
+use Rattle.volume.specs.Disks.{imageBytes, diskOf}
 use Rattle.volume.specs.Files.{sizeOf}
 use Rattle.lookup.specs.declared.find.Found.{Found}
 use Rattle.lookup.specs.declared.find.Found.the-variants as found
@@ -157,9 +157,10 @@ module _ (d : Disk) (s path : List ℕ) (o : ℕ) (output : List ℕ) (f : Found
       go (found.Directory k c) e h q = promised r output (q ∙ rw (← e) refl) (rw q refl)
       go (found.Refused x) e h q = promised r output (q ∙ rw (← e) refl) (rw q refl)
 
-pub on-floppy : (d : Disk) (s path : List ℕ) (o : ℕ) (output : List ℕ) (r : Reading) (a : List ℕ) → d ≡ floppy
-    → Reads d s path o output r a → Reads floppy s path o output r a
-on-floppy d s path o output r a e h = rw e at h
+-- on the disk that the image is taken for
+pub on-disk : (d : Disk) (s path : List ℕ) (o : ℕ) (output : List ℕ) (r : Reading) (a : List ℕ) → d ≡ diskOf s
+    → Reads d s path o output r a → Reads (diskOf s) s path o output r a
+on-disk d s path o output r a e h = rw e at h
 
 -- one input has one outcome
 pub read-determined : (d : Disk) (s path : List ℕ) (o : ℕ) (output : List ℕ) (r r′ : Reading) (a a′ : List ℕ)

@@ -6,6 +6,7 @@ use mathlib.Core.Bool.{Bool, true, false}
 use mathlib.Core.List.{List, [], _∷_}
 use native.Mathlib.Omega.{arith}
 use lib.Dec.{eqb}
+use lib.ListN.{length}
 use borrow.Author.Tests.{eq-eqb, ne-eqb, eqb-true, eqb-false}
 use Rattle.answers.specs.Numbers as fault
 use Rattle.answers.specs.Tests.{pick, must, first}
@@ -14,9 +15,10 @@ use Rattle.answers.specs.declared.Tested.{Tested}
 use Rattle.answers.specs.declared.Tested.the-variants.{Passed, Failed}
 use Rattle.answers.proofs.Tests.{first-zero}
 use Rattle.answers.proofs.Clashes.{impossible}
+use Rattle.answers.proofs.Members.{unlisted}
 use Rattle.reach.specs.References.{At}
 use Rattle.volume.specs.declared.disk.Disk.{Disk}
-use Rattle.volume.specs.Disks.{inRange}
+use Rattle.volume.specs.Disks.{imageBytes, inRange, diskOf, NoTag}
 use Rattle.volume.specs.Blocks.{slots, wordOf}
 use Rattle.volume.specs.Files.{sizeOf, blocksOf}
 use Rattle.volume.specs.Rules.{fileFault, listFault, dataFault}
@@ -24,12 +26,15 @@ use Rattle.volume.specs.Breaks.{Inside}
 use Rattle.volume.proofs.Passes.{_&_}
 use Rattle.volume.proofs.Breaks.{header-breaks, header-sound, list-breaks, list-sound, data-breaks, data-sound}
 use Rattle.volume.proofs.Breaks.{key-inside, key-outside}
+use Rattle.volume.proofs.Given.{headerRefusals, listRefusals, dataRefusals, header-number, list-number, data-number}
 use Rattle.walk.specs.Nodes.{Node, list, datum, keyOf, keyFault, faultOf}
 use Rattle.walk.proofs.Passes.{key-passed, key-passes}
 use Rattle.lookup.specs.declared.find.Found.{Found}
 use Rattle.lookup.specs.declared.find.Found.the-variants as found
 use Rattle.lookup.specs.Lookup.{findOf}
+use Rattle.lookup.specs.Verdicts.{GoodForm}
 use Rattle.lookup.proofs.Deciding.{number-is, place-is}
+use Rattle.lookup.proofs.Refusing as lookup
 use Rattle.reading.specs.FileTests.{nodeFault, firstFault, fileNodes, blocksFault}
 use Rattle.reading.specs.Reads.{refuse, lastComponent, tested, reads, readOf}
 use Rattle.reading.specs.Outcomes.{GoodData, BadData, data-key, data-itself, GoodList, BadList, list-key}
@@ -267,3 +272,25 @@ module _ (d : Disk) (s path : List ℕ) (o n v k : ℕ) where
   pub refused-exactly : (readOf d s path o n ≡ refuse v k) ↔ Refuses d s path v k
   unfolding readOf
   refused-exactly = (read-why (findOf d s path) refl, why-read)
+
+-- On the disk that the image is taken for: 3 is the lookup's, so it is given if and only if the image has the boot tag
+-- of no kind.
+pub refused-tag : (s path : List ℕ) (o n k : ℕ)
+    → (readOf (diskOf s) s path o n ≡ refuse fault.bootTag k)
+    ↔ ((k ≡ 0) × (length s ≡ imageBytes (diskOf s)) × GoodForm path × NoTag s)
+refused-tag s path o n k = (
+  (λ e. lookup.refused-tag s path k .0 (go (refused-exactly d s path o n 3 k .0 e))),
+  (λ h. refused-exactly d s path o n 3 k .1 (of-lookup (lookup.refused-tag s path k .1 h))),
+)
+  where
+    d : Disk
+    d = diskOf s
+
+    go : Refuses d s path 3 k → findOf d s path ≡ found.Refused (refusal 3 k)
+    go (of-lookup e) = e
+    go (of-directory t c e a b) = absurd (omega arith)
+    go (of-header z c e b) = unlisted headerRefusals 3 3 tt (header-number b) refl
+    go (of-block h z c e f (at-data i x p y (data-key q w))) = absurd (omega arith)
+    go (of-block h z c e f (at-data i x p y (data-itself q b))) = unlisted dataRefusals 3 3 tt (data-number b) refl
+    go (of-block h z c e f (at-list j p y (list-key q w))) = absurd (omega arith)
+    go (of-block h z c e f (at-list j p y (list-itself q b))) = unlisted listRefusals 3 3 tt (list-number b) refl

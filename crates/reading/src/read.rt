@@ -12,7 +12,7 @@ ghost use Prim.Native.Nat.{_+_, _<_};
 ghost use lib.Dec.{eqb};
 ghost use Rattle.answers.specs.Tests.{pick};
 ghost use Rattle.lookup.specs.Paths.{slash};
-ghost use Rattle.volume.specs.Disks.{Sized, floppy};
+ghost use Rattle.volume.specs.Disks.{Sized, diskOf};
 ghost use Rattle.reading.specs.Reads.{lastComponent, Reads};
 ghost use Rattle.reading.specs.Parts.{handed};
 
@@ -80,10 +80,11 @@ fn read_on(disk: Disk, image: &[u8], path: &[u8], offset: usize, output: &mut [u
     }
 }
 
-// Reads a file of an 880 KB floppy of the old file system.
+// Reads a file of an 880 KB floppy of the kind that its boot tag names.
 pub fn read(image: &[u8], path: &[u8], offset: usize, output: &mut [u8]) -> Reading
-    ensures { λ r. ⌜ Reads floppy (now (image .entry)) (now (path .entry)) offset (now (output .entry)) r
-        (now (output .exit)) ⌝ }
+    ensures { λ r. ⌜ Reads (diskOf (now (image .entry))) (now (image .entry)) (now (path .entry)) offset
+        (now (output .entry)) r (now (output .exit)) ⌝ }
 {
-    read_on(Disk::floppy(), image, path, offset, output)
+    let disk = Disk::of(image);
+    read_on(disk, image, path, offset, output)
 }

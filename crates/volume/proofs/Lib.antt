@@ -1,8 +1,12 @@
 -- Laws of what specs/ defines, for this crate and those above it.
 -- a disk's numbers, and a file's
 pub mod Sizes
+-- boot tags: the kind and the disk of an image
+pub mod Tags
 -- how many data keys a file has
 pub mod Keys
+-- the rule of a table, by one test over it
+pub mod Tables
 -- names, folding and slots
 pub mod Names
 -- the tests of a block, part by part

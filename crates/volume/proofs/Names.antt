@@ -14,8 +14,9 @@ use Rattle.volume.specs.declared.disk.Disk.{Disk}
 use Rattle.answers.specs.Tests.{pick}
 use Rattle.answers.proofs.Clashes.{impossible}
 use Rattle.volume.specs.Blocks.{Holds, slots}
-use Rattle.volume.specs.Names.{foldPlain, foldOf, folded, hashFrom, slotOf, allowed, same, longest, nameLength}
-use Rattle.volume.specs.Names.{nameFrom, nameOf, nameGood}
+use Rattle.volume.specs.Disks.{international}
+use Rattle.volume.specs.Names.{foldPlain, accented, foldInternational, foldOf, folded, hashFrom, slotOf, allowed}
+use Rattle.volume.specs.Names.{same, longest, nameLength, nameFrom, nameOf, nameGood}
 
 -- ---- folding twice is folding once
 
@@ -43,9 +44,53 @@ plain-twice b = low (decLt b 97)
     low (yes h) = rw (fold-low b h) (fold-low b h)
     low (no h) = high (omega arith) (decLe b 122)
 
+module _ (b : ℕ) where
+  accented-not : b < 0xE0 → accented b ≡ false
+  unfolding accented pick
+  accented-not h = rw (lt-leb 0xE0 b h)
+
+  accented-is : accented b ≡ true → (0xE0 ≤ b) × (b ≤ 0xFE)
+  unfolding accented pick
+  accented-is = go (leb 0xE0 b) refl (leb b 0xFE) refl
+    where
+      go : (t : Bool) → leb 0xE0 b ≡ t → (u : Bool) → leb b 0xFE ≡ u
+          → pick t (pick u (pick (eqb b 0xF7) false true) false) false ≡ true → (0xE0 ≤ b) × (b ≤ 0xFE)
+      go true p true q e = (leb-true _ _ p, leb-true _ _ q)
+      go true p false q e = impossible cc
+      go false p u q e = impossible cc
+
+-- plain folding makes no letter with an accent
+accented-plain : (b : ℕ) → accented b ≡ false → accented (foldPlain b) ≡ false
+accented-plain b e = low (decLt b 97)
+  where
+    high : 97 ≤ b → Dec (b ≤ 122) → accented (foldPlain b) ≡ false
+    high g (yes h) = let l : b - 32 < 0xE0 = omega arith in rw (fold-mid b g h) (accented-not (b - 32) l)
+    high g (no h) = let l : 122 < b = omega arith in rw (fold-high b l) e
+
+    low : Dec (b < 97) → accented (foldPlain b) ≡ false
+    low (yes h) = rw (fold-low b h) e
+    low (no h) = high (omega arith) (decLe b 122)
+
+international-twice : (b : ℕ) → foldInternational (foldInternational b) ≡ foldInternational b
+unfolding foldInternational pick
+international-twice b = go (accented b) refl
+  where
+    go : (t : Bool) → accented b ≡ t → foldInternational (foldInternational b) ≡ foldInternational b
+    go true e =
+        let h = accented-is b e in
+        let l : b - 0x20 < 0xE0 = omega (arith, h .1) in
+        let g : 122 < b - 0x20 = omega (arith, h .0) in
+        rw (e, accented-not (b - 0x20) l) (fold-high (b - 0x20) g)
+    go false e = rw (e, accented-plain b e) (plain-twice b)
+
 pub fold-twice : (d : Disk) (b : ℕ) → foldOf d (foldOf d b) ≡ foldOf d b
-unfolding foldOf
-fold-twice d b = plain-twice b
+unfolding foldOf pick
+fold-twice d b = go (eqb (d .kind) international)
+  where
+    go : (t : Bool) → pick t (foldInternational (pick t (foldInternational b) (foldPlain b)))
+        (foldPlain (pick t (foldInternational b) (foldPlain b))) ≡ pick t (foldInternational b) (foldPlain b)
+    go true = international-twice b
+    go false = plain-twice b
 
 -- ---- equal folded names have equal slots: a fact of any folding
 hash-same : (d : Disk) (h : ℕ) (xs ys : List ℕ) → folded d xs ≡ folded d ys → hashFrom d h xs ≡ hashFrom d h ys

@@ -9,16 +9,13 @@ use Rattle.volume.specs.declared.disk.Disk.{Disk}
 use Rattle.answers.specs.Tests.{pick}
 use Rattle.answers.proofs.Clashes.{impossible}
 use Rattle.volume.specs.Blocks.{dataRoom}
-use Rattle.volume.specs.Disks.{floppy, Sized, mostBlocks, firstKey, inRange, dataBytes, fileLimit}
+use Rattle.volume.specs.Disks.{Sized, mostBlocks, firstKey, inRange, dataBytes, fileLimit}
 use Rattle.volume.specs.Files.{dataBlocks, heldOf}
 
 -- the one place where the data rule's number stands
 pub data-is : (d : Disk) → dataBytes d ≡ dataRoom
 unfolding dataBytes
 data-is d = refl
-
-pub floppy-sized : Sized floppy
-floppy-sized = record { least = omega arith; most = omega arith; kind = refl }
 
 module _ (d : Disk) where
   pub limit-most : Sized d → fileLimit d ≤ 2079232

@@ -1,10 +1,16 @@
 -- The worked cases that docs/FORMAT.md stars hold, all in one statement. Assumes nothing.
+use Prim.Native.Nat.{ℕ}
 use mathlib.Core.Path.{refl}
+use mathlib.Core.Logic.{inl, inr}
+use Rattle.answers.specs.Members.{_∈_}
 use Rattle.answers.specs.Tests.{pick}
-use Rattle.volume.specs.Disks.{floppy, dataBytes}
-use Rattle.volume.specs.Names.{slotOf, hashFrom, foldOf, foldPlain}
+use Rattle.volume.specs.Disks.{kinds, floppy, dataBytes}
+use Rattle.volume.specs.Names.{slotOf, hashFrom, foldOf, foldInternational, accented, foldPlain}
 use Rattle.volume.specs.Stars.{answer, stars, Hold}
 
-pub stars-hold : Hold floppy stars
-unfolding answer slotOf hashFrom foldOf foldPlain pick dataBytes
-stars-hold = refl
+-- on a disk of either kind
+pub stars-hold : (k : ℕ) → k ∈ kinds → Hold (floppy k) stars
+unfolding answer slotOf hashFrom foldOf foldInternational accented foldPlain pick dataBytes
+stars-hold k (inl e) = rw e refl
+stars-hold k (inr (inl e)) = rw e refl
+stars-hold k (inr (inr x)) = absurd x

@@ -1,18 +1,36 @@
 -- A disk has a number of blocks and a kind, the last byte of its boot tag. All its other numbers follow from these
 -- two (docs/FORMAT.md, "What is built"): nothing above this file knows them as numbers, but `Floppy` and what is said
 -- of the exported calls.
-use Prim.Native.Nat.{ℕ, _+_, _-_, _*_, _/_, _≤_}
+use Prim.Native.Nat.{ℕ, _+_, _-_, _*_, _/_, _%_, _≤_}
 use mathlib.Core.Path.{_≡_}
-use mathlib.Core.Bool.{Bool, false}
+use mathlib.Core.Logic.{_≢_}
+use mathlib.Core.Bool.{Bool, true, false}
+use mathlib.Core.List.{List, [], _∷_}
 use lib.Dec.{ltb}
-use Rattle.words.specs.Word.{four}
+use Rattle.answers.specs.Members.{_∈_, has}
+use Rattle.answers.specs.Tests.{pick}
+use Rattle.words.specs.Word.{four, wordAt}
 use Rattle.volume.specs.declared.disk.Disk.{Disk}
 use Rattle.volume.specs.Blocks.{blockBytes, dataRoom}
-use Rattle.answers.specs.Tests.{pick}
 
--- 880 KB, the old file system
-abbrev pub floppy : Disk
-floppy = record { blocks = 1760; kind = 0 }
+-- ---- kinds, each by the last byte of its boot tag
+
+-- the old file system
+abbrev pub plain : ℕ
+plain = 0
+
+-- the old file system, where letters with accents are folded as well
+abbrev pub international : ℕ
+international = 2
+
+abbrev pub kinds : List ℕ
+kinds = plain ∷ international ∷ []
+
+-- ---- a disk's numbers
+
+-- 880 KB, of any kind
+abbrev pub floppy : ℕ → Disk
+floppy kind = record { blocks = 1760; kind = kind }
 
 -- the two boot blocks have no key
 abbrev pub firstKey : ℕ
@@ -27,7 +45,7 @@ mostBlocks = firstKey + 32 * 127
 pub record Sized (d : Disk) : Type 0 where
   pub least : 8 ≤ d .blocks
   pub most : d .blocks ≤ mostBlocks
-  pub kind : d .kind ≡ 0
+  pub kind : has kinds (d .kind) ≡ true
 
 abbrev pub imageBytes : Disk → ℕ
 imageBytes d = d .blocks * blockBytes
@@ -65,3 +83,21 @@ dataStart d = blockBytes - dataRoom
 -- a file has at most a data block for each block but the boot blocks, the root, the bitmap block and its header
 abbrev pub fileLimit : Disk → ℕ
 fileLimit d = (d .blocks - 5) * dataBytes d
+
+-- ---- the disk of an image
+
+-- the last byte of the first word of image s
+abbrev pub tagByte : List ℕ → ℕ
+tagByte s = wordAt s 0 % 256
+
+-- the kind that it names. Where it names none, plain is taken: that kind has another tag, so the image is refused by 3.
+unfoldable pub kindIn : List ℕ → ℕ
+kindIn s = pick (has kinds (tagByte s)) (tagByte s) plain
+
+-- what every call that is lent an image takes it for
+abbrev pub diskOf : List ℕ → Disk
+diskOf s = floppy (kindIn s)
+
+-- the first word of image s is the boot tag of no kind
+abbrev pub NoTag : List ℕ → Type 0
+NoTag s = (k : ℕ) → k ∈ kinds → wordAt s 0 ≢ tagOf (floppy k)

@@ -10,7 +10,7 @@ use lib.ListN.{length}
 use Rattle.words.specs.Word.{wordAt}
 use Rattle.reach.specs.References.{At, _∈_, Reached, Owned}
 use Rattle.volume.specs.declared.disk.Disk.{Disk}
-use Rattle.volume.specs.Disks.{firstKey, imageBytes, tagOf, rootOf, fileLimit}
+use Rattle.volume.specs.Disks.{kinds, floppy, firstKey, imageBytes, tagOf, rootOf, fileLimit}
 use Rattle.volume.specs.Blocks.{slots, wordOf, sumOf, slotWord, directory, headerType, listType, dataType}
 use Rattle.volume.specs.Blocks.{rootKind, directoryKind, fileKind}
 use Rattle.volume.specs.Names.{folded, slotOf, nameOf, nameGood}
@@ -142,7 +142,12 @@ BitRight d s k = (isFree s (bitmapKeyOf d s) k ≡ false) ↔ Used d s k
 
 -- ---- the volume
 
+-- of a disk
 pub record Volume (d : Disk) (s : List ℕ) : Type 0 where
   pub tree : Tree d s
   pub valid : Valid d s
   pub bits : (k : ℕ) → firstKey ≤ k → k < d .blocks → BitRight d s k
+
+-- of a kind that exists: the one whose tag the image has
+abbrev pub IsVolume : List ℕ → Type 0
+IsVolume s = (k : ℕ) × (k ∈ kinds) × Volume (floppy k) s

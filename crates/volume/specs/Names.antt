@@ -7,6 +7,7 @@ use lib.Dec.{leb, eqb}
 use lib.ListN.{length, getD}
 use lib.Seq.{slice}
 use Rattle.volume.specs.declared.disk.Disk.{Disk}
+use Rattle.volume.specs.Disks.{international}
 use Rattle.volume.specs.Blocks.{blockBytes, slots}
 use Rattle.answers.specs.Tests.{pick}
 
@@ -14,9 +15,17 @@ use Rattle.answers.specs.Tests.{pick}
 unfoldable pub foldPlain : ℕ → ℕ
 foldPlain b = pick (leb 97 b) (pick (leb b 122) (b - 32) b) b
 
+-- E0 to FE but F7: the small letters with accents
+unfoldable pub accented : ℕ → Bool
+accented b = pick (leb 0xE0 b) (pick (leb b 0xFE) (pick (eqb b 0xF7) false true) false) false
+
+-- these go down by 20 hex too
+unfoldable pub foldInternational : ℕ → ℕ
+foldInternational b = pick (accented b) (b - 0x20) (foldPlain b)
+
 -- a byte folded as its disk folds it
 unfoldable pub foldOf : Disk → ℕ → ℕ
-foldOf d b = foldPlain b
+foldOf d b = pick (eqb (d .kind) international) (foldInternational b) (foldPlain b)
 
 abbrev pub folded : Disk → List ℕ → List ℕ
 folded d name = map (foldOf d) name

@@ -6,7 +6,7 @@ ghost use lib.ListN.{length};
 ghost use lib.Dec.{eqb};
 ghost use Rattle.words.specs.Word.{wordAt};
 ghost use Rattle.volume.specs.Disks.{Sized, mostBlocks, floppy, imageBytes, claimBytes, tagOf, rootOf, inRange};
-ghost use Rattle.volume.specs.Disks.{bitSpan, chainLimit, dataBytes, fileLimit};
+ghost use Rattle.volume.specs.Disks.{bitSpan, chainLimit, dataBytes, fileLimit, kindIn, diskOf};
 ghost use Rattle.volume.specs.Files.{dataBlocks, heldOf};
 
 // The number of its blocks, and the last byte of its boot tag.
@@ -15,18 +15,45 @@ pub struct Disk {
     pub kind: u8,
 }
 
+// The kind that an image's first word names by its last byte, and the plain one where it names none.
+fn kind_in(image: &[u8]) -> u8
+    ensures { λ r. ⌜ r ≡ kindIn (now (image .entry)) ⌝ }
+{
+    if image.len() < 4 {
+        return Disk::PLAIN;
+    }
+    if words::word(image, 0) % 256 == Disk::INTERNATIONAL as u32 {
+        return Disk::INTERNATIONAL;
+    }
+    Disk::PLAIN
+}
+
 impl Disk {
+    // The old file system.
+    pub const PLAIN: u8 = 0;
+
+    // The same, where letters with accents are folded as well.
+    pub const INTERNATIONAL: u8 = 2;
+
     // The two boot blocks have no key.
     pub const FIRST_KEY: u32 = 2;
 
-    // 880 KB, the old file system.
-    pub fn floppy() -> Disk
-        ensures { λ r. ⌜ r ≡ floppy ⌝ }
+    // 880 KB, of any kind.
+    pub fn floppy(kind: u8) -> Disk
+        ensures { λ r. ⌜ r ≡ floppy kind ⌝ }
     {
         Disk {
             blocks: 1760,
-            kind: 0,
+            kind: kind,
         }
+    }
+
+    // The disk that an image is taken for: its boot tag gives the kind. An image whose tag is of no kind is taken for
+    // a plain disk, whose tag it does not have.
+    pub fn of(image: &[u8]) -> Disk
+        ensures { λ r. ⌜ r ≡ diskOf (now (image .entry)) ⌝ }
+    {
+        Disk::floppy(kind_in(image))
     }
 
     // How long its image is.

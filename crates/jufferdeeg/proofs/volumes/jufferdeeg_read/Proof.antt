@@ -1,5 +1,5 @@
 -- `jufferdeeg::volumes::jufferdeeg_read` meets its contract. Assumes nothing.
-use Rattle.jufferdeeg.proofs.Crossing.{reads as reads-floppy}
+use Rattle.jufferdeeg.proofs.Crossing.{reads as reads-image}
 use borrow.Author.Needs.{needs}
 use Rattle.jufferdeeg.proofs.volumes.jufferdeeg_read.Statement.{statement}
 use Rattle.jufferdeeg.proofs.volumes.jufferdeeg_read.Tie as tie
@@ -14,7 +14,7 @@ same-length : tie.Need-same-length
 same-length c = search needs
 
 returns : tie.Need-returns
-returns c = reads-floppy _ _ _ _ _ _ _ (c .before .before .before .read .ensures) (c .read-numbers .ensures)
+returns c = reads-image _ _ _ _ _ _ _ (c .before .before .before .read .ensures) (c .read-numbers .ensures)
 
 pub jufferdeeg-read-spec : {M : Type 1} → statement M
 jufferdeeg-read-spec = tie.close (tie.spec read-requires read-numbers-requires same-length returns)

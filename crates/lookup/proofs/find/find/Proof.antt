@@ -1,17 +1,18 @@
 -- `lookup::find::find` meets its contract. Assumes nothing.
-use Rattle.lookup.proofs.Lookups.{floppy-sized, on-floppy}
+use Rattle.volume.proofs.Tags.{disk-sized}
+use Rattle.lookup.proofs.Lookups.{on-disk}
 use borrow.Author.Needs.{needs}
 use Rattle.lookup.proofs.find.find.Statement.{statement}
 use Rattle.lookup.proofs.find.find.Tie as tie
 
-floppy-requires : tie.Need-floppy-requires
-floppy-requires c κs = search needs
+of-requires : tie.Need-of-requires
+of-requires c κs = search needs
 
 find-on-requires : tie.Need-find-on-requires
-find-on-requires c κs = search floppy-sized depth 7
+find-on-requires c κs = search disk-sized depth 7
 
 returns : tie.Need-returns
-returns c = search on-floppy depth 7
+returns c = search on-disk depth 7
 
 pub find-spec : {M : Type 1} → statement M
-find-spec = tie.close (tie.spec floppy-requires find-on-requires returns)
+find-spec = tie.close (tie.spec of-requires find-on-requires returns)
