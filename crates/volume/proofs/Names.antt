@@ -51,13 +51,13 @@ module _ (b : ℕ) where
 
   accented-is : accented b ≡ true → (0xE0 ≤ b) × (b ≤ 0xFE)
   unfolding accented pick
-  accented-is = go (leb 0xE0 b) refl (leb b 0xFE) refl
+  accented-is = go (leb 0xE0 b) refl (leb b 0xFE) refl _
     where
-      go : (t : Bool) → leb 0xE0 b ≡ t → (u : Bool) → leb b 0xFE ≡ u
-          → pick t (pick u (pick (eqb b 0xF7) false true) false) false ≡ true → (0xE0 ≤ b) × (b ≤ 0xFE)
-      go true p true q e = (leb-true _ _ p, leb-true _ _ q)
-      go true p false q e = impossible cc
-      go false p u q e = impossible cc
+      go : (t : Bool) → leb 0xE0 b ≡ t → (u : Bool) → leb b 0xFE ≡ u → (i : Bool)
+          → pick t (pick u i false) false ≡ true → (0xE0 ≤ b) × (b ≤ 0xFE)
+      go true p true q i e = (leb-true _ _ p, leb-true _ _ q)
+      go true p false q i e = impossible cc
+      go false p u q i e = impossible cc
 
 -- plain folding makes no letter with an accent
 accented-plain : (b : ℕ) → accented b ≡ false → accented (foldPlain b) ≡ false
@@ -91,6 +91,26 @@ fold-twice d b = go (eqb (d .kind) international)
         (foldPlain (pick t (foldInternational b) (foldPlain b))) ≡ pick t (foldInternational b) (foldPlain b)
     go true = international-twice b
     go false = plain-twice b
+
+-- ---- a byte's folding, from what code knows of the byte and the disk
+
+module _ (d : Disk) (b r : ℕ) where
+  -- below the letters with accents the two foldings are one
+  pub fold-below : b < 0x80 → r ≡ foldPlain b → r ≡ foldOf d b
+  unfolding foldOf foldInternational pick
+  fold-below h e = e ∙ go (eqb (d .kind) international)
+    where
+      go : (t : Bool) → foldPlain b ≡ pick t (pick (accented b) (b - 0x20) (foldPlain b)) (foldPlain b)
+      go true = rw (accented-not b (omega arith)) refl
+      go false = refl
+
+  pub fold-accents : d .kind ≡ international → r ≡ foldInternational b → r ≡ foldOf d b
+  unfolding foldOf pick
+  fold-accents k e = e ∙ rw (eq-eqb (d .kind) international k) refl
+
+  pub fold-other : (d .kind ≡ international → ⊥) → r ≡ foldPlain b → r ≡ foldOf d b
+  unfolding foldOf pick
+  fold-other k e = e ∙ rw (ne-eqb (d .kind) international k) refl
 
 -- ---- equal folded names have equal slots: a fact of any folding
 hash-same : (d : Disk) (h : ℕ) (xs ys : List ℕ) → folded d xs ≡ folded d ys → hashFrom d h xs ≡ hashFrom d h ys

@@ -49,10 +49,14 @@ fn fold_international(b: u8) -> u8
     FOLDED[b as usize]
 }
 
-// A byte folded as its disk folds it.
+// A byte folded as its disk folds it. Bytes below 80 hex fold alike on every disk, and do without the table: the
+// compiler copies it to the stack whenever it is looked at.
 pub fn fold(disk: Disk, b: u8) -> u8
     ensures { λ r. ⌜ r ≡ foldOf disk b ⌝ }
 {
+    if b < 0x80 {
+        return fold_plain(b);
+    }
     if disk.kind == Disk::INTERNATIONAL {
         return fold_international(b);
     }
