@@ -1,5 +1,5 @@
-/* Jufferdeeg: audits the image of an 880 KB floppy of the old file system, finds and reads its files, checks a
- * program file, loads it into memory and moves a loaded program to other addresses.
+/* Jufferdeeg: audits the image of an 880 KB floppy of the old file system, plain or international, finds and reads
+ * its files, checks a program file, loads it into memory and moves a loaded program to other addresses.
  *
  * `./make-archive` proves the library and makes target/native/libjufferdeeg.a for this processor, x86-64 or
  * aarch64. It needs memcpy and memset of a C library, and nothing else from outside.
@@ -37,7 +37,7 @@ extern "C" {
  * the path, counted from 0; the byte of a word of the program file; an entry of the bases, counted from 0. */
 #define JUFFERDEEG_IMAGE_LENGTH 1     /* [0] the image is not 901,120 bytes long */
 #define JUFFERDEEG_CLAIM_AREA 2       /* [0] the claim area is short */
-#define JUFFERDEEG_BOOT_TAG 3         /* [0] the boot tag is not that of the old file system */
+#define JUFFERDEEG_BOOT_TAG 3         /* [0] the boot tag is not 44 4F 53 00 or 44 4F 53 02 */
 #define JUFFERDEEG_ROOT_WORDS 4       /* [880] a word of the root that has one value only is wrong */
 #define JUFFERDEEG_BAD_KEY 5          /* [key] it is not in 2 to 1,759 */
 #define JUFFERDEEG_CLAIMED_TWICE 6    /* [key] audit: it is claimed already; find, read: its chain is too long */
@@ -80,7 +80,13 @@ extern "C" {
  * Left: the sentence, as far as it fits and without an end mark; the rest of the output stays. */
 size_t jufferdeeg_reason(uint32_t number, uint8_t *output, size_t output_bytes);
 
-/* ---- volumes */
+/* ---- volumes
+ *
+ * The last byte of the boot tag is the kind of the disk, and every call takes it from the image: 00 is plain, 02 is
+ * international. Kinds differ in which names are equal. On a plain disk upper and lower case of a to z are the same;
+ * on an international one so are bytes C0 to DE and the bytes 20 hex above them, but for D7 and F7, which are the
+ * letters with accents of ISO 8859-1. A name or a path is just its bytes: text in another encoding, such as UTF-8, is
+ * for the caller to convert. */
 
 /* The length of an image, and of the shortest claim area. */
 #define JUFFERDEEG_IMAGE_BYTES 901120
@@ -97,8 +103,8 @@ struct jufferdeeg_audit_numbers {
     uint32_t free; /* used and free are 1,758 together */
 };
 
-/* Audits an image: with a claim area that is long enough, number is 0 if and only if it is a sound volume, without
- * links.
+/* Audits an image: with a claim area that is long enough, number is 0 if and only if it is a sound volume of the kind
+ * that its boot tag names, without links.
  *
  * Lent: the image; a claim area, of JUFFERDEEG_CLAIM_BYTES or more, whose contents do not matter.
  * Left: accepted, claim byte k is 1 if block k is in use, and every other byte of the claim area is 0; refused, the
@@ -124,7 +130,7 @@ struct jufferdeeg_find_numbers {
 
 /* Finds what a path leads to, on any image. A path is components with one '/' between two of them, none before the
  * first or after the last, and has at most 255 bytes. A component has 1 to 30 bytes, none of them '/' or ':'. The
- * empty path has no component: it is the root. Upper and lower case of a to z are the same.
+ * empty path has no component: it is the root. Which names are equal is said above.
  *
  * Lent: the image; the path, without an end mark.
  * Left: nothing is written.
