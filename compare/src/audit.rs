@@ -9,8 +9,8 @@ use std::collections::BTreeSet;
 
 use crate::bitmap::is_free;
 use crate::blocks::{self, DataAt, EntryAt, ListAt, DIRECTORY};
-use crate::disk::Disk;
-use crate::names::{fold, name};
+use crate::disk::{claim_length, image_length, Disk};
+use crate::names::{folded, name};
 use crate::program::Refusal;
 use crate::sizes::{data_blocks, keys_here, keys_left};
 use crate::words::{key_word, slot_word, word, BLOCK_BYTES, TABLE};
@@ -32,11 +32,14 @@ pub struct Report {
     pub free: u32,
 }
 
-/// Audits an image. The claim area is written whole: 1 for each block reached if the image is accepted, else 0.
-pub fn audit(disk: &Disk, image: &[u8], claim: &mut [u8]) -> Result<Report, Refusal> {
+/// Audits an image of so many blocks, which says itself of what kind it is. The claim area is written whole: 1 for each
+/// block reached if the image is accepted, else 0.
+pub fn audit(blocks: u32, image: &[u8], claim: &mut [u8]) -> Result<Report, Refusal> {
     claim.fill(0);
-    lengths_and_tag(disk, image, claim.len())?;
-    let mut walk = Walk::new(disk, image);
+    passed(if image.len() == image_length(blocks) { 0 } else { 1 }, 0)?;
+    passed(if claim.len() >= claim_length(blocks) { 0 } else { 2 }, 0)?;
+    let disk = Disk::of(blocks, image).ok_or(Refusal::at(3, 0))?;
+    let mut walk = Walk::new(&disk, image);
     let bitmap = walk.root()?;
     while let Some(at) = walk.waiting.pop() {
         walk.visit(at)?;
@@ -52,20 +55,6 @@ pub(crate) fn passed(number: u32, place: u32) -> Result<(), Refusal> {
         0 => Ok(()),
         _ => Err(Refusal::at(number, place as usize)),
     }
-}
-
-/// What is asked before any block.
-fn lengths_and_tag(disk: &Disk, image: &[u8], claim: usize) -> Result<(), Refusal> {
-    let number = if image.len() != disk.image_length() {
-        1
-    } else if claim < disk.claim_length() {
-        2
-    } else if !image.starts_with(&disk.boot_tag()) {
-        3
-    } else {
-        0
-    };
-    passed(number, 0)
 }
 
 /// A walk through an image of the right length.
@@ -122,8 +111,8 @@ impl<'a> Walk<'a> {
     /// An entry and all that a file has; of a directory, the contents wait.
     fn visit(&mut self, at: EntryAt) -> Result<(), Refusal> {
         let block = self.claim(at.key)?;
-        passed(blocks::entry(block, at), at.key)?;
-        let folded = name(block).into_iter().flatten().map(|&byte| fold(byte)).collect();
+        passed(blocks::entry(self.disk, block, at), at.key)?;
+        let folded = name(block).map(|name| folded(self.disk, name)).unwrap_or_default();
         passed(if self.names.insert((at.directory, folded)) { 0 } else { 13 }, at.key)?;
 
         let next = word(block, 124);
@@ -182,9 +171,8 @@ impl<'a> Walk<'a> {
 #[cfg(test)]
 mod tests {
     use super::*;
+    use crate::disk::FLOPPY;
     use crate::words::{mend, put};
-
-    const DISK: Disk = Disk::FLOPPY;
 
     /// A block of an image that may be changed.
     fn at(image: &mut [u8], key: u32) -> &mut [u8] {
@@ -211,16 +199,23 @@ mod tests {
         image
     }
 
+    /// The image with another last byte in its tag.
+    fn of_kind(image: &[u8], kind: u8) -> Vec<u8> {
+        let mut image = image.to_vec();
+        image[3] = kind;
+        image
+    }
+
     /// What an audit answers, and the claim area after it.
     fn audited(image: &[u8], claim: usize) -> (Result<Report, Refusal>, Vec<u8>) {
         let mut claim = vec![0xAA; claim];
-        (audit(&DISK, image, &mut claim), claim)
+        (audit(FLOPPY, image, &mut claim), claim)
     }
 
     #[test]
     fn the_empty_volume() {
-        for bitmap in [2, 3, 879, 881, 1759] {
-            let (answer, claim) = audited(&empty(bitmap), 1760);
+        for (bitmap, kind) in [2, 3, 879, 881, 1759].into_iter().flat_map(|key| [(key, 0), (key, 2)]) {
+            let (answer, claim) = audited(&of_kind(&empty(bitmap), kind), 1760);
             assert_eq!(answer, Ok(Report { used: 2, free: 1756, ..Report::default() }), "bitmap {bitmap}");
             let claimed: Vec<usize> = (0..1760).filter(|&key| claim[key] != 0).collect();
             let mut wanted = [880, bitmap as usize];
@@ -248,10 +243,19 @@ mod tests {
             (&good, 1759, 2),
             (&good, 0, 2),
             (&untagged, 1760, 3),
+            (&of_kind(&untagged, 3), 1760, 3),
+            (&of_kind(&untagged, 4), 1760, 3),
+            (&of_kind(&untagged, 0xFF), 1760, 3),
+            // these two are kinds, and the root is next
+            (&of_kind(&untagged, 0), 1759, 2),
+            (&of_kind(&untagged, 2), 1759, 2),
         ] {
             let (answer, claim) = audited(image, claim);
             assert_eq!(answer, Err(Refusal::at(number, 0)), "{} bytes", image.len());
             assert!(claim.iter().all(|&byte| byte == 0), "{} bytes", image.len());
+        }
+        for kind in [0, 2] {
+            assert_eq!(audited(&of_kind(&untagged, kind), 1760).0, Err(Refusal::at(7, 880)), "{kind}");
         }
     }
 
@@ -304,5 +308,34 @@ mod tests {
         }
         let report = Report { directories: 2, files: 1, list_blocks: 0, data_blocks: 1, used: 6, free: 1752 };
         assert_eq!(audited(&image, 1760).0, Ok(report));
+    }
+    /// A volume with an empty file of this name in this slot of the root.
+    fn with_file(kind: u8, name: &[u8], slot: usize) -> Vec<u8> {
+        let mut image = of_kind(&empty(3), kind);
+        let block = at(&mut image, 4);
+        [(0, 2), (1, 4), (125, 880), (127, 0xFFFF_FFFD)].into_iter().for_each(|(w, value)| put(block, w, value));
+        block[432] = name.len() as u8;
+        block[433..][..name.len()].copy_from_slice(name);
+        mend(block, 5);
+        put(at(&mut image, 880), 6 + slot, 4);
+        mend(at(&mut image, 880), 5);
+        let bits = word(at(&mut image, 3), 1);
+        put(at(&mut image, 3), 1, bits & !0b100);
+        mend(at(&mut image, 3), 0);
+        image
+    }
+
+    /// Slots worked out by hand, and a file of that name in every slot of the root.
+    #[test]
+    fn the_kind_decides_the_slot() {
+        let report = Report { files: 1, used: 3, free: 1755, ..Report::default() };
+        for (name, plain, international) in [(&b"\xE0"[..], 21, 61), (b"M\xE9t\xE9o", 3, 67), (b"\xFF", 52, 52)] {
+            for slot in 0..72 {
+                for (kind, right) in [(0, plain), (2, international)] {
+                    let due = if slot == right { Ok(report) } else { Err(Refusal::at(12, 4)) };
+                    assert_eq!(audited(&with_file(kind, name, slot), 1760).0, due, "{name:?} in {slot}");
+                }
+            }
+        }
     }
 }

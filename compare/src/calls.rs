@@ -2,13 +2,11 @@
 
 use crate::audit::{audit, Report};
 use crate::counter::SENTENCES;
-use crate::disk::Disk;
+use crate::disk::FLOPPY;
 use crate::loader::{load, relocate, Lent, Loaded};
 use crate::lookup::{find, Found};
 use crate::program::{read as read_program, Refusal};
 use crate::reading::read;
-
-const DISK: Disk = Disk::FLOPPY;
 
 /// Who makes calls.
 pub trait Calls {
@@ -50,15 +48,15 @@ impl Calls for Opinion {
     const WATCHED: bool = false;
 
     fn audit(&mut self, image: &[u8], claim: &mut [u8]) -> Result<Report, Refusal> {
-        audit(&DISK, image, claim)
+        audit(FLOPPY, image, claim)
     }
 
     fn find(&mut self, image: &[u8], path: &[u8]) -> Result<Found, Refusal> {
-        find(&DISK, image, path)
+        find(FLOPPY, image, path)
     }
 
     fn read(&mut self, image: &[u8], path: &[u8], offset: usize, output: &mut [u8]) -> Result<usize, Refusal> {
-        read(&DISK, image, path, offset, output)
+        read(FLOPPY, image, path, offset, output)
     }
 
     fn check(&mut self, file: &[u8]) -> Result<Loaded, Refusal> {

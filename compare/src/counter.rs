@@ -5,13 +5,11 @@
 
 use crate::audit::{audit, Report};
 use crate::blocks::DIRECTORY;
-use crate::disk::Disk;
+use crate::disk::{claim_length, image_length, FLOPPY};
 use crate::loader::{load, relocate, Lent, Loaded, RECORD};
 use crate::lookup::{find, Found};
 use crate::program::{read as read_program, Refusal, HUNKS};
 use crate::reading::read;
-
-const DISK: Disk = Disk::FLOPPY;
 
 /// The longest image that the tool takes, the longest program file, and the longest argument.
 pub const IMAGE_ROOM: usize = 1_802_240;
@@ -28,7 +26,7 @@ pub const BASES: usize = 256;
 pub const SENTENCES: [(u32, &str); 34] = [
     (1, "the image is not 901120 bytes long"),
     (2, "the claim area is too short"),
-    (3, "the image does not begin with the boot tag DOS 0"),
+    (3, "the image does not begin with the boot tag DOS 0 or DOS 2"),
     (4, "a fixed word of the root block is wrong"),
     (5, "a key is not in 2 to 1759"),
     (6, "a block is claimed twice, or a chain is too long"),
@@ -114,8 +112,8 @@ pub fn line(name: &[u8], text: &str) -> Vec<u8> {
 
 /// What an audit says of an image, and whether it accepts it.
 pub fn audited(image: &[u8]) -> (String, bool) {
-    let mut claim = vec![0; DISK.claim_length()];
-    match audit(&DISK, image, &mut claim) {
+    let mut claim = vec![0; claim_length(FLOPPY)];
+    match audit(FLOPPY, image, &mut claim) {
         Ok(Report { directories, files, list_blocks, data_blocks, used, free }) => {
             let entries = format!("{directories} directories, {files} files");
             let blocks = format!("{list_blocks} list blocks, {data_blocks} data blocks, {used} used, {free} free");
@@ -127,7 +125,7 @@ pub fn audited(image: &[u8]) -> (String, bool) {
 
 /// What a lookup says of a path, and whether it leads anywhere.
 pub fn looked_up(image: &[u8], path: &[u8]) -> (String, bool) {
-    match find(&DISK, image, path) {
+    match find(FLOPPY, image, path) {
         Ok(Found { kind, key, compared, .. }) if kind == DIRECTORY => {
             (format!("directory, key {key}, compared {compared}"), true)
         }
@@ -140,8 +138,9 @@ pub fn looked_up(image: &[u8], path: &[u8]) -> (String, bool) {
 
 /// All bytes of a file on an image.
 pub fn bytes_of(image: &[u8], path: &[u8]) -> Result<Vec<u8>, Refusal> {
-    let mut output = vec![0; DISK.file_limit() as usize];
-    let count = read(&DISK, image, path, 0, &mut output)?;
+    // no file is as long as its image
+    let mut output = vec![0; image_length(FLOPPY)];
+    let count = read(FLOPPY, image, path, 0, &mut output)?;
     output.truncate(count);
     Ok(output)
 }

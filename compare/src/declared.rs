@@ -10,8 +10,8 @@ use std::collections::{BTreeMap, BTreeSet};
 
 use crate::audit::{audit, Report};
 use crate::bitmap::is_free;
-use crate::disk::Disk;
-use crate::names::{fold, name, slot};
+use crate::disk::{image_length, Disk};
+use crate::names::{folded, name, slot};
 use crate::program::Refusal;
 use crate::words::{key_word, slot_word, sum, word, BLOCK_BYTES, TABLE};
 
@@ -33,9 +33,9 @@ impl Finding {
 }
 
 /// What an audit answers, which has to go with what an examination finds: panics where the two differ.
-pub fn agreed(disk: &Disk, image: &[u8], claim: &mut [u8]) -> Result<Report, Refusal> {
-    let answer = audit(disk, image, claim);
-    examine(disk, image).hold(answer, claim);
+pub fn agreed(blocks: u32, image: &[u8], claim: &mut [u8]) -> Result<Report, Refusal> {
+    let answer = audit(blocks, image, claim);
+    examine(blocks, image).hold(answer, claim);
     answer
 }
 
@@ -61,15 +61,19 @@ impl Finding {
     }
 }
 
-/// Examines an image.
-pub fn examine(disk: &Disk, image: &[u8]) -> Finding {
-    if image.len() != disk.image_length() {
-        return Finding { faults: vec![Refusal::at(1, 0)], reached: BTreeSet::new(), report: Report::default() };
+/// Examines an image that is to have so many blocks. What is of no kind has no other faults.
+pub fn examine(blocks: u32, image: &[u8]) -> Finding {
+    let only = |number| {
+        let faults = vec![Refusal::at(number, 0)];
+        Finding { faults, reached: BTreeSet::new(), report: Report::default() }
+    };
+    if image.len() != image_length(blocks) {
+        return only(1);
     }
-    let view = View { disk, image };
+    let Some(disk) = Disk::of(blocks, image) else { return only(3) };
+    let view = View { disk: &disk, image };
     let references = view.references();
     let mut check = Check { view, references: &references, faults: Vec::new() };
-    check.note(image.starts_with(&disk.boot_tag()), 3, 0);
     let reached = check.ownership();
     check.sums(&reached);
     check.root();
@@ -272,7 +276,7 @@ impl Check<'_> {
                 self.note(!view.is_directory(key) || own(126, 0), 10, key);
                 let name = name(view.block(key));
                 self.note(name.is_some(), 11, key);
-                self.note(name.is_none_or(|name| slot(name) == met), 12, key);
+                self.note(name.is_none_or(|name| slot(view.disk, name) == met), 12, key);
             }
         }
     }
@@ -283,7 +287,7 @@ impl Check<'_> {
         for one in self.references.iter().filter(|one| self.view.is_key(one.key)) {
             let Asked::Entry { directory, .. } = one.asked else { continue };
             let Some(name) = name(self.view.block(one.key)) else { continue };
-            let folded = name.iter().map(|&byte| fold(byte)).collect();
+            let folded = folded(self.view.disk, name);
             bearers.entry((directory, folded)).or_default().insert(one.key);
         }
         for same in bearers.values().filter(|same| same.len() > 1) {
@@ -359,25 +363,24 @@ impl Check<'_> {
 #[cfg(test)]
 mod tests {
     use super::*;
+    use crate::disk::{claim_length, FLOPPY};
     use crate::rng::Rng;
     use crate::volumes::{any_style, mixed, Kind, Part, Plan, Volume};
     use crate::words::{mend, put};
     use std::panic::{catch_unwind, AssertUnwindSafe};
 
-    const DISK: Disk = Disk::FLOPPY;
-
-    /// A file of 200 data blocks in a directory, and one more file.
+    /// A file of 200 data blocks in a directory, and one more file, on a disk of any kind.
     fn volume(rng: &mut Rng) -> Volume {
-        let mut plan = Plan::default();
+        let mut plan = Plan::new(&rng.pick(&Disk::FLOPPIES));
         let within = Some(plan.add(rng, None, Some(3), Kind::Directory));
         plan.add(rng, within, None, Kind::File(200 * 488));
         plan.add(rng, None, Some(3), Kind::File(1));
         let style = any_style(rng);
-        Volume::new(rng, &DISK, &plan, style)
+        Volume::new(rng, &plan, style)
     }
 
     fn faults(image: &[u8]) -> Vec<(u32, usize)> {
-        examine(&DISK, image).faults.iter().map(|fault| (fault.number, fault.place)).collect()
+        examine(FLOPPY, image).faults.iter().map(|fault| (fault.number, fault.place)).collect()
     }
 
     /// The image with other words in one of its blocks, and its sum mended.
@@ -392,11 +395,11 @@ mod tests {
     #[test]
     fn a_volume_is_what_it_was_planned_to_be() {
         let mut rng = Rng::new(100);
-        for _ in 0..30 {
-            let plan = mixed(&mut rng, &DISK, 150);
+        for disk in [Disk::FLOPPIES; 15].concat() {
+            let plan = mixed(&mut rng, &disk, 150);
             let style = any_style(&mut rng);
-            let volume = Volume::new(&mut rng, &DISK, &plan, style);
-            let finding = examine(&DISK, &volume.image);
+            let volume = Volume::new(&mut rng, &plan, style);
+            let finding = examine(FLOPPY, &volume.image);
             assert_eq!(finding.faults, []);
             assert!(finding.is_volume());
             assert_eq!(finding.report, volume.report());
@@ -408,7 +411,7 @@ mod tests {
     fn every_fault_is_noted_and_no_other() {
         let mut rng = Rng::new(101);
         let volume = volume(&mut rng);
-        let (root, bitmap) = (DISK.root(), volume.bitmap);
+        let (root, bitmap) = (volume.disk.root(), volume.bitmap);
         let find = |wanted: fn(Part) -> bool| volume.order.iter().find(|met| wanted(met.part)).unwrap().key;
         let directory = find(|part| matches!(part, Part::Directory(_)));
         let header = find(|part| matches!(part, Part::File(1)));
@@ -435,9 +438,11 @@ mod tests {
             assert_eq!(found, wanted, "block {key}, {words:?}");
         }
         assert_eq!(faults(&volume.image[1..]), [(1, 0)]);
-        let mut untagged = volume.image.clone();
-        untagged[0] = 0;
-        assert_eq!(faults(&untagged), [(3, 0)]);
+        for (place, byte) in [(0, 0), (3, 1), (3, 3), (3, 4), (3, 0xFF)] {
+            let mut untagged = volume.image.clone();
+            untagged[place] = byte;
+            assert_eq!(faults(&untagged), [(3, 0)]);
+        }
         let mut unsummed = volume.image.clone();
         unsummed[last as usize * BLOCK_BYTES + 20] ^= 1;
         assert_eq!(faults(&unsummed), [(7, last as usize)]);
@@ -478,16 +483,16 @@ mod tests {
     fn differences_are_not_agreed_to() {
         let mut rng = Rng::new(104);
         let volume = volume(&mut rng);
-        let mut claim = vec![0xAA; DISK.claim_length()];
-        let answer = agreed(&DISK, &volume.image, &mut claim);
+        let mut claim = vec![0xAA; claim_length(FLOPPY)];
+        let answer = agreed(FLOPPY, &volume.image, &mut claim);
         let complaint = |image: &[u8], answer, claim: &[u8]| {
-            let finding = examine(&DISK, image);
+            let finding = examine(FLOPPY, image);
             let held = catch_unwind(AssertUnwindSafe(|| finding.hold(answer, claim)));
             held.err().and_then(|panic| panic.downcast_ref::<String>().cloned()).unwrap_or_default()
         };
         assert_eq!(complaint(&volume.image, answer, &claim), "");
         let report = answer.map(|report| Report { files: report.files + 1, ..report });
-        let bad = changed(&volume, DISK.root(), &[(3, 71)]);
+        let bad = changed(&volume, 880, &[(3, 71)]);
         let (cleared, mut more) = (vec![0; claim.len()], claim.clone());
         more[0] = 1;
         let refused = |number, place| Err(Refusal::at(number, place));

@@ -1,10 +1,24 @@
 //! What follows from how many blocks a disk has and what kind it is.
 //!
 //! docs/FORMAT.md gives most of these as plain numbers, scattered over its sections. Here each is said once, as
-//! a consequence of the block count; outside of tests no other module writes one of them down.
+//! a consequence of the block count; outside of tests no other module writes one of them down. The size is told to a
+//! call, the kind is read off the image by [`Disk::of`].
 
 use crate::words::BLOCK_BYTES;
 use std::ops::Range;
+
+/// How many blocks the 880 KB floppy has.
+pub const FLOPPY: u32 = 1760;
+
+/// The length in bytes of an image of so many blocks. It is asked for before the kind of the disk is.
+pub const fn image_length(blocks: u32) -> usize {
+    blocks as usize * BLOCK_BYTES
+}
+
+/// The bytes that the claim area of an audit needs, one for each block; these too come before the kind.
+pub const fn claim_length(blocks: u32) -> usize {
+    blocks as usize
+}
 
 /// A size and kind of disk.
 #[derive(Clone, Copy, Debug, PartialEq, Eq)]
@@ -16,8 +30,14 @@ pub struct Disk {
 }
 
 impl Disk {
-    /// The 880 KB floppy in the old file system: the one disk of the base.
-    pub const FLOPPY: Disk = Disk { blocks: 1760, kind: 0 };
+    /// The floppy in the old file system, where only the 26 letters have two cases.
+    pub const PLAIN: Disk = Disk { blocks: FLOPPY, kind: 0 };
+
+    /// The same for names with accents, where letters with accents have two cases as well.
+    pub const INTERNATIONAL: Disk = Disk { blocks: FLOPPY, kind: 2 };
+
+    /// The floppies of all kinds.
+    pub const FLOPPIES: [Disk; 2] = [Disk::PLAIN, Disk::INTERNATIONAL];
 
     /// The first block that belongs to the volume; those below it are for booting and have no bit.
     pub const FIRST_KEY: u32 = 2;
@@ -25,9 +45,21 @@ impl Disk {
     /// Where the data of a data block begin, in bytes; six words about them stand before.
     pub const DATA_START: usize = 24;
 
-    /// The length of its image in bytes.
-    pub const fn image_length(&self) -> usize {
-        self.blocks as usize * BLOCK_BYTES
+    /// The disk of so many blocks that an image is of, by its boot tag; `None` if that is the tag of no kind.
+    pub fn of(blocks: u32, image: &[u8]) -> Option<Disk> {
+        let all = Disk::FLOPPIES.map(|floppy| Disk { blocks, ..floppy });
+        all.into_iter().find(|disk| image.starts_with(&disk.boot_tag()))
+    }
+
+    /// The disks of the same size and of other kinds.
+    pub fn others(self) -> impl Iterator<Item = Disk> {
+        let all = Disk::FLOPPIES.into_iter().map(move |floppy| Disk { blocks: self.blocks, ..floppy });
+        all.filter(move |&disk| disk != self)
+    }
+
+    /// Whether letters with accents have two cases.
+    pub const fn is_international(&self) -> bool {
+        self.kind == Disk::INTERNATIONAL.kind
     }
 
     /// The key of its root block, in the middle.
@@ -61,11 +93,6 @@ impl Disk {
         [b'D', b'O', b'S', self.kind]
     }
 
-    /// The bytes an audit's claim area needs: one for each block of the image.
-    pub const fn claim_length(&self) -> usize {
-        self.blocks as usize
-    }
-
     /// How many blocks the bitmap speaks of.
     pub const fn bitmap_span(&self) -> u32 {
         self.blocks - Self::FIRST_KEY
@@ -76,17 +103,43 @@ impl Disk {
 mod tests {
     use super::*;
 
-    /// A made-up disk, so that no method can pass by knowing the floppy's number.
+    /// A made-up disk, so that no function can pass by knowing the floppy's number.
     #[test]
     fn every_number_follows_the_block_count() {
         let disk = Disk { blocks: 100, kind: 7 };
-        assert_eq!(disk.image_length(), 51_200);
+        assert_eq!(image_length(disk.blocks), 51_200);
+        assert_eq!(claim_length(disk.blocks), 100);
         assert_eq!(disk.root(), 50);
         assert_eq!(disk.keys(), 2..100);
         assert_eq!(disk.chain_limit(), 96);
         assert_eq!(disk.file_limit(), 95 * 488);
         assert_eq!(disk.boot_tag(), [0x44, 0x4F, 0x53, 7]);
-        assert_eq!(disk.claim_length(), 100);
         assert_eq!(disk.bitmap_span(), 98);
+    }
+
+    /// All tags that are the letters DOS and one byte, and all that differ from one of the two in one bit.
+    #[test]
+    fn the_boot_tag_says_the_kind() {
+        for blocks in [100, FLOPPY] {
+            for kind in 0..=255 {
+                let wanted = [0, 2].contains(&kind).then_some(Disk { blocks, kind });
+                assert_eq!(Disk::of(blocks, &[0x44, 0x4F, 0x53, kind, 1, 2, 3]), wanted, "{kind}");
+                for (place, bit) in (0..3).flat_map(|place| (0..8).map(move |bit| (place, bit))) {
+                    let mut tag = [0x44, 0x4F, 0x53, kind];
+                    tag[place] ^= 1 << bit;
+                    assert_eq!(Disk::of(blocks, &tag), None, "{tag:?}");
+                }
+            }
+        }
+        for short in [&b""[..], b"D", b"DOS"] {
+            assert_eq!(Disk::of(FLOPPY, short), None);
+        }
+    }
+
+    #[test]
+    fn one_kind_is_international() {
+        assert_eq!(Disk::FLOPPIES.map(|disk| (disk.kind, disk.is_international())), [(0, false), (2, true)]);
+        let small = Disk { blocks: 9, kind: 2 };
+        assert!(small.others().eq([Disk { blocks: 9, kind: 0 }]));
     }
 }

@@ -7,9 +7,9 @@ use std::collections::{BTreeMap, BTreeSet};
 use std::rc::Rc;
 
 use crate::bad_programs::{bad_bases, scratch as scratch_program, short_room, CAUSES};
-use crate::bad_volumes::{apply, causes, harmless, scratch, wrong_lengths, Cause, Harm, Patch};
+use crate::bad_volumes::{apply, causes, harmless, retagged, scratch, wrong_lengths, Cause, Harm, Patch};
 use crate::calls::{Calls, Opinion};
-use crate::disk::Disk;
+use crate::disk::{image_length, Disk, FLOPPY};
 use crate::driver::Request;
 use crate::model::{load_body, move_body, read_request, Model, AUDIT, FILE, FIND, IMAGE, LOAD, MOVE, PATCH};
 use crate::native::Exports;
@@ -17,11 +17,9 @@ use crate::paths::{bad_forms, telling_offsets, telling_rooms, Paths};
 use crate::programs::{file, good_bases, good_program, Room};
 use crate::rng::Rng;
 use crate::volumes::{
-    any_style, chain, empty, files, full, mixed, nested, shuffle, Kind, Part, Volume, TELLING_SIZES,
+    alike, any_style, chain, empty, files, full, mixed, nested, shuffle, Kind, Part, Volume, TELLING_SIZES,
 };
 use crate::words::BLOCK_BYTES;
-
-const DISK: Disk = Disk::FLOPPY;
 
 /// What is asked of an image.
 #[derive(Clone, Debug, PartialEq, Eq)]
@@ -181,24 +179,26 @@ pub fn differ(case: &Case, one: &mut Answerer, other: &mut Answerer) -> bool {
 }
 
 fn any_volume(rng: &mut Rng) -> Volume {
+    let disk = &rng.pick(&Disk::FLOPPIES);
     let few = 1 + rng.below(60) as u32;
     let plan = match rng.below(40) {
-        0 => empty(),
-        1..4 => nested(rng, few),
-        4..8 => chain(rng, few),
-        8..10 => files(rng, &TELLING_SIZES),
-        10..13 => files(rng, &[105_409, 70_272, 1]),
-        13 => nested(rng, DISK.chain_limit()),
-        14 => chain(rng, DISK.chain_limit()),
-        15 => files(rng, &[844_728]),
-        16..18 => full(rng, &DISK),
+        0 => empty(disk),
+        1..4 => nested(rng, disk, few),
+        4..8 => chain(rng, disk, few),
+        8..10 => files(rng, disk, &TELLING_SIZES),
+        10..13 => files(rng, disk, &[105_409, 70_272, 1]),
+        13 => nested(rng, disk, disk.chain_limit()),
+        14 => chain(rng, disk, disk.chain_limit()),
+        15 => files(rng, disk, &[844_728]),
+        16..18 => full(rng, disk),
+        18..22 => alike(rng, disk, few, if disk.is_international() { 0 } else { few / 8 }),
         _ => {
             let blocks = rng.pick(&[10, 30, 80, 200, 400]);
-            mixed(rng, &DISK, blocks)
+            mixed(rng, disk, blocks)
         }
     };
     let style = any_style(rng);
-    Volume::new(rng, &DISK, &plan, style)
+    Volume::new(rng, &plan, style)
 }
 
 /// Some harms of which it is known what they are, mended or not, alone or two of them.
@@ -217,27 +217,37 @@ fn aimed(rng: &mut Rng, volume: &Volume) -> Vec<Patch> {
 fn wreck(rng: &mut Rng, volume: &Volume) -> Vec<Patch> {
     let times = 2 + rng.below(10);
     let all = (0..times).flat_map(|_| scratch(rng, volume));
-    let is_hiding = |place: usize| [0, DISK.root() as usize].contains(&(place / BLOCK_BYTES));
+    let is_hiding = |place: usize| [0, volume.disk.root() as usize].contains(&(place / BLOCK_BYTES));
     all.filter(|(place, _)| !is_hiding(*place)).collect::<BTreeMap<_, _>>().into_iter().collect()
 }
 
 /// A run of other bytes anywhere, often in a block that is in use.
 fn torn(rng: &mut Rng, volume: &Volume) -> Vec<Patch> {
-    let (any, used) = (rng.below(u64::from(DISK.blocks)) as u32, rng.pick(&volume.order).key);
-    let key = rng.pick(&[any, used, used, DISK.root()]);
+    let (any, used) = (rng.below(u64::from(volume.disk.blocks)) as u32, rng.pick(&volume.order).key);
+    let key = rng.pick(&[any, used, used, volume.disk.root()]);
     let place = key as usize * BLOCK_BYTES + rng.below(BLOCK_BYTES as u64) as usize;
-    let length = rng.pick(&[1, 1, 2, 4, 30, 512, 3_000]).min(DISK.image_length() - place);
+    let length = rng.pick(&[1, 1, 2, 4, 30, 512, 3_000]).min(image_length(volume.disk.blocks) - place);
     let alike = vec![rng.pick(&[0, 0xF6, 0xFF]); length];
     vec![(place, if rng.below(2) == 0 { alike } else { rng.bytes(length) })]
 }
 
+/// The tag of another kind, at times with a scratch besides.
+fn other_kind(rng: &mut Rng, volume: &Volume) -> Vec<Patch> {
+    let others: Vec<Disk> = volume.disk.others().collect();
+    let (patch, _) = retagged(volume, &rng.pick(&others));
+    let more = if rng.below(2) == 0 { scratch(rng, volume) } else { Vec::new() };
+    // a scratch of the block with the tag would bring the tag back
+    [patch].into_iter().chain(more.into_iter().filter(|&(place, _)| place > 0)).collect()
+}
+
 fn damage(rng: &mut Rng, volume: &Volume) -> Vec<Patch> {
-    match rng.below(12) {
+    match rng.below(13) {
         0 => Vec::new(),
         1 => harmless(rng, volume),
         2..5 => aimed(rng, volume),
         5 => wreck(rng, volume),
         6 => torn(rng, volume),
+        7 => other_kind(rng, volume),
         _ => scratch(rng, volume),
     }
 }
@@ -280,11 +290,11 @@ fn concerned(rng: &mut Rng, paths: &Paths, patches: &[Patch], others: &[Vec<u8>]
     all
 }
 
-/// A read of a path, small more often than large.
-fn any_read(rng: &mut Rng, path: &[u8]) -> Asked {
+/// A read of a path on such a disk, small more often than large.
+fn any_read(rng: &mut Rng, disk: &Disk, path: &[u8]) -> Asked {
     let size = rng.pick(&[0, 1, 488, 489, 1_000, 35_137, 70_273]);
-    let offset = rng.pick(&telling_offsets(&DISK, size));
-    let room = rng.pick(&telling_rooms(&DISK, size.saturating_sub(offset) as usize)) as u32;
+    let offset = rng.pick(&telling_offsets(disk, size));
+    let room = rng.pick(&telling_rooms(disk, size.saturating_sub(offset) as usize)) as u32;
     let room = if room > 2_000 && rng.below(6) > 0 { rng.below(2_000) as u32 } else { room };
     Asked::Read { offset, room, path: path.to_vec() }
 }
@@ -300,7 +310,7 @@ fn image_cases(rng: &mut Rng, damages: usize) -> Vec<Case> {
         let claim = rng.pick(&[1_760, 1_760, 1_760, 1_761, 4_096, 1_759]);
         let mut questions = vec![Asked::Audit(claim)];
         for path in concerned(rng, &paths, &patches, &others) {
-            questions.push(any_read(rng, &path));
+            questions.push(any_read(rng, &volume.disk, &path));
             questions.push(Asked::Find(path));
         }
         let case = |asked| Case::Image { good: good.clone(), patches: patches.clone(), asked };
@@ -308,9 +318,10 @@ fn image_cases(rng: &mut Rng, damages: usize) -> Vec<Case> {
     }
     if rng.below(10) == 0 {
         let mut image = volume.image.clone();
-        image.resize(rng.pick(&wrong_lengths(&DISK)), 0);
+        image.resize(rng.pick(&wrong_lengths(FLOPPY)), 0);
         let good = Rc::new(image);
-        let asked = [Asked::Audit(1_760), Asked::Find(others[0].clone()), any_read(rng, &others[0])];
+        let read = any_read(rng, &volume.disk, &others[0]);
+        let asked = [Asked::Audit(1_760), Asked::Find(others[0].clone()), read];
         cases.extend(asked.map(|asked| Case::Image { good: good.clone(), patches: Vec::new(), asked }));
     }
     cases
@@ -396,7 +407,11 @@ pub fn told(case: &Case) -> String {
             let words: String = differing_words(good, &patched(good, patches)).iter().map(word).collect();
             let blank = |block: &&[u8]| block.iter().all(|&byte| byte == 0);
             let blocks = good.chunks(BLOCK_BYTES).filter(|block| !blank(block)).count();
-            format!("an image of {} bytes, {blocks} blocks not blank\n{words}{}\n", good.len(), asked.told())
+            let (length, tag) = (good.len(), hex(&good[..good.len().min(4)]));
+            format!(
+                "an image of {length} bytes, boot tag {tag}, {blocks} blocks not blank\n{words}{}\n",
+                asked.told()
+            )
         }
         Case::Program { file, calls } => {
             let words: String = file.chunks(4).map(|word| hex(word) + " ").collect();
@@ -411,17 +426,26 @@ mod tests {
     use super::*;
     use crate::model::READ;
     use crate::shrink::shrink;
+    use crate::words::word;
 
     /// The calls among the requests.
     const CALLS: [u32; 5] = [AUDIT, FIND, READ, LOAD, MOVE];
 
+    /// The kind that an image says it is of, once with its patches and once without.
+    fn kinds(case: &Case) -> Option<[Option<u8>; 2]> {
+        let Case::Image { good, patches, .. } = case else { return None };
+        let kind = |image: &[u8]| Disk::of(FLOPPY, image).map(|disk| disk.kind);
+        Some([kind(good), kind(&patched(good, patches))])
+    }
+
     #[test]
     fn a_round_follows_from_its_seed_and_has_everything() {
-        let mut sum = Tally::new();
+        let (mut sum, mut asked) = (Tally::new(), BTreeMap::new());
         for seed in 0..6 {
             let cases = round(seed);
             let tally = compare(&cases, &mut due, &mut due).expect("the model agrees with itself");
             tally.into_iter().for_each(|(kind, times)| *sum.entry(kind).or_default() += times);
+            cases.iter().filter_map(kinds).for_each(|kinds| *asked.entry(kinds).or_insert(0) += 1);
             let told_again: Vec<String> = round(seed).iter().map(told).collect();
             assert!(cases.iter().map(told).eq(told_again), "{seed}");
         }
@@ -430,6 +454,12 @@ mod tests {
             let refused: usize = sum.range((call, 1)..(call + 1, 0)).map(|(_, times)| times).sum();
             assert!(accepted > 30 && refused > 30, "{call}: {accepted} accepted, {refused} refused");
         }
+        // of each kind; of each, but by a patch of the other; and of each, but by a patch of none
+        for (kinds, least) in [([0, 0], 200), ([2, 2], 200), ([0, 2], 10), ([2, 0], 10)] {
+            let times = asked.get(&kinds.map(Some)).copied().unwrap_or(0);
+            assert!(times >= least, "{kinds:?} {times} times: {asked:?}");
+        }
+        assert!([0, 2].iter().all(|&kind| asked.contains_key(&[Some(kind), None])), "{asked:?}");
     }
 
     /// A wrong answerer: the model, but for one kind of line.
@@ -444,7 +474,10 @@ mod tests {
 
     /// The first case that an answerer gets wrong, made small.
     fn caught(slip: Slip) -> Case {
-        let mut wrong = slipped(slip);
+        caught_from(&mut slipped(slip))
+    }
+
+    fn caught_from(mut wrong: &mut Answerer) -> Case {
         let found = (100..160).find_map(|seed| {
             let cases = round(seed);
             let difference = compare(&cases, &mut due, &mut wrong).err()?;
@@ -481,6 +514,33 @@ mod tests {
         assert!(image_size(&case).0 == 0, "{}", told(&case));
         let Case::Image { asked: Asked::Read { offset, room, .. }, .. } = case else { panic!("a read") };
         assert_eq!((offset, room), (0, 0));
+    }
+
+    /// The lines that are due if the tag of an international disk were that of a plain one.
+    fn without_accents(requests: &[Request]) -> Vec<String> {
+        let plain = |(number, body): &Request| {
+            let mut body = body.clone();
+            let place = match *number {
+                IMAGE => Some(3),
+                PATCH => 3_usize.checked_sub(word(&body, 0) as usize).map(|within| 4 + within),
+                _ => None,
+            };
+            if let Some(kind) = place.and_then(|place| body.get_mut(place)).filter(|kind| **kind == 2) {
+                *kind = 0;
+            }
+            (*number, body)
+        };
+        due(&requests.iter().map(plain).collect::<Vec<Request>>())
+    }
+
+    /// A reader that knows no accents is caught at an entry with one.
+    #[test]
+    fn slips_of_folding_are_caught_and_made_small() {
+        let case = caught_from(&mut without_accents);
+        let (words, blocks) = image_size(&case);
+        // the tag, the root and the entry, for an audit the bitmap block too; at most the tag and a name are patched
+        assert!(words <= 4 && blocks <= 4, "{}", told(&case));
+        assert_eq!(kinds(&case).map(|kinds| kinds[1]), Some(Some(2)), "{}", told(&case));
     }
 
     #[test]

@@ -7,7 +7,7 @@
 //! What is judged, from the smallest piece upward:
 //!
 //! - [`words`]: the big-endian words of a block and their sum;
-//! - [`disk`]: the numbers that follow from the size and kind of a disk;
+//! - [`disk`]: which kind of disk an image is of, and the numbers that follow from size and kind;
 //! - [`names`]: which names are allowed, how they fold, and the slot they hang in;
 //! - [`sizes`]: how many blocks a file of some size needs and what each of them holds;
 //! - [`bitmap`]: where the free bit of a block stands;

@@ -7,7 +7,7 @@ use std::iter::successors;
 
 use crate::audit::passed;
 use crate::blocks::{self, EntryAt, DIRECTORY};
-use crate::disk::Disk;
+use crate::disk::{image_length, Disk};
 use crate::names::{name, same, slot, valid};
 use crate::program::Refusal;
 use crate::words::{slot_word, word, BLOCK_BYTES};
@@ -28,11 +28,11 @@ pub struct Found {
     pub compared: u32,
 }
 
-/// Finds a path.
-pub fn find(disk: &Disk, image: &[u8], path: &[u8]) -> Result<Found, Refusal> {
-    passed(if image.len() == disk.image_length() { 0 } else { 1 }, 0)?;
+/// Finds a path on an image of so many blocks, and says of what kind the disk is.
+pub(crate) fn find_on(blocks: u32, image: &[u8], path: &[u8]) -> Result<(Disk, Found), Refusal> {
+    passed(if image.len() == image_length(blocks) { 0 } else { 1 }, 0)?;
     let components = components(path)?;
-    passed(if image.starts_with(&disk.boot_tag()) { 0 } else { 3 }, 0)?;
+    let disk = Disk::of(blocks, image).ok_or(Refusal::at(3, 0))?;
     let root = disk.root();
     passed(blocks::root(block(image, root)), root)?;
 
@@ -41,10 +41,15 @@ pub fn find(disk: &Disk, image: &[u8], path: &[u8]) -> Result<Found, Refusal> {
         if found.kind != DIRECTORY {
             return Err(Refusal::at(20, place - 1));
         }
-        let (key, compared) = search(disk, image, found.key, name)?.ok_or(Refusal::at(19, place))?;
+        let (key, compared) = search(&disk, image, found.key, name)?.ok_or(Refusal::at(19, place))?;
         found = described(image, key, found.compared + compared);
     }
-    Ok(found)
+    Ok((disk, found))
+}
+
+/// Finds a path on an image of so many blocks, which says itself of what kind it is.
+pub fn find(blocks: u32, image: &[u8], path: &[u8]) -> Result<Found, Refusal> {
+    find_on(blocks, image, path).map(|(_, found)| found)
 }
 
 /// The components of a path of good form; the empty path has none.
@@ -63,12 +68,12 @@ fn components(path: &[u8]) -> Result<Vec<&[u8]>, Refusal> {
 /// The entry of a directory that bears this name, and its place on its chain counted from 1; `None` if the chain
 /// ends without one.
 fn search(disk: &Disk, image: &[u8], directory: u32, wanted: &[u8]) -> Result<Option<(u32, u32)>, Refusal> {
-    let slot = slot(wanted);
+    let slot = slot(disk, wanted);
     for (key, place) in chain(disk, image, directory, slot).zip(1..) {
         let block = led_to(disk, image, key)?;
         passed(if place <= disk.chain_limit() { 0 } else { 6 }, key)?;
-        passed(blocks::entry(block, EntryAt { key, directory, slot }), key)?;
-        if name(block).is_some_and(|name| same(name, wanted)) {
+        passed(blocks::entry(disk, block, EntryAt { key, directory, slot }), key)?;
+        if name(block).is_some_and(|name| same(disk, name, wanted)) {
             return Ok(Some((key, place)));
         }
     }
@@ -105,22 +110,23 @@ pub(crate) fn led_to<'a>(disk: &Disk, image: &'a [u8], key: u32) -> Result<&'a [
 mod tests {
     use super::*;
     use crate::blocks::FILE;
+    use crate::disk::FLOPPY;
     use crate::names::put_name;
     use crate::rng::Rng;
     use crate::volumes::{any_style, chain as one_chain, Kind, Plan, Volume};
     use crate::words::{mend, put};
 
-    const DISK: Disk = Disk::FLOPPY;
+    const DISK: Disk = Disk::PLAIN;
 
     fn laid_out(rng: &mut Rng, plan: &Plan) -> Volume {
         let style = any_style(rng);
-        Volume::new(rng, &DISK, plan, style)
+        Volume::new(rng, plan, style)
     }
 
     /// A directory with a file in it; two more files on the directory's chain, of which one is after it.
-    fn small() -> Volume {
+    fn small_on(disk: &Disk) -> Volume {
         let mut rng = Rng::new(120);
-        let mut plan = Plan::default();
+        let mut plan = Plan::new(disk);
         plan.add_named(None, b"cp", Kind::File(488));
         let within = Some(plan.add_named(None, b"Mary", Kind::Directory));
         plan.add_named(None, b"dc", Kind::File(3));
@@ -128,6 +134,10 @@ mod tests {
         let volume = laid_out(&mut rng, &plan);
         assert_eq!(volume.entries.iter().filter(|entry| entry.slot == 65).count(), 3, "names of Mary's slot");
         volume
+    }
+
+    fn small() -> Volume {
+        small_on(&DISK)
     }
 
     fn key(volume: &Volume, name: &[u8]) -> u32 {
@@ -168,7 +178,7 @@ mod tests {
             (b"mary/bOX\xE4", FILE, keys[3], 1_000, 3),
         ] {
             let found = Found { kind, key, size, compared };
-            assert_eq!(find(&DISK, &volume.image, path), Ok(found), "{path:?}");
+            assert_eq!(find(FLOPPY, &volume.image, path), Ok(found), "{path:?}");
         }
     }
 
@@ -188,7 +198,7 @@ mod tests {
             (b"Mary/box\xE4/Mary/x", 20, 1),
             (b"Mary/box\xE4/:", 18, 2),
         ] {
-            assert_eq!(find(&DISK, &volume.image, path), refused(number, place), "{path:?}");
+            assert_eq!(find(FLOPPY, &volume.image, path), refused(number, place), "{path:?}");
         }
     }
 
@@ -225,6 +235,42 @@ mod tests {
         }
     }
 
+    /// Accents are asked for in either case on an international disk, and on a plain one as they stand.
+    #[test]
+    fn accents_in_the_other_case() {
+        for disk in Disk::FLOPPIES {
+            let volume = small_on(&disk);
+            let key = key(&volume, b"Box\xE4");
+            let found = |path: &[u8]| find(FLOPPY, &volume.image, path).map(|found| (found.key, found.compared));
+            assert_eq!(found(b"mARY/bOX\xE4"), Ok((key, 3)));
+            let other = if disk.is_international() { Ok((key, 3)) } else { Err(Refusal::at(19, 1)) };
+            assert_eq!(found(b"Mary/Box\xC4"), other);
+            assert_eq!(found(b"mary/BOX\xC4"), other);
+            assert_eq!(found(b"Mary/Box\x84"), Err(Refusal::at(19, 1)));
+        }
+    }
+
+    /// The kind is that of the tag: the same bytes, found by the one kind, hang wrongly for the other.
+    #[test]
+    fn the_tag_says_how_names_fold() {
+        let mut plan = Plan::new(&Disk::INTERNATIONAL);
+        plan.add_named(None, b"\xE0", Kind::File(7));
+        let volume = laid_out(&mut Rng::new(122), &plan);
+        let mut image = volume.image.clone();
+        let asked = |image: &[u8], path: &[u8]| find(FLOPPY, image, path).map(|found| found.size);
+        assert_eq!([&b"\xE0"[..], b"\xC0"].map(|path| asked(&image, path)), [Ok(7); 2]);
+        image[3] = 0;
+        // in the slot of C0 there is E0, which a plain disk has elsewhere
+        let wrong_slot = Err(Refusal::at(12, key(&volume, b"\xE0") as usize));
+        assert_eq!(asked(&image, b"\xC0"), wrong_slot);
+        assert_eq!(asked(&image, b"\xE0"), Err(Refusal::at(19, 0)));
+        for kind in [1, 3, 4, 0x80, 0xFF] {
+            image[3] = kind;
+            assert_eq!([&b""[..], b"\xE0", b"x"].map(|path| asked(&image, path)), [Err(Refusal::at(3, 0)); 3]);
+            assert_eq!(asked(&image, b"x/"), Err(Refusal::at(18, 1)));
+        }
+    }
+
     /// All is wrong at first; what is asked first is put right, until the path is found.
     #[test]
     fn everything_in_its_turn() {
@@ -234,22 +280,22 @@ mod tests {
         let mut image = changed(&volume, root, &words);
         in_image(&mut image, root)[432] = 0;
         image[0] = 0;
-        assert_eq!(find(&DISK, &image[1..], b"Mary/"), refused(1, 0));
-        assert_eq!(find(&DISK, &[], b"Mary/"), refused(1, 0));
-        assert_eq!(find(&DISK, &image, b"Mary/"), refused(18, 1));
-        assert_eq!(find(&DISK, &image, b"Mary"), refused(3, 0));
+        assert_eq!(find(FLOPPY, &image[1..], b"Mary/"), refused(1, 0));
+        assert_eq!(find(FLOPPY, &[], b"Mary/"), refused(1, 0));
+        assert_eq!(find(FLOPPY, &image, b"Mary/"), refused(18, 1));
+        assert_eq!(find(FLOPPY, &image, b"Mary"), refused(3, 0));
         image[0] = b'D';
-        assert_eq!(find(&DISK, &image, b"Mary"), refused(7, root));
+        assert_eq!(find(FLOPPY, &image, b"Mary"), refused(7, root));
         change(&mut image, root, &[]);
-        assert_eq!(find(&DISK, &image, b""), refused(8, root));
+        assert_eq!(find(FLOPPY, &image, b""), refused(8, root));
         change(&mut image, root, &[(0, 2)]);
-        assert_eq!(find(&DISK, &image, b""), refused(4, root));
+        assert_eq!(find(FLOPPY, &image, b""), refused(4, root));
         change(&mut image, root, &[(4, 0)]);
-        assert_eq!(find(&DISK, &image, b"nobody"), refused(11, root));
+        assert_eq!(find(FLOPPY, &image, b"nobody"), refused(11, root));
         in_image(&mut image, root)[432] = 1;
         change(&mut image, root, &[]);
-        assert_eq!(find(&DISK, &image, b"nobody"), refused(19, 0));
-        assert_eq!(find(&DISK, &image, b"Mary").map(|found| found.key), Ok(key(&volume, b"Mary")));
+        assert_eq!(find(FLOPPY, &image, b"nobody"), refused(19, 0));
+        assert_eq!(find(FLOPPY, &image, b"Mary").map(|found| found.key), Ok(key(&volume, b"Mary")));
     }
 
     /// A bad entry stops the search for itself and for those after it, not for those before it.
@@ -269,11 +315,11 @@ mod tests {
         ] {
             let mut image = changed(&volume, bad, words);
             for path in [&b"Mary"[..], b"dc", b"Mary/x"] {
-                assert_eq!(find(&DISK, &image, path), refused(number, bad), "{words:?}");
+                assert_eq!(find(FLOPPY, &image, path), refused(number, bad), "{words:?}");
             }
-            assert_eq!(find(&DISK, &image, b"cp").map(|found| found.compared), Ok(1), "{words:?}");
+            assert_eq!(find(FLOPPY, &image, b"cp").map(|found| found.compared), Ok(1), "{words:?}");
             in_image(&mut image, bad)[100] ^= 1;
-            assert_eq!(find(&DISK, &image, b"Mary"), refused(7, bad), "{words:?}");
+            assert_eq!(find(FLOPPY, &image, b"Mary"), refused(7, bad), "{words:?}");
         }
     }
 
@@ -282,13 +328,13 @@ mod tests {
         let volume = small();
         for value in [1, 1_760, 0x8000_0002, u32::MAX] {
             let image = changed(&volume, DISK.root(), &[(slot_word(65), value)]);
-            assert_eq!(find(&DISK, &image, b"Mary"), refused(5, value));
+            assert_eq!(find(FLOPPY, &image, b"Mary"), refused(5, value));
             let image = changed(&volume, key(&volume, b"Mary"), &[(124, value)]);
-            assert_eq!(find(&DISK, &image, b"dc"), refused(5, value));
-            assert_eq!(find(&DISK, &image, b"Mary").map(|found| found.compared), Ok(2));
+            assert_eq!(find(FLOPPY, &image, b"dc"), refused(5, value));
+            assert_eq!(find(FLOPPY, &image, b"Mary").map(|found| found.compared), Ok(2));
         }
         let image = changed(&volume, key(&volume, b"Mary"), &[(124, 0)]);
-        assert_eq!(find(&DISK, &image, b"dc"), refused(19, 0));
+        assert_eq!(find(FLOPPY, &image, b"dc"), refused(19, 0));
     }
 
     /// The root and the bitmap block are keys like others here; what they are is seen from their words.
@@ -297,7 +343,7 @@ mod tests {
         let volume = small();
         for (value, number) in [(DISK.root(), 8), (key(&volume, b"Box\xE4"), 10)] {
             let image = changed(&volume, DISK.root(), &[(slot_word(65), value)]);
-            assert_eq!(find(&DISK, &image, b"Mary"), refused(number, value));
+            assert_eq!(find(FLOPPY, &image, b"Mary"), refused(number, value));
         }
     }
 
@@ -305,9 +351,9 @@ mod tests {
     fn the_size_is_the_one_stated() {
         let volume = small();
         let image = changed(&volume, key(&volume, b"cp"), &[(81, u32::MAX), (2, 99), (126, 1)]);
-        assert_eq!(find(&DISK, &image, b"cp").map(|found| found.size), Ok(u32::MAX));
+        assert_eq!(find(FLOPPY, &image, b"cp").map(|found| found.size), Ok(u32::MAX));
         let image = changed(&volume, key(&volume, b"Mary"), &[(81, 5)]);
-        assert_eq!(find(&DISK, &image, b"Mary").map(|found| found.size), Ok(0));
+        assert_eq!(find(FLOPPY, &image, b"Mary").map(|found| found.size), Ok(0));
     }
 
     /// Chains that lead back to one of their entries: the key that comes after 1,756 of them.
@@ -319,35 +365,41 @@ mod tests {
         for (to, place) in [(keys[0], keys[1]), (keys[1], keys[2]), (keys[2], keys[2])] {
             let image = changed(&volume, keys[2], &[(124, to)]);
             let missing = b"hw";
-            assert_eq!(slot(missing), 65);
-            assert_eq!(find(&DISK, &image, missing), refused(6, place), "back to {to}");
-            assert_eq!(find(&DISK, &image, b"dc").map(|found| found.compared), Ok(3));
+            assert_eq!(slot(&DISK, missing), 65);
+            assert_eq!(find(FLOPPY, &image, missing), refused(6, place), "back to {to}");
+            assert_eq!(find(FLOPPY, &image, b"dc").map(|found| found.compared), Ok(3));
         }
     }
 
     #[test]
     fn the_longest_chain() {
         let mut rng = Rng::new(121);
-        let plan = one_chain(&mut rng, DISK.chain_limit());
-        let volume = laid_out(&mut rng, &plan);
+        for disk in Disk::FLOPPIES {
+            let plan = one_chain(&mut rng, &disk, disk.chain_limit());
+            longest_chain(&laid_out(&mut rng, &plan));
+        }
+    }
+
+    fn longest_chain(volume: &Volume) {
         let [first, last] = [&volume.entries[0], &volume.entries[1_755]];
-        assert_eq!(find(&DISK, &volume.image, &last.name).map(|found| found.compared), Ok(1_756));
+        assert_eq!(find(FLOPPY, &volume.image, &last.name).map(|found| found.compared), Ok(1_756));
         let names = (0..=u16::MAX).map(|end| [&b"missing"[..], &end.to_be_bytes()].concat());
-        let missing = names.filter(|name| valid(name)).find(|name| slot(name) == first.slot).unwrap();
-        assert_eq!(find(&DISK, &volume.image, &missing), refused(19, 0));
+        let missing =
+            names.filter(|name| valid(name)).find(|name| slot(&volume.disk, name) == first.slot).unwrap();
+        assert_eq!(find(FLOPPY, &volume.image, &missing), refused(19, 0));
         for (link, number) in [(first.key, 6), (last.key, 6), (volume.bitmap, 6), (1, 5), (1_760, 5)] {
-            let image = changed(&volume, last.key, &[(124, link)]);
-            assert_eq!(find(&DISK, &image, &missing), refused(number, link), "link {link}");
+            let image = changed(volume, last.key, &[(124, link)]);
+            assert_eq!(find(FLOPPY, &image, &missing), refused(number, link), "link {link}");
         }
         // an entry in the bitmap block's place is the 1,757th, and not found
         let words = [(0, 2), (1, volume.bitmap), (124, 0), (125, 880), (127, FILE)];
-        let mut image = changed(&volume, last.key, &[(124, volume.bitmap)]);
+        let mut image = changed(volume, last.key, &[(124, volume.bitmap)]);
         put_name(in_image(&mut image, volume.bitmap), &missing);
         change(&mut image, volume.bitmap, &words);
-        assert_eq!(find(&DISK, &image, &missing), refused(6, volume.bitmap));
+        assert_eq!(find(FLOPPY, &image, &missing), refused(6, volume.bitmap));
         // without the entry before it, it is the 1,756th
         let before = &volume.entries[1_754];
         change(&mut image, before.key, &[(124, volume.bitmap)]);
-        assert_eq!(find(&DISK, &image, &missing).map(|found| found.compared), Ok(1_756));
+        assert_eq!(find(FLOPPY, &image, &missing).map(|found| found.compared), Ok(1_756));
     }
 }

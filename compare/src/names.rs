@@ -1,6 +1,7 @@
 //! Names of entries: which are allowed, when two are the same, and in which slot one hangs (docs/FORMAT.md,
-//! section "Blocks of a volume", Name and Hash).
+//! section "Blocks of a volume", Name, Folding and Hash). The last two are for the kind of disk to say.
 
+use crate::disk::Disk;
 use crate::words::TABLE;
 
 /// Where a header's name stands, in bytes: its length, then its letters.
@@ -9,9 +10,21 @@ const PLACE: usize = 432;
 /// The longest name.
 pub const LONGEST: usize = 30;
 
-/// A byte as comparing and hashing see it: the 26 small letters become capitals, all else is itself.
-pub fn fold(byte: u8) -> u8 {
-    byte.to_ascii_uppercase()
+/// A byte as comparing and hashing see it: the 26 small letters become capitals, on an international disk those with
+/// accents too, and all else is itself.
+pub fn fold(disk: &Disk, byte: u8) -> u8 {
+    // a sign for division stands among the small letters with accents, and one for multiplying among the capitals
+    let is_accented = (0xE0..0xFF).contains(&byte) && byte != 0xF7;
+    if byte.is_ascii_lowercase() || is_accented && disk.is_international() {
+        byte - 0x20
+    } else {
+        byte
+    }
+}
+
+/// A name as comparing and hashing see it.
+pub fn folded(disk: &Disk, name: &[u8]) -> Vec<u8> {
+    name.iter().map(|&byte| fold(disk, byte)).collect()
 }
 
 /// Whether an entry may be called this.
@@ -27,8 +40,8 @@ pub fn name(block: &[u8]) -> Option<&[u8]> {
 }
 
 /// Whether two names are the same once folded.
-pub fn same(one: &[u8], other: &[u8]) -> bool {
-    one.len() == other.len() && one.iter().zip(other).all(|(&a, &b)| fold(a) == fold(b))
+pub fn same(disk: &Disk, one: &[u8], other: &[u8]) -> bool {
+    one.len() == other.len() && one.iter().zip(other).all(|(&a, &b)| fold(disk, a) == fold(disk, b))
 }
 
 /// A name's hash, below 2048.
@@ -36,8 +49,8 @@ pub fn same(one: &[u8], other: &[u8]) -> bool {
 /// The recipe of docs/FORMAT.md multiplies by 13 and cuts at every letter. Seen as a whole it is a number in base 13
 /// whose digits are the length and the letters, so it is added up here from its last digit on. Letting 64 bits
 /// overflow does no harm, for 2048 divides 2^64, and one cut at the end is enough.
-pub fn hash(name: &[u8]) -> u32 {
-    let digits = name.iter().rev().map(|&byte| u64::from(fold(byte)));
+pub fn hash(disk: &Disk, name: &[u8]) -> u32 {
+    let digits = name.iter().rev().map(|&byte| u64::from(fold(disk, byte)));
     let (total, _) = digits.chain([name.len() as u64]).fold((0u64, 1u64), |(total, weight), digit| {
         (total.wrapping_add(digit.wrapping_mul(weight)), weight.wrapping_mul(13))
     });
@@ -45,8 +58,8 @@ pub fn hash(name: &[u8]) -> u32 {
 }
 
 /// The slot in which an entry of this name hangs.
-pub fn slot(name: &[u8]) -> u32 {
-    hash(name) % TABLE
+pub fn slot(disk: &Disk, name: &[u8]) -> u32 {
+    hash(disk, name) % TABLE
 }
 
 /// Writes a name into a header or root block; an invalid one too, if its length fits in a byte and its letters
@@ -62,14 +75,45 @@ mod tests {
     use crate::rng::Rng;
     use crate::words::BLOCK_BYTES;
 
+    const PLAIN: Disk = Disk::PLAIN;
+    const INTERNATIONAL: Disk = Disk::INTERNATIONAL;
+
     #[test]
-    fn folding_moves_the_26_small_letters_and_nothing_else() {
+    fn folding_moves_the_small_letters_of_the_kind_and_nothing_else() {
         for byte in 0..=255 {
-            let wanted = match byte {
-                0x61..=0x7A => byte - 0x20,
+            let (plain, international) = match byte {
+                0x61..=0x7A => (byte - 0x20, byte - 0x20),
+                0xE0..=0xF6 | 0xF8..=0xFE => (byte, byte - 0x20),
+                _ => (byte, byte),
+            };
+            assert_eq!(fold(&PLAIN, byte), plain, "byte {byte:02X}");
+            assert_eq!(fold(&INTERNATIONAL, byte), international, "byte {byte:02X}");
+        }
+    }
+
+    /// The bytes stand for the first 256 characters of Unicode, and Rust knows the capitals of these. Where a capital
+    /// is no such character, or is two of them, the byte is itself.
+    #[test]
+    fn international_folding_makes_the_capitals_that_are_bytes() {
+        for byte in 0..=255 {
+            let capital: Vec<char> = char::from(byte).to_uppercase().collect();
+            let wanted = match capital[..] {
+                [one] => u8::try_from(one).unwrap_or(byte),
                 _ => byte,
             };
-            assert_eq!(fold(byte), wanted, "byte {byte:02X}");
+            assert_eq!(fold(&INTERNATIONAL, byte), wanted, "byte {byte:02X}");
+        }
+    }
+
+    /// What holds of either folding.
+    #[test]
+    fn folding_twice_is_folding_once() {
+        for disk in Disk::FLOPPIES {
+            for byte in 0..=255 {
+                let once = fold(&disk, byte);
+                assert_eq!(fold(&disk, once), once, "byte {byte:02X}");
+                assert_eq!(b"/:".contains(&once), b"/:".contains(&byte), "byte {byte:02X}");
+            }
         }
     }
 
@@ -112,13 +156,19 @@ mod tests {
 
     #[test]
     fn names_are_the_same_if_folded_bytes_are() {
-        assert!(same(b"Mary", b"mARY"));
-        assert!(same(b"", b""));
-        assert!(!same(b"Mary", b"Mar"));
-        assert!(!same(b"Mar", b"Mary"));
-        assert!(!same(b"Mary", b"Mara"));
-        assert!(!same(b"[", b"{"), "20 hex apart, but no letters");
-        assert!(!same(b"\xE4", b"\xC4"), "accents do not fold");
+        for disk in Disk::FLOPPIES {
+            assert!(same(&disk, b"Mary", b"mARY"));
+            assert!(same(&disk, b"", b""));
+            assert!(!same(&disk, b"Mary", b"Mar"));
+            assert!(!same(&disk, b"Mar", b"Mary"));
+            assert!(!same(&disk, b"Mary", b"Mara"));
+            assert!(!same(&disk, b"[", b"{"), "20 hex apart, but no letters");
+            assert!(!same(&disk, b"\xF7", b"\xD7"), "signs");
+            assert!(!same(&disk, b"\xFF", b"\xDF"), "letters, but not one and the same");
+            assert_eq!(same(&disk, b"\xE4rger", b"\xC4RGER"), disk.is_international());
+            assert_eq!(same(&disk, b"\xFE", b"\xDE"), disk.is_international());
+            assert_eq!(folded(&disk, b"\xE4rger") == folded(&disk, b"\xC4RGER"), disk.is_international());
+        }
     }
 
     /// The recipe, letter by letter, beside the sum of digits above.
@@ -128,12 +178,14 @@ mod tests {
         for _ in 0..10_000 {
             let length = rng.below(LONGEST as u64 + 1) as usize;
             let name = rng.bytes(length);
-            let mut h = length as u32;
-            for &byte in &name {
-                h = (13 * h + u32::from(fold(byte))) & 0x7FF;
+            for disk in Disk::FLOPPIES {
+                let mut h = length as u32;
+                for &byte in &name {
+                    h = (13 * h + u32::from(fold(&disk, byte))) & 0x7FF;
+                }
+                assert_eq!(hash(&disk, &name), h, "{name:?}");
+                assert_eq!(slot(&disk, &name), h % 72, "{name:?}");
             }
-            assert_eq!(hash(&name), h, "{name:?}");
-            assert_eq!(slot(&name), h % 72, "{name:?}");
         }
     }
 
@@ -143,9 +195,13 @@ mod tests {
         for _ in 0..1_000 {
             let length = 1 + rng.below(LONGEST as u64) as usize;
             let one = rng.bytes(length);
-            let other: Vec<u8> = one.iter().map(|byte| byte.to_ascii_lowercase()).collect();
-            assert!(same(&one, &other), "{one:?}");
-            assert_eq!(slot(&one), slot(&other), "{one:?}");
+            for disk in Disk::FLOPPIES {
+                let other = folded(&disk, &one);
+                assert!(same(&disk, &one, &other), "{one:?}");
+                assert_eq!(slot(&disk, &one), slot(&disk, &other), "{one:?}");
+            }
+            let lower: Vec<u8> = one.iter().map(|byte| byte.to_ascii_lowercase()).collect();
+            assert!(Disk::FLOPPIES.iter().all(|disk| slot(disk, &one) == slot(disk, &lower)), "{one:?}");
         }
     }
 }

@@ -141,10 +141,10 @@ mod tests {
 
     /// A volume with a file of 1,000 bytes.
     fn volume() -> Vec<u8> {
-        let (mut rng, mut plan) = (Rng::new(160), Plan::default());
+        let (mut rng, mut plan) = (Rng::new(160), Plan::new(&Disk::PLAIN));
         plan.add_named(None, b"a", Kind::File(1_000));
         let style = any_style(&mut rng);
-        Volume::new(&mut rng, &Disk::FLOPPY, &plan, style).image
+        Volume::new(&mut rng, &plan, style).image
     }
 
     /// The lines of every call, accepted and refused; the room of a move is less than that of the load.

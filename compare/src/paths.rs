@@ -8,11 +8,11 @@ use std::collections::{BTreeMap, BTreeSet};
 use crate::blocks::{DIRECTORY, FILE};
 use crate::disk::Disk;
 use crate::lookup::{Found, LONGEST_PATH};
-use crate::names::{hash, same, slot, LONGEST};
+use crate::names::{fold, hash, same, slot, LONGEST};
 use crate::program::Refusal;
 use crate::rng::Rng;
 use crate::sizes::held;
-use crate::volumes::{any_name, Entry, Kind, Volume};
+use crate::volumes::{any_name, lookalike, recased, Entry, Kind, Volume};
 use crate::words::TABLE;
 
 /// A path, and what is to be said of it.
@@ -35,31 +35,22 @@ impl Question {
     }
 }
 
-/// Some of the letters of a name or path in the other case.
-pub fn recased(rng: &mut Rng, path: &[u8]) -> Vec<u8> {
-    let mut path = path.to_vec();
-    for byte in path.iter_mut().filter(|byte| byte.is_ascii_alphabetic()) {
-        *byte ^= rng.pick(&[0, 0x20]);
-    }
-    path
-}
-
-/// Another name for the same slot, which a reader that folds too much takes for this one: bytes that are no letters
-/// of the 26 are changed as a letter is by folding.
-pub fn unfolded(rng: &mut Rng, name: &[u8]) -> Option<Vec<u8>> {
-    let changes = |byte: u8| !byte.is_ascii_alphabetic() && !b"/:".contains(&(byte ^ 0x20));
+/// Another name for the same slot, which a reader that folds too much takes for this one: bytes that have no other case
+/// on the disk are changed as a letter is by folding.
+pub fn unfolded(rng: &mut Rng, disk: &Disk, name: &[u8]) -> Option<Vec<u8>> {
+    let changes = |byte: u8| fold(disk, byte) != fold(disk, byte ^ 0x20) && !b"/:".contains(&(byte ^ 0x20));
     (0..500).find_map(|_| {
         let mut other = name.to_vec();
         other.iter_mut().filter(|byte| changes(**byte)).for_each(|byte| *byte ^= rng.pick(&[0, 0x20]));
-        (other != name && slot(&other) == slot(name)).then_some(other)
+        (other != name && slot(disk, &other) == slot(disk, name)).then_some(other)
     })
 }
 
 /// Names for the same slot that begin like this one, or that this one begins with.
-fn akin(name: &[u8]) -> Vec<Vec<u8>> {
+fn akin(disk: &Disk, name: &[u8]) -> Vec<Vec<u8>> {
     let longer = (0..=255).filter(|byte| !b"/:".contains(byte)).map(|byte| [name, &[byte]].concat());
     let shorter = (1..name.len()).map(|length| name[..length].to_vec());
-    let fits = |other: &Vec<u8>| other.len() <= LONGEST && slot(other) == slot(name);
+    let fits = |other: &Vec<u8>| other.len() <= LONGEST && slot(disk, other) == slot(disk, name);
     longer.take_while(|other| other.len() <= LONGEST).chain(shorter).filter(fits).collect()
 }
 
@@ -131,14 +122,17 @@ impl<'a> Paths<'a> {
 
     /// A name of which this holds and which no entry of the directory bears.
     pub fn new_name(&self, rng: &mut Rng, within: Option<usize>, holds: impl Fn(&[u8]) -> bool) -> Vec<u8> {
-        let inside = self.inside(within);
-        let is_new = |name: &[u8]| !inside.iter().any(|entry| same(&entry.name, name));
         loop {
             let name = any_name(rng);
-            if holds(&name) && is_new(&name) {
+            if holds(&name) && !self.has(within, &name) {
                 return name;
             }
         }
+    }
+
+    /// Whether an entry of the directory bears this name.
+    fn has(&self, within: Option<usize>, name: &[u8]) -> bool {
+        self.inside(within).iter().any(|entry| same(&self.volume.disk, &entry.name, name))
     }
 
     /// The root.
@@ -149,8 +143,34 @@ impl<'a> Paths<'a> {
 
     /// An entry by its path, in any case.
     pub fn existing(&self, rng: &mut Rng, number: usize) -> Question {
-        let components = self.components(Some(number)).iter().map(|name| recased(rng, name)).collect::<Vec<_>>();
+        let disk = &self.volume.disk;
+        let components: Vec<_> =
+            self.components(Some(number)).iter().map(|name| recased(rng, disk, name)).collect();
         Question::new("an entry", &components, Ok(self.found(number)))
+    }
+
+    /// What a path of these components leads to if the tag is that of another disk. The chains stay as they are, and in
+    /// them each entry has to hang rightly for that disk.
+    pub fn on(&self, disk: &Disk, components: &[Vec<u8>]) -> Result<Found, Refusal> {
+        let (mut last, mut compared) = (None, 0);
+        for (place, name) in components.iter().enumerate() {
+            if last.is_some_and(|number: usize| self.volume.entries[number].kind != Kind::Directory) {
+                return Err(Refusal::at(20, place - 1));
+            }
+            let mut chain: Vec<&Entry> = self.inside(last);
+            chain.retain(|entry| entry.slot == slot(disk, name));
+            chain.sort_by_key(|entry| entry.place());
+            let met = chain.iter().position(|entry| same(disk, &entry.name, name));
+            let passed = &chain[..met.map_or(chain.len(), |met| met + 1)];
+            if let Some(entry) = passed.iter().find(|entry| slot(disk, &entry.name) != entry.slot) {
+                return Err(Refusal::at(12, entry.key as usize));
+            }
+            let met = met.ok_or(Refusal::at(19, place))?;
+            compared += met as u32 + 1;
+            last = Some(self.numbers[&chain[met].key]);
+        }
+        let found = last.map_or(self.root().due, |number| Ok(self.found(number)))?;
+        Ok(Found { compared, ..found })
     }
 
     /// A name that a directory lacks, at times with more after it.
@@ -164,25 +184,27 @@ impl<'a> Paths<'a> {
 
     /// Names that a directory lacks: near to those that it has, and far from them.
     pub fn missing(&self, rng: &mut Rng, within: Option<usize>) -> Vec<Question> {
-        let inside = self.inside(within);
+        let (disk, inside) = (&self.volume.disk, self.inside(within));
         let mut names = vec![("any name", self.new_name(rng, within, |_| true))];
         names.push(("a longest name", self.new_name(rng, within, |name| name.len() == LONGEST)));
         let used: BTreeSet<u32> = inside.iter().map(|entry| entry.slot).collect();
         if used.len() < TABLE as usize {
-            names.push(("an empty slot", self.new_name(rng, within, |name| !used.contains(&slot(name)))));
+            names.push(("an empty slot", self.new_name(rng, within, |name| !used.contains(&slot(disk, name)))));
         }
         if !inside.is_empty() {
             let near = &rng.pick(&inside).name;
-            names.push(("a slot in use", self.new_name(rng, within, |name| slot(name) == slot(near))));
-            names.push(("an entry's hash", self.new_name(rng, within, |name| hash(name) == hash(near))));
-            names.extend(unfolded(rng, near).map(|name| ("not to be folded", name)));
-            let akin = akin(near);
+            let [in_use, hashed] = [slot(disk, near), hash(disk, near)];
+            names.push(("a slot in use", self.new_name(rng, within, |name| slot(disk, name) == in_use)));
+            names.push(("an entry's hash", self.new_name(rng, within, |name| hash(disk, name) == hashed)));
+            names.extend(unfolded(rng, disk, near).map(|name| ("not to be folded", name)));
+            names.push(("other accents", lookalike(rng, near)));
+            let akin = akin(disk, near);
             let picks = (0..akin.len().min(2)).map(|_| akin[rng.below(akin.len() as u64) as usize].clone());
             names.extend(picks.map(|name| ("longer or shorter", name)));
         }
         let elsewhere = self.volume.entries.iter().map(|entry| entry.name.clone()).take(3);
         names.extend(elsewhere.map(|name| ("a name from elsewhere", name)));
-        names.retain(|(_, name)| !inside.iter().any(|entry| same(&entry.name, name)));
+        names.retain(|(_, name)| !self.has(within, name));
         names.iter().map(|(what, name)| self.lacking(rng, what, within, name)).collect()
     }
 
@@ -283,36 +305,44 @@ pub fn telling_rooms(disk: &Disk, left: usize) -> Vec<usize> {
 #[cfg(test)]
 mod tests {
     use super::*;
+    use crate::disk::FLOPPY;
     use crate::lookup::find;
     use crate::names::valid;
     use crate::volumes::{any_style, mixed};
 
-    const DISK: Disk = Disk::FLOPPY;
+    const DISK: Disk = Disk::PLAIN;
 
-    fn volume(rng: &mut Rng) -> Volume {
-        let plan = mixed(rng, &DISK, 120);
+    fn volume(rng: &mut Rng, disk: &Disk) -> Volume {
+        let plan = mixed(rng, disk, 120);
         let style = any_style(rng);
-        Volume::new(rng, &DISK, &plan, style)
+        Volume::new(rng, &plan, style)
     }
 
     #[test]
     fn names_that_are_the_same_and_names_that_only_look_so() {
         let mut rng = Rng::new(110);
-        let (mut changed, mut high) = (0, 0);
-        for _ in 0..500 {
-            let name = any_name(&mut rng);
-            let other = recased(&mut rng, &name);
-            assert!(same(&name, &other), "{name:?} {other:?}");
-            changed += usize::from(name != other);
-            let Some(other) = unfolded(&mut rng, &name) else { continue };
-            assert!(valid(&other) && !same(&name, &other) && slot(&name) == slot(&other), "{name:?} {other:?}");
-            let like_letters = |byte: u8| (0xC0..0xE0).contains(&(byte & 0xDF));
-            high += usize::from(name.iter().zip(&other).any(|(&a, &b)| a != b && like_letters(a)));
+        for disk in Disk::FLOPPIES {
+            let slot = |name: &[u8]| slot(&disk, name);
+            let (mut changed, mut accents, mut high) = (0, 0, 0);
+            let differ = |one: &[u8], other: &[u8]| one.iter().zip(other).any(|(&a, &b)| a != b && a >= 0xC0);
+            for _ in 0..500 {
+                let name = any_name(&mut rng);
+                let other = recased(&mut rng, &disk, &name);
+                assert!(same(&disk, &name, &other), "{name:?} {other:?}");
+                changed += usize::from(name != other);
+                accents += usize::from(differ(&name, &other));
+                let Some(other) = unfolded(&mut rng, &disk, &name) else { continue };
+                assert!(valid(&other) && slot(&name) == slot(&other), "{name:?} {other:?}");
+                assert!(!same(&disk, &name, &other), "{name:?} {other:?}");
+                high += usize::from(differ(&name, &other));
+            }
+            assert!(changed > 200 && high > 50, "{changed} changed, {high} unfolded above BF");
+            let wanted = if disk.is_international() { 101..=500 } else { 0..=0 };
+            assert!(wanted.contains(&accents), "{accents} accents changed");
+            assert!(akin(&disk, b"abc").iter().all(|other| slot(other) == slot(b"abc") && other != b"abc"));
+            assert!(akin(&disk, b"abc").iter().any(|other| other.len() == 4));
+            assert!(akin(&disk, &[b'x'; LONGEST]).iter().all(|other| other.len() < LONGEST));
         }
-        assert!(changed > 200 && high > 50, "{changed} changed, {high} above 7F");
-        assert!(akin(b"abc").iter().all(|other| slot(other) == slot(b"abc") && other != b"abc"));
-        assert!(akin(b"abc").iter().any(|other| other.len() == 4));
-        assert!(akin(&[b'x'; LONGEST]).iter().all(|other| other.len() < LONGEST));
     }
 
     /// What is due is known from the volume, and a lookup says the same.
@@ -320,8 +350,8 @@ mod tests {
     fn every_question_is_answered_as_is_due() {
         let mut rng = Rng::new(111);
         let mut met = BTreeMap::new();
-        for _ in 0..20 {
-            let volume = volume(&mut rng);
+        for disk in [Disk::FLOPPIES; 10].concat() {
+            let volume = volume(&mut rng, &disk);
             let paths = Paths::new(&volume);
             let mut questions = vec![paths.root()];
             for number in 0..volume.entries.len() {
@@ -335,24 +365,53 @@ mod tests {
             }
             questions.extend(paths.missing(&mut rng, None));
             for Question { what, path, due } in &questions {
-                assert_eq!(find(&DISK, &volume.image, path), *due, "{what}: {path:?}");
-                *met.entry(*what).or_insert(0) += 1;
+                assert_eq!(find(FLOPPY, &volume.image, path), *due, "{what}: {path:?}");
+                *met.entry((disk.kind, *what)).or_insert(0) += 1;
             }
         }
         let rare: Vec<_> = met.iter().filter(|(_, &times)| times < 10).collect();
-        assert!(rare.is_empty() && met.len() == 16, "{rare:?} of {met:?}");
+        assert!(rare.is_empty() && met.len() == 2 * 17, "{rare:?} of {met:?}");
+    }
+
+    /// The same bytes under the tag of the other kind: some paths still lead somewhere, on some there is an entry that
+    /// hangs wrongly, and some lead nowhere.
+    #[test]
+    fn paths_on_a_disk_of_another_kind() {
+        let mut rng = Rng::new(114);
+        let mut met = BTreeMap::new();
+        for disk in [Disk::FLOPPIES; 10].concat() {
+            let volume = volume(&mut rng, &disk);
+            let paths = Paths::new(&volume);
+            let Some(other) = disk.others().next() else { continue };
+            let mut image = volume.image.clone();
+            image[..4].copy_from_slice(&other.boot_tag());
+            for number in (0..volume.entries.len()).filter(|&number| paths.is_within_reach(number)) {
+                let components = paths.components(Some(number));
+                let again: Vec<_> = components.iter().map(|name| recased(&mut rng, &other, name)).collect();
+                for (components, kind) in [(&components, &disk), (&components, &other), (&again, &other)] {
+                    let due = paths.on(kind, components);
+                    let image = if *kind == disk { &volume.image } else { &image };
+                    assert_eq!(find(FLOPPY, image, &components.join(&b'/')), due, "{components:?}");
+                    let number = due.map_or_else(|refusal| refusal.number, |_| 0);
+                    *met.entry((disk.kind, kind.kind, number)).or_insert(0) += 1;
+                }
+            }
+        }
+        let changed = [0, 12, 19].map(|number| [(0, 2, number), (2, 0, number)]).concat();
+        let often = |answer| met.get(&answer).is_some_and(|&times| times > 20);
+        assert!([(0, 0, 0), (2, 2, 0)].into_iter().chain(changed).all(often), "{met:?}");
     }
 
     #[test]
     fn paths_of_every_length() {
         let mut rng = Rng::new(112);
-        let volume = volume(&mut rng);
+        let volume = volume(&mut rng, &DISK);
         let paths = Paths::new(&volume);
         for length in 40..300 {
             let Question { path, due, .. } = paths.of_length(&mut rng, None, length);
             assert_eq!(path.len(), length);
             assert_eq!(due, Err(if length > 255 { Refusal::at(18, 0) } else { Refusal::at(19, 0) }));
-            assert_eq!(find(&DISK, &volume.image, &path), due, "{path:?}");
+            assert_eq!(find(FLOPPY, &volume.image, &path), due, "{path:?}");
         }
     }
 

@@ -6,20 +6,20 @@
 use crate::audit::passed;
 use crate::blocks::{self, DataAt, ListAt, DIRECTORY};
 use crate::disk::Disk;
-use crate::lookup::{block, find, led_to};
+use crate::lookup::{block, find_on, led_to};
 use crate::program::Refusal;
 use crate::sizes::{data_blocks, held, list_blocks};
 use crate::words::{key_word, word, TABLE};
 
 /// Copies a file's bytes from an offset on into the output, until one of them ends, and answers how many. The rest
 /// of the output stays, and all of it if the read is refused.
-pub fn read(disk: &Disk, image: &[u8], path: &[u8], offset: usize, output: &mut [u8]) -> Result<usize, Refusal> {
-    let found = find(disk, image, path)?;
+pub fn read(blocks: u32, image: &[u8], path: &[u8], offset: usize, output: &mut [u8]) -> Result<usize, Refusal> {
+    let (disk, found) = find_on(blocks, image, path)?;
     if found.kind == DIRECTORY {
         let slashes = path.iter().filter(|&&byte| byte == b'/').count();
         return Err(Refusal::at(20, slashes));
     }
-    let contents = contents(disk, image, found.key)?;
+    let contents = contents(&disk, image, found.key)?;
     let rest = contents.get(offset..).unwrap_or(&[]);
     let count = rest.len().min(output.len());
     output[..count].copy_from_slice(&rest[..count]);
@@ -70,16 +70,16 @@ fn tables<'a>(disk: &Disk, image: &'a [u8], header: u32) -> (Vec<&'a [u8]>, Resu
 mod tests {
     use super::*;
     use crate::audit::audit;
+    use crate::disk::FLOPPY;
     use crate::rng::Rng;
     use crate::volumes::{any_style, Entry, Kind, Plan, Volume, TELLING_SIZES};
     use crate::words::{mend, put, BLOCK_BYTES};
 
-    const DISK: Disk = Disk::FLOPPY;
-
-    /// A file with one list, one with three full lists, an empty one, and a directory with a file.
-    fn volume() -> Volume {
+    /// A file with one list, one with three full lists, an empty one, and a directory with a file, on a disk of this
+    /// kind.
+    fn volume_on(disk: &Disk) -> Volume {
         let mut rng = Rng::new(130);
-        let mut plan = Plan::default();
+        let mut plan = Plan::new(disk);
         plan.add_named(None, b"one", Kind::File(74 * 488 + 1));
         plan.add_named(None, b"three", Kind::File(4 * 72 * 488));
         plan.add_named(None, b"empty", Kind::File(0));
@@ -87,7 +87,11 @@ mod tests {
         plan.add_named(within, b"box", Kind::File(1_000));
         plan.add_named(within, b"Jane", Kind::Directory);
         let style = any_style(&mut rng);
-        Volume::new(&mut rng, &DISK, &plan, style)
+        Volume::new(&mut rng, &plan, style)
+    }
+
+    fn volume() -> Volume {
+        volume_on(&Disk::PLAIN)
     }
 
     fn entry<'a>(volume: &'a Volume, name: &[u8]) -> &'a Entry {
@@ -107,7 +111,7 @@ mod tests {
     fn hold_refused(image: &[u8], path: &[u8], number: u32, place: u32) {
         for (offset, room) in [(0, 40_000), (0, 1), (0, 0), (900, 600), (usize::MAX, 5)] {
             let mut output = vec![0xAA; room];
-            let answer = read(&DISK, image, path, offset, &mut output);
+            let answer = read(FLOPPY, image, path, offset, &mut output);
             assert_eq!(answer, Err(Refusal::at(number, place as usize)), "{path:?} from {offset}");
             assert!(output.iter().all(|&byte| byte == 0xAA), "{path:?}: {number} with an output of {room}");
         }
@@ -129,17 +133,20 @@ mod tests {
             image = changed(&image, key, words);
         }
         let mut output = [0xAA; 500];
-        assert_eq!(read(&DISK, &image, b"A/c", 0, &mut output), Ok(492));
+        assert_eq!(read(FLOPPY, &image, b"A/c", 0, &mut output), Ok(492));
         assert_eq!((&output[..4], &output[4..484]), (&b"firs"[..], &[0; 480][..]));
         assert_eq!(&output[484..], b"end1last\xAA\xAA\xAA\xAA\xAA\xAA\xAA\xAA");
-        assert_eq!(read(&DISK, &image, b"a/C", 486, &mut output[..3]), Ok(3));
+        assert_eq!(read(FLOPPY, &image, b"a/C", 486, &mut output[..3]), Ok(3));
         assert_eq!(&output[..5], b"d1ls\0");
+        image[3] = 2;
+        assert_eq!(read(FLOPPY, &image, b"A/c", 484, &mut output), Ok(8));
+        assert_eq!(&output[..8], b"end1last");
     }
 
     /// What a read from this offset on makes of an output of this length.
     fn got(volume: &Volume, path: &[u8], offset: usize, room: usize) -> (usize, Vec<u8>) {
         let mut output = vec![0xAA; room];
-        let count = read(&DISK, &volume.image, path, offset, &mut output).expect("a good file");
+        let count = read(FLOPPY, &volume.image, path, offset, &mut output).expect("a good file");
         (count, output)
     }
 
@@ -147,10 +154,10 @@ mod tests {
     fn pieces_make_the_whole() {
         let mut rng = Rng::new(131);
         for size in TELLING_SIZES.into_iter().chain([1_000, 70_273]) {
-            let mut plan = Plan::default();
+            let mut plan = Plan::new(&rng.pick(&Disk::FLOPPIES));
             plan.add_named(None, b"file", Kind::File(size));
             let style = any_style(&mut rng);
-            let volume = Volume::new(&mut rng, &DISK, &plan, style);
+            let volume = Volume::new(&mut rng, &plan, style);
             let (count, whole) = got(&volume, b"file", 0, size as usize + 10);
             assert_eq!((count, &whole[count..]), (size as usize, &[0xAA; 10][..]));
             for piece in [1, 3, 487, 488, 489, 976, 5_000, 35_136, 35_137] {
@@ -171,7 +178,10 @@ mod tests {
 
     #[test]
     fn a_refused_lookup_is_handed_on() {
-        let volume = volume();
+        Disk::FLOPPIES.iter().for_each(|disk| hold_lookups(&volume_on(disk)));
+    }
+
+    fn hold_lookups(volume: &Volume) {
         hold_refused(&volume.image[1..], b"Mary/box", 1, 0);
         for (path, number, place) in [
             (&b"one/"[..], 18, 1),
@@ -189,15 +199,23 @@ mod tests {
         hold_refused(&image, b"Mary/box", 3, 0);
         hold_refused(&image, b":", 18, 0);
         hold_refused(&changed(&volume.image, 880, &[(3, 71)]), b"Mary/box", 4, 880);
-        let key = entry(&volume, b"Mary").key;
+        image[2] = b'S';
+        for kind in [1, 3, 4, 0xFF] {
+            image[3] = kind;
+            hold_refused(&image, b"Mary/box", 3, 0);
+        }
+        let key = entry(volume, b"Mary").key;
         hold_refused(&changed(&volume.image, key, &[(125, 0)]), b"Mary/box", 10, key);
     }
 
     /// Every rule about a file's blocks, broken far after what is asked for too.
     #[test]
     fn every_block_of_the_file_is_tested() {
-        let volume = volume();
-        let [one, three] = [&b"one"[..], b"three"].map(|name| entry(&volume, name));
+        Disk::FLOPPIES.iter().for_each(|disk| hold_blocks(&volume_on(disk)));
+    }
+
+    fn hold_blocks(volume: &Volume) {
+        let [one, three] = [&b"one"[..], b"three"].map(|name| entry(volume, name));
         let (first, middle, last) = (one.data[0], one.data[40], one.data[74]);
         let (header, list) = (one.key, one.lists[0]);
         for (path, key, words, number, place) in [
@@ -224,8 +242,8 @@ mod tests {
             (b"one", last, (4, last), 15, last),
             (b"three", three.lists[0], (126, 0), 14, three.lists[0]),
             (b"three", three.lists[1], (126, three.lists[1]), 14, three.lists[1]),
-            (b"empty", entry(&volume, b"empty").key, (4, 5), 14, entry(&volume, b"empty").key),
-            (b"empty", entry(&volume, b"empty").key, (2, 1), 14, entry(&volume, b"empty").key),
+            (b"empty", entry(volume, b"empty").key, (4, 5), 14, entry(volume, b"empty").key),
+            (b"empty", entry(volume, b"empty").key, (2, 1), 14, entry(volume, b"empty").key),
         ] {
             hold_refused(&changed(&volume.image, key, &[words]), path, number, place);
             let mut unsummed = changed(&volume.image, key, &[words]);
@@ -263,7 +281,7 @@ mod tests {
         let file = entry(&volume, b"three");
         let image = changed(&volume.image, file.lists[0], &[(126, file.lists[0])]);
         hold_refused(&image, b"three", 15, file.data[72]);
-        let answer = audit(&DISK, &image, &mut [0; 1_760]);
+        let answer = audit(FLOPPY, &image, &mut [0; 1_760]);
         assert_eq!(answer, Err(Refusal::at(6, file.lists[0] as usize)));
     }
 }

@@ -18,7 +18,7 @@ pub const SETTINGS: &str = "s/settings";
 /// The path of a file that is long enough for a list block.
 pub const FONT: &str = "fonts/lower-third";
 
-const DISK: Disk = Disk::FLOPPY;
+const DISK: Disk = Disk::PLAIN;
 
 /// The name of the volume.
 const NAME: &[u8] = b"Titles";
@@ -107,7 +107,7 @@ fn contents() -> [(&'static str, Vec<u8>); 3] {
 
 /// The entries of the volume: a directory for each file, and an empty one.
 fn plan() -> Plan {
-    let mut plan = Plan::default();
+    let mut plan = Plan::new(&DISK);
     for (path, bytes) in contents() {
         let (directory, name) = path.split_once('/').expect("a file in a directory");
         let within = plan.add_named(None, directory.as_bytes(), Kind::Directory);
@@ -148,7 +148,7 @@ fn finished(volume: &Volume, Met { key, part }: Met) -> Vec<u8> {
 /// The volume, with an image as a disk has it.
 fn volume() -> Volume {
     let style = Style { filling: Filling::Zeros, order: Order::Rising };
-    let mut volume = Volume::new(&mut Rng::new(880), &DISK, &plan(), style);
+    let mut volume = Volume::new(&mut Rng::new(880), &plan(), style);
     for met in volume.order.clone() {
         let block = finished(&volume, met);
         volume.image[met.key as usize * BLOCK_BYTES..][..BLOCK_BYTES].copy_from_slice(&block);
@@ -179,13 +179,14 @@ pub fn all() -> [(&'static str, Vec<u8>); 3] {
 mod tests {
     use super::*;
     use crate::declared::agreed;
+    use crate::disk::FLOPPY;
     use crate::program::{read as read_program, Kind as HunkKind, Refusal};
     use crate::reading::read;
     use std::path::Path;
 
     fn bytes_of(image: &[u8], path: &str) -> Result<Vec<u8>, Refusal> {
         let mut output = vec![0; 50_000];
-        let count = read(&DISK, image, path.as_bytes(), 0, &mut output)?;
+        let count = read(FLOPPY, image, path.as_bytes(), 0, &mut output)?;
         output.truncate(count);
         Ok(output)
     }
@@ -218,7 +219,7 @@ mod tests {
     #[test]
     fn the_volume_is_good_and_its_files_are_there() {
         let image = titles();
-        let report = agreed(&DISK, &image, &mut [0; 1_760]).expect("a good volume");
+        let report = agreed(FLOPPY, &image, &mut [0; 1_760]).expect("a good volume");
         assert_eq!([report.directories, report.files, report.list_blocks, report.data_blocks], [4, 3, 1, 76]);
         for (path, bytes) in contents() {
             assert!(bytes_of(&image, path) == Ok(bytes), "{path}");
@@ -229,7 +230,7 @@ mod tests {
     #[test]
     fn the_damage_is_found_and_bounded() {
         let image = damaged();
-        let refusal = agreed(&DISK, &image, &mut [0; 1_760]).expect_err("a damaged volume");
+        let refusal = agreed(FLOPPY, &image, &mut [0; 1_760]).expect_err("a damaged volume");
         assert_eq!(refusal.number, 7);
         assert_eq!(bytes_of(&image, TITLE), Err(refusal));
         for (path, bytes) in contents().into_iter().skip(1) {

@@ -51,7 +51,7 @@ pub fn held(disk: &Disk, size: u32, number: u32) -> u32 {
 mod tests {
     use super::*;
 
-    const DISK: Disk = Disk::FLOPPY;
+    const DISK: Disk = Disk::PLAIN;
 
     /// Sizes around every place where something changes, up to the limit.
     fn telling_sizes() -> Vec<u32> {

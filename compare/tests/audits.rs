@@ -9,29 +9,27 @@ use std::collections::BTreeMap;
 use std::ops::{Deref, DerefMut};
 
 use compare::audit::Report;
-use compare::bad_volumes::{causes, harmless, scratch, short_claims, wrong_lengths, Cause, Harm, Patch};
+use compare::bad_volumes::{causes, harmless, retagged, scratch, short_claims, wrong_lengths, Cause, Harm, Patch};
 use compare::declared::agreed;
-use compare::disk::Disk;
+use compare::disk::{claim_length, image_length, Disk, FLOPPY};
 use compare::driver::checksum;
 use compare::program::Refusal;
 use compare::rng::Rng;
 use compare::sides::{with_seeds, Who};
 use compare::talk;
 use compare::volumes::{
-    any_style, chain, empty, files, full, mixed, nested, shuffle, Plan, Volume, TELLING_SIZES,
+    alike, any_style, chain, empty, every_byte, files, full, mixed, nested, shuffle, Plan, Volume, TELLING_SIZES,
 };
 
 const AUDIT: u32 = 3;
 
 const BAD: &str = "bad request";
 
-const DISK: Disk = Disk::FLOPPY;
-
 /// What is in the claim area before an audit.
 const CLAIM: u8 = 0xAA;
 
 /// The least claim area that is enough.
-const ENOUGH: usize = DISK.claim_length();
+const ENOUGH: usize = claim_length(FLOPPY);
 
 /// The longest claim area that `probe` lends.
 const CLAIM_ROOM: usize = 4_096;
@@ -39,17 +37,23 @@ const CLAIM_ROOM: usize = 4_096;
 /// The largest file.
 const LARGEST: u32 = 844_728;
 
+/// The kind of a disk, and the number of a refusal or 0.
+type Answer = (u8, u32);
+
 /// How often each kind of answer is due.
 #[derive(Default)]
 struct Tally {
-    audits: usize,
-    accepted: usize,
-    refused: BTreeMap<u32, usize>,
+    /// By the kind that the tag says, or where it says none, by that of the image as it was sent.
+    audits: BTreeMap<Answer, usize>,
+    /// Those of a volume under the tag of another kind, by the kind that it was laid out for.
+    retagged: BTreeMap<Answer, usize>,
 }
 
 /// A talk about one image, and what was asked in it.
 struct Talk {
     talk: talk::Talk,
+    /// The kind of the image as it was sent.
+    sent: Disk,
     tally: Tally,
 }
 
@@ -69,22 +73,25 @@ impl DerefMut for Talk {
 
 impl Talk {
     fn new(who: Who) -> Talk {
-        Talk { talk: talk::Talk::new(who), tally: Tally::default() }
+        Talk { talk: talk::Talk::new(who), sent: Disk::PLAIN, tally: Tally::default() }
+    }
+
+    /// Sends an image.
+    fn image(&mut self, image: &[u8]) {
+        self.sent = Disk::of(FLOPPY, image).unwrap_or(self.sent);
+        self.talk.image(image);
     }
 
     fn audit(&mut self, claim_length: usize) -> Result<Report, Refusal> {
         let mut claim = vec![CLAIM; claim_length];
-        let answer = agreed(&DISK, self.held(), &mut claim);
-        self.tally.audits += 1;
+        let answer = agreed(FLOPPY, self.held(), &mut claim);
+        let kind = Disk::of(FLOPPY, self.held()).unwrap_or(self.sent).kind;
+        *self.tally.audits.entry((kind, number(answer))).or_default() += 1;
         let line = match answer {
             Ok(Report { directories, files, list_blocks, data_blocks, used, free }) => {
-                self.tally.accepted += 1;
                 format!("accepted {directories} {files} {list_blocks} {data_blocks} {used} {free}")
             }
-            Err(Refusal { number, place }) => {
-                *self.tally.refused.entry(number).or_default() += 1;
-                format!("refused {number} {place}")
-            }
+            Err(Refusal { number, place }) => format!("refused {number} {place}"),
         };
         let body = (claim_length as u32).to_be_bytes();
         self.ask(AUDIT, &body, &format!("{line} claim {}", checksum(&claim)));
@@ -115,31 +122,65 @@ impl Talk {
     }
 }
 
+/// The number of a refusal, or 0.
+fn number(answer: Result<Report, Refusal>) -> u32 {
+    answer.map_or_else(|refusal| refusal.number, |_| 0)
+}
+
 fn refused(number: u32) -> Result<Report, Refusal> {
     Err(Refusal::at(number, 0))
 }
 
 fn laid_out(rng: &mut Rng, plan: &Plan) -> Volume {
     let style = any_style(rng);
-    Volume::new(rng, &DISK, plan, style)
+    Volume::new(rng, plan, style)
 }
 
 /// The case that docs/FORMAT.md works out ("Worked cases"), without the opinions.
 #[test]
 fn the_empty_volume() {
-    let volume = laid_out(&mut Rng::new(90), &empty());
+    let mut rng = Rng::new(90);
     let mut talk = talk::Talk::new(Who::Both);
-    talk.image(&volume.image);
-    for length in [1_760, 1_761, 4_096] {
-        let mut claim = vec![0; length];
-        claim[880] = 1;
-        claim[volume.bitmap as usize] = 1;
-        let answer = format!("accepted 0 0 0 0 2 1756 claim {}", checksum(&claim));
-        talk.ask(AUDIT, &(length as u32).to_be_bytes(), &answer);
+    for disk in Disk::FLOPPIES {
+        let volume = laid_out(&mut rng, &empty(&disk));
+        talk.about(format!("kind {}", disk.kind));
+        talk.image(&volume.image);
+        for length in [1_760, 1_761, 4_096] {
+            let mut claim = vec![0; length];
+            claim[880] = 1;
+            claim[volume.bitmap as usize] = 1;
+            let answer = format!("accepted 0 0 0 0 2 1756 claim {}", checksum(&claim));
+            talk.ask(AUDIT, &(length as u32).to_be_bytes(), &answer);
+        }
+        for length in [0, 1, 1_759] {
+            let answer = format!("refused 2 0 claim {}", checksum(&vec![0; length]));
+            talk.ask(AUDIT, &(length as u32).to_be_bytes(), &answer);
+        }
     }
-    for length in [0, 1, 1_759] {
-        let answer = format!("refused 2 0 claim {}", checksum(&vec![0; length]));
-        talk.ask(AUDIT, &(length as u32).to_be_bytes(), &answer);
+    talk.run();
+}
+
+/// Every last byte that a tag can have, on a volume of which either kind is right; and the letters before it.
+#[test]
+fn every_boot_tag() {
+    let mut rng = Rng::new(93);
+    let plan = alike(&mut rng, &Disk::PLAIN, 10, 0);
+    let volume = laid_out(&mut rng, &plan);
+    let mut talk = Talk::new(Who::Both);
+    talk.image(&volume.image);
+    for kind in 0..=255 {
+        talk.about(format!("kind {kind}"));
+        let due = if [0, 2].contains(&kind) { Ok(volume.report()) } else { refused(3) };
+        talk.patched(&[(3, vec![kind])], |talk| {
+            talk.expect(ENOUGH, due);
+            talk.expect(ENOUGH - 1, refused(2));
+        });
+    }
+    for (kind, place) in [0, 2].into_iter().flat_map(|kind| (0..24).map(move |place| (kind, place))) {
+        let mut tag = [b'D', b'O', b'S', kind];
+        tag[place / 8] ^= 1 << (place % 8);
+        talk.about(format!("tag {tag:?}"));
+        talk.patched(&[(0, tag.to_vec())], |talk| talk.expect(ENOUGH, refused(3)));
     }
     talk.run();
 }
@@ -157,7 +198,7 @@ fn before_any_image_its_length_is_zero() {
 #[test]
 fn claim_areas_above_the_room_and_short_bodies_are_bad() {
     let mut rng = Rng::new(91);
-    let plan = mixed(&mut rng, &DISK, 40);
+    let plan = mixed(&mut rng, &Disk::PLAIN, 40);
     let volume = laid_out(&mut rng, &plan);
     let mut talk = Talk::new(Who::Both);
     talk.image(&volume.image);
@@ -175,12 +216,12 @@ fn claim_areas_above_the_room_and_short_bodies_are_bad() {
 }
 
 /// Lengths of image and claim area on both sides of what is right, with good and with bad tags and roots.
-fn lengths(who: Who, rng: &mut Rng) -> Talk {
+fn lengths(who: Who, rng: &mut Rng, disk: &Disk) -> Talk {
     let mut talk = Talk::new(who);
-    let volume = laid_out(rng, &empty());
-    let claims = short_claims(&DISK).into_iter().chain([ENOUGH, ENOUGH + 1, CLAIM_ROOM]);
-    for length in wrong_lengths(&DISK).into_iter().chain([DISK.image_length()]) {
-        let right = length == DISK.image_length();
+    let volume = laid_out(rng, &empty(disk));
+    let claims = short_claims(FLOPPY).into_iter().chain([ENOUGH, ENOUGH + 1, CLAIM_ROOM]);
+    for length in wrong_lengths(FLOPPY).into_iter().chain([image_length(FLOPPY)]) {
+        let right = length == image_length(FLOPPY);
         let mut image = volume.image.clone();
         image.resize(length, 0);
         talk.about(format!("{length} bytes"));
@@ -204,34 +245,69 @@ fn lengths(who: Who, rng: &mut Rng) -> Talk {
     talk
 }
 
-/// Volumes of moderate size, and what they are.
-fn moderate(rng: &mut Rng) -> Vec<(String, Volume)> {
-    let mut volumes = vec![("empty".to_string(), laid_out(rng, &empty()))];
-    let plan = files(rng, &TELLING_SIZES);
-    volumes.push(("telling sizes".to_string(), laid_out(rng, &plan)));
-    // three list blocks, and two of which the last is full
-    let plan = files(rng, &[105_409, 105_408, 1]);
-    volumes.push(("several lists".to_string(), laid_out(rng, &plan)));
-    let plan = nested(rng, 40);
-    volumes.push(("40 nested".to_string(), laid_out(rng, &plan)));
-    let plan = chain(rng, 40);
-    volumes.push(("40 on a chain".to_string(), laid_out(rng, &plan)));
-    for blocks in [30, 60, 100, 150, 200, 250, 320] {
-        let plan = mixed(rng, &DISK, blocks);
-        volumes.push((format!("mixed, {blocks} blocks"), laid_out(rng, &plan)));
+/// Volumes of moderate size on a disk of this kind, and what they are.
+fn moderate(rng: &mut Rng, disk: &Disk) -> Vec<(String, Volume)> {
+    let mut plans = vec![
+        ("empty".to_string(), empty(disk)),
+        ("telling sizes".to_string(), files(rng, disk, &TELLING_SIZES)),
+        // three list blocks, and two of which the last is full
+        ("several lists".to_string(), files(rng, disk, &[105_409, 105_408, 1])),
+        ("40 nested".to_string(), nested(rng, disk, 40)),
+        ("40 on a chain".to_string(), chain(rng, disk, 40)),
+        ("every byte".to_string(), every_byte(rng, disk)),
+        ("alike on each kind".to_string(), alike(rng, disk, 30, 0)),
+    ];
+    if !disk.is_international() {
+        plans.push(("pairs of names".to_string(), alike(rng, disk, 20, 3)));
     }
-    volumes
+    for blocks in [30, 60, 100, 150, 200, 250, 320] {
+        plans.push((format!("mixed, {blocks} blocks"), mixed(rng, disk, blocks)));
+    }
+    let named = |what: &str| format!("kind {}, {what}", disk.kind);
+    plans.iter().map(|(what, plan)| (named(what), laid_out(rng, plan))).collect()
 }
 
-/// Volumes that fill the disk.
+/// Volumes that fill the disk, each of some kind.
 fn large(rng: &mut Rng) -> Vec<(String, Volume)> {
+    let [one, two, three, four] = [(); 4].map(|()| rng.pick(&Disk::FLOPPIES));
     let plans = [
-        ("nested throughout", nested(rng, DISK.chain_limit())),
-        ("one chain", chain(rng, DISK.chain_limit())),
-        ("the largest file", files(rng, &[LARGEST])),
-        ("full", full(rng, &DISK)),
+        ("nested throughout", nested(rng, &one, one.chain_limit())),
+        ("one chain", chain(rng, &two, two.chain_limit())),
+        ("the largest file", files(rng, &three, &[LARGEST])),
+        ("full", full(rng, &four)),
     ];
     plans.iter().map(|(what, plan)| (what.to_string(), laid_out(rng, plan))).collect()
+}
+
+/// The bytes of a volume under the tag of another kind, alone and with a claim area that is too short.
+fn other_kinds(talk: &mut Talk, what: &str, volume: &Volume) {
+    for other in volume.disk.others() {
+        talk.about(format!("{what}: under the tag of kind {}", other.kind));
+        let (patch, due) = retagged(volume, &other);
+        *talk.tally.retagged.entry((volume.disk.kind, number(due))).or_default() += 1;
+        talk.patched(&[patch], |talk| {
+            talk.expect(ENOUGH, due);
+            talk.expect(ENOUGH - 1, refused(2));
+        });
+    }
+}
+
+/// Small volumes of each kind under the tag of the other: good there, or with so many double names.
+fn doubles(who: Who, rng: &mut Rng) -> Talk {
+    let mut talk = Talk::new(who);
+    for disk in &Disk::FLOPPIES {
+        for pairs in 0..4 {
+            let pairs = if disk.is_international() { 0 } else { pairs };
+            let plan = alike(rng, disk, 12, pairs);
+            let volume = laid_out(rng, &plan);
+            let what = format!("kind {}, {pairs} pairs", disk.kind);
+            talk.about(&what[..]);
+            talk.image(&volume.image);
+            talk.expect(ENOUGH, Ok(volume.report()));
+            other_kinds(&mut talk, &what, &volume);
+        }
+    }
+    talk
 }
 
 /// Some of a volume's harms: of each cause with this chance in a hundred.
@@ -299,11 +375,13 @@ fn as_is(talk: &mut Talk, rng: &mut Rng, what: &str, volume: &Volume, scratches:
 /// All requests of the great comparison, as the seed draws them.
 fn talks(who: Who, seed: u64) -> Vec<Talk> {
     let mut rng = Rng::new(seed);
-    let mut talks = vec![lengths(who, &mut rng)];
-    for _ in 0..2 {
+    let mut talks = vec![doubles(who, &mut rng)];
+    for disk in &Disk::FLOPPIES {
+        talks.push(lengths(who, &mut rng, disk));
         let mut talk = Talk::new(who);
-        for (what, volume) in moderate(&mut rng) {
+        for (what, volume) in moderate(&mut rng, disk) {
             as_is(&mut talk, &mut rng, &what, &volume, 32);
+            other_kinds(&mut talk, &what, &volume);
             harms(&mut talk, &mut rng, &what, &volume, 100);
             pairs(&mut talk, &mut rng, &what, &volume, 20);
         }
@@ -312,24 +390,42 @@ fn talks(who: Who, seed: u64) -> Vec<Talk> {
     let mut talk = Talk::new(who);
     for (what, volume) in large(&mut rng) {
         as_is(&mut talk, &mut rng, &what, &volume, 3);
+        other_kinds(&mut talk, &what, &volume);
         harms(&mut talk, &mut rng, &what, &volume, 10);
     }
     talks.push(talk);
     talks
 }
 
-/// Enough of everything is asked: at least 3,000 audits, each number at least 20 times.
+/// How often each answer is due over all talks.
+fn sum(talks: &[Talk], of: fn(&Tally) -> &BTreeMap<Answer, usize>) -> BTreeMap<Answer, usize> {
+    let mut sum = BTreeMap::new();
+    for (&answer, &times) in talks.iter().flat_map(|talk| of(&talk.tally)) {
+        *sum.entry(answer).or_default() += times;
+    }
+    sum
+}
+
+/// Enough of everything is asked: of each kind at least 2,500 audits, each number at least 20 times.
 fn are_enough(talks: &[Talk]) {
-    let sum = |of: &dyn Fn(&Tally) -> usize| talks.iter().map(|talk| of(&talk.tally)).sum::<usize>();
-    let numbers = (1..18).map(|number| (number, sum(&|tally| tally.refused.get(&number).copied().unwrap_or(0))));
-    let numbers: BTreeMap<u32, usize> = numbers.collect();
-    let (audits, accepted) = (sum(&|tally| tally.audits), sum(&|tally| tally.accepted));
-    println!("{audits} audits, {accepted} accepted, refused by number: {numbers:?}");
-    assert!(audits >= 3_000, "{audits} audits");
-    assert!(accepted >= 200, "{accepted} accepted");
-    assert_eq!(accepted + numbers.values().sum::<usize>(), audits, "an answer of another number");
-    let rare: Vec<_> = numbers.iter().filter(|(_, &times)| times < 20).collect();
-    assert!(rare.is_empty(), "too few of {rare:?}");
+    let audits = sum(talks, |tally| &tally.audits);
+    for Disk { kind, .. } in Disk::FLOPPIES {
+        let of_kind: BTreeMap<u32, usize> =
+            audits.range((kind, 0)..=(kind, u32::MAX)).map(|(&(_, number), &times)| (number, times)).collect();
+        let total: usize = of_kind.values().sum();
+        println!("kind {kind}: {total} audits, by number: {of_kind:?}");
+        assert!(total >= 2_500, "{total} audits of kind {kind}");
+        assert!(of_kind.keys().copied().eq(0..18), "other numbers for kind {kind}: {of_kind:?}");
+        assert!(of_kind[&0] >= 200, "{} accepted of kind {kind}", of_kind[&0]);
+        let rare: Vec<_> = of_kind.iter().filter(|(_, &times)| times < 20).collect();
+        assert!(rare.is_empty(), "too few of {rare:?} for kind {kind}");
+    }
+    // a plain volume may be good, misplaced or have double names for the other kind; for an international one a plain
+    // disk has no double name
+    let retagged = sum(talks, |tally| &tally.retagged);
+    println!("under the other tag, by kind and number: {retagged:?}");
+    assert!(retagged.keys().copied().eq([(0, 0), (0, 12), (0, 13), (2, 0), (2, 12)]), "{retagged:?}");
+    assert!(retagged.values().all(|&times| times >= 3), "{retagged:?}");
 }
 
 /// The two opinions agree on all that is asked, and with what is known beforehand; no one else is needed for that.

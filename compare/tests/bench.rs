@@ -16,7 +16,7 @@ use std::process::{Command, Stdio};
 use std::sync::atomic::{AtomicU32, Ordering};
 
 use compare::bad_programs::{bad_bases, scratch as scratch_program, BASE_CAUSES, CAUSES};
-use compare::bad_volumes::{apply, scratch, Patch};
+use compare::bad_volumes::{apply, retagged, scratch, Patch};
 use compare::bitmap::place;
 use compare::counter::{
     audited, line, loaded, looked_up, moved, read_out, reset, Said, ACCEPTED, ARGUMENT_ROOM, BASES, FILE_ROOM,
@@ -30,10 +30,8 @@ use compare::program::{BOTH, BSS, CHIP, CODE, DATA, END, FAST, HEADER, HUNK_WORD
 use compare::programs::{bytes, file, good_bases, good_program, long_file, worked_file};
 use compare::rng::Rng;
 use compare::samples::{damaged, title, titles, FONT, SETTINGS, TITLE};
-use compare::volumes::{any_style, chain, empty, files, full, mixed, nested, Entry, Kind, Plan, Volume};
+use compare::volumes::{alike, any_style, chain, empty, files, full, mixed, nested, Entry, Kind, Plan, Volume};
 use compare::words::{mend, put, slot_word, word, BLOCK_BYTES};
-
-const DISK: Disk = Disk::FLOPPY;
 
 /// Bases for the title program.
 const BASES_A: [u32; 3] = [0x1_0000, 0x2_0000, 0x3_0000];
@@ -223,7 +221,7 @@ fn hold_said(words: &[impl AsRef<[u8]>], got: &Said, due: &Said) {
 
 fn laid_out(rng: &mut Rng, plan: &Plan) -> Volume {
     let style = any_style(rng);
-    Volume::new(rng, &DISK, plan, style)
+    Volume::new(rng, plan, style)
 }
 
 #[test]
@@ -513,6 +511,26 @@ fn every_verb_on_the_samples() {
     desk.hold_load("titles.adf", &BASES_A);
 }
 
+/// The tags beside those of the two kinds, with the sentence written out.
+#[test]
+fn images_of_other_kinds() {
+    let of_kind = |kind: u8| {
+        let mut image = titles();
+        image[3] = kind;
+        (format!("{kind}.adf"), image)
+    };
+    let desk = Desk::new([0, 1, 2, 3, 4, 0xFF].map(of_kind));
+    for kind in [1, 3, 4, 0xFF] {
+        let name = format!("{kind}.adf");
+        let due = "refused 3 at 0 (the image does not begin with the boot tag DOS 0 or DOS 2)";
+        desk.hold_out(&["audit", &name], &line(name.as_bytes(), due), false);
+        desk.hold_find(&name, &["", TITLE, "a//b"]);
+        desk.hold_read(&name, TITLE.as_bytes());
+        desk.hold_reset(&name, TITLE.as_bytes(), &BASES_A);
+    }
+    desk.hold_audit(&["0.adf", "1.adf", "2.adf", "3.adf", "4.adf", "255.adf"]);
+}
+
 /// The four lines of a reset, and each step's refusal as the last.
 #[test]
 fn resets() {
@@ -622,7 +640,7 @@ fn resets_with_kinds_of_memory() {
     let program = with_kinds_of_memory();
     let mut both = program.clone();
     put(&mut both, 6, BOTH | 2);
-    let mut plan = empty();
+    let mut plan = empty(&Disk::INTERNATIONAL);
     plan.add_named(None, b"kinds", Kind::File(program.len() as u32));
     let volume = laid_out(&mut Rng::new(177), &plan);
     let entry = entry(&volume, "kinds");
@@ -656,8 +674,12 @@ fn a_program_file_as_long_as_the_room() {
 /// Names with a space, with letters and bytes that are none, and paths of the greatest length and above it.
 #[test]
 fn paths_of_all_sorts() {
+    Disk::FLOPPIES.iter().for_each(paths_of_all_sorts_on);
+}
+
+fn paths_of_all_sorts_on(disk: &Disk) {
     let mut rng = Rng::new(170);
-    let mut plan = empty();
+    let mut plan = empty(disk);
     plan.add_named(None, b"two words", Kind::File(10));
     plan.add_named(None, b"\xC4rger\xFF\x01", Kind::File(20));
     plan.add_named(None, b"tab\tand\nline", Kind::File(30));
@@ -669,11 +691,15 @@ fn paths_of_all_sorts() {
     let deep = [[b'L'; 30]; 8].join(&b'/');
     let longest = [&deep[..], b"/to 255_"].concat();
     assert_eq!(longest.len(), 255);
-    let paths: [&[u8]; 12] = [
+    let accents = looked_up(&volume.image, b"\xE4RGER\xFF\x01");
+    assert_eq!(accents.1, disk.is_international(), "{}", accents.0);
+    let paths: [&[u8]; 14] = [
         b"two words",
         b"TWO WORDS",
         b"\xC4rger\xFF\x01",
         b"\xE4rger\xFF\x01",
+        b"\xE4RGER\xFF\x01",
+        b"\xE4RGER\xDF\x01",
         b"tab\tand\nline",
         b"",
         &longest,
@@ -689,17 +715,19 @@ fn paths_of_all_sorts() {
     }
 }
 
-/// Volumes of all kinds, some of them scratched.
+/// Volumes of all sorts, some of each kind.
 fn volumes(rng: &mut Rng) -> Vec<(String, Volume)> {
+    let [plain, international] = &Disk::FLOPPIES;
     let plans = [
-        ("empty", empty()),
-        ("nested", nested(rng, DISK.chain_limit())),
-        ("chain", chain(rng, 300)),
-        ("largest", files(rng, &[844_728])),
-        ("telling", files(rng, &[0, 488, 489, 35_136, 35_137, 105_409])),
-        ("full", full(rng, &DISK)),
-        ("mixed", mixed(rng, &DISK, 150)),
-        ("more", mixed(rng, &DISK, 400)),
+        ("empty", empty(international)),
+        ("nested", nested(rng, international, international.chain_limit())),
+        ("chain", chain(rng, international, 300)),
+        ("largest", files(rng, plain, &[844_728])),
+        ("telling", files(rng, international, &[0, 488, 489, 35_136, 35_137, 105_409])),
+        ("full", full(rng, plain)),
+        ("mixed", mixed(rng, plain, 150)),
+        ("more", mixed(rng, international, 400)),
+        ("pairs", alike(rng, plain, 10, 2)),
     ];
     plans.iter().map(|(name, plan)| (name.to_string(), laid_out(rng, plan))).collect()
 }
@@ -713,6 +741,11 @@ fn audits_of_generated_volumes() {
             let mut image = volume.image.clone();
             apply(&scratch(&mut rng, &volume), &mut image);
             all.push((format!("{name}{number}"), image));
+        }
+        for other in volume.disk.others() {
+            let mut image = volume.image.clone();
+            apply(&[retagged(&volume, &other).0], &mut image);
+            all.push((format!("{name}-{}", other.kind), image));
         }
         all.push((name, volume.image));
     }
@@ -826,13 +859,13 @@ struct Flaw {
     number: u32,
     image: Vec<u8>,
     audit: bool,
-    find: Option<&'static str>,
-    read: Option<&'static str>,
+    find: Option<&'static [u8]>,
+    read: Option<&'static [u8]>,
 }
 
 /// A small volume: three entries on one chain, of which the second is a directory with a file, and a file with a list.
-fn small() -> Volume {
-    let mut plan = empty();
+fn small(disk: &Disk) -> Volume {
+    let mut plan = empty(disk);
     plan.add_named(None, b"cp", Kind::File(488));
     let within = Some(plan.add_named(None, b"Mary", Kind::Directory));
     plan.add_named(None, b"dc", Kind::File(3));
@@ -867,21 +900,22 @@ fn common_flaws(volume: &Volume) -> Vec<Flaw> {
     let [mut untagged, mut unsummed] = [(); 2].map(|()| volume.image.clone());
     untagged[3] = 1;
     unsummed[mary as usize * BLOCK_BYTES + 23] ^= 1;
-    let hangs = slot(b"Mary");
-    assert!(slot(b"cp") == hangs && slot(b"dc") == hangs && slot(b"hw") == hangs && slot(b"Mars") != hangs);
-    let flaws = [
-        (1, volume.image[1..].to_vec(), "cp"),
-        (3, untagged, "cp"),
-        (4, with_word(volume, 880, 3, 71), "cp"),
-        (5, with_word(volume, 880, slot_word(hangs), 1_760), "cp"),
+    let slots = [&b"Mary"[..], b"cp", b"dc", b"hw", b"Mars"].map(|name| slot(&volume.disk, name));
+    let hangs = slots[0];
+    assert!(slots[1..4].iter().all(|&slot| slot == hangs) && slots[4] != hangs);
+    let flaws: [(u32, Vec<u8>, &'static [u8]); 11] = [
+        (1, volume.image[1..].to_vec(), b"cp"),
+        (3, untagged, b"cp"),
+        (4, with_word(volume, 880, 3, 71), b"cp"),
+        (5, with_word(volume, 880, slot_word(hangs), 1_760), b"cp"),
         // a chain that bites its tail, and a name that it lacks
-        (6, with_word(volume, dc, 124, cp), "hw"),
-        (7, unsummed, "Mary/box"),
-        (8, with_word(volume, mary, 0, 8), "Mary/box"),
-        (9, with_word(volume, mary, 127, 4), "Mary/box"),
-        (10, with_word(volume, mary, 125, 0), "Mary/box"),
-        (11, changed(volume, mary, |block| put_name(block, b"M:ry")), "Mary/box"),
-        (12, changed(volume, mary, |block| put_name(block, b"Mars")), "Mary/box"),
+        (6, with_word(volume, dc, 124, cp), b"hw"),
+        (7, unsummed, b"Mary/box"),
+        (8, with_word(volume, mary, 0, 8), b"Mary/box"),
+        (9, with_word(volume, mary, 127, 4), b"Mary/box"),
+        (10, with_word(volume, mary, 125, 0), b"Mary/box"),
+        (11, changed(volume, mary, |block| put_name(block, b"M:ry")), b"Mary/box"),
+        (12, changed(volume, mary, |block| put_name(block, b"Mars")), b"Mary/box"),
     ];
     let flaw = |(number, image, path)| Flaw { number, image, audit: true, find: Some(path), read: Some(path) };
     flaws.into_iter().map(flaw).collect()
@@ -895,8 +929,8 @@ fn deeper_flaws(volume: &Volume) -> Vec<Flaw> {
     let bits = word(volume.block(volume.bitmap), index);
     let flaws = [
         (13, changed(volume, dc, |block| put_name(block, b"CP")), None),
-        (14, with_word(volume, one.key, 2, 71), Some("one")),
-        (15, with_word(volume, one.data[73], 2, 73), Some("one")),
+        (14, with_word(volume, one.key, 2, 71), Some(&b"one"[..])),
+        (15, with_word(volume, one.data[73], 2, 73), Some(b"one")),
         (16, with_word(volume, 880, 78, 0), None),
         (17, with_word(volume, volume.bitmap, index, bits ^ 1 << bit), None),
     ];
@@ -904,16 +938,41 @@ fn deeper_flaws(volume: &Volume) -> Vec<Flaw> {
     flaws.into_iter().map(flaw).collect()
 }
 
-/// Every number that an image or a path can bring.
-fn flaws() -> Vec<Flaw> {
-    let volume = small();
+/// Every number that an image or a path can bring on a disk of this kind.
+fn flaws(disk: &Disk) -> Vec<Flaw> {
+    let volume = small(disk);
     let mut all = common_flaws(&volume);
     all.extend(deeper_flaws(&volume));
-    for (number, find, read) in [(18, "Mary//box", "Mary/"), (19, "Mary/bix", "nobody"), (20, "cp/x", "Mary")] {
+    let paths: [(u32, &'static [u8], &'static [u8]); 3] =
+        [(18, b"Mary//box", b"Mary/"), (19, b"Mary/bix", b"nobody"), (20, b"cp/x", b"Mary")];
+    for (number, find, read) in paths {
         let image = volume.image.clone();
         all.push(Flaw { number, image, audit: false, find: Some(find), read: Some(read) });
     }
     all
+}
+
+/// Flaws that lie in accents alone: without the last byte of the tag there is none.
+fn flaws_in_accents() -> Vec<Flaw> {
+    let [plain, international] = &Disk::FLOPPIES;
+    let under = |volume: &Volume, disk: &Disk| {
+        let mut image = volume.image.clone();
+        apply(&[retagged(volume, disk).0], &mut image);
+        image
+    };
+    // a plain disk has the small letters elsewhere, and asks for the capitals where they are
+    let mut plan = empty(international);
+    plan.add_named(None, b"\xE9t\xE9", Kind::File(5));
+    let misplaced = laid_out(&mut Rng::new(178), &plan);
+    let path: Option<&'static [u8]> = Some(b"\xC9T\xC9");
+    let plan = alike(&mut Rng::new(179), plain, 0, 1);
+    let double = laid_out(&mut Rng::new(180), &plan);
+    let lost: Option<&'static [u8]> = Some(b"\xE9t\xE9");
+    vec![
+        Flaw { number: 12, image: under(&misplaced, plain), audit: true, find: path, read: path },
+        Flaw { number: 13, image: under(&double, international), audit: true, find: None, read: None },
+        Flaw { number: 19, image: under(&misplaced, plain), audit: false, find: lost, read: lost },
+    ]
 }
 
 /// Whether a text says this number, with its sentence.
@@ -925,8 +984,8 @@ fn says(text: &[u8], number: u32) -> bool {
 
 #[test]
 fn every_number_of_images_and_paths() {
-    let flaws = flaws();
-    let names: Vec<String> = flaws.iter().map(|flaw| format!("{}.adf", flaw.number)).collect();
+    let flaws: Vec<Flaw> = Disk::FLOPPIES.iter().flat_map(flaws).chain(flaws_in_accents()).collect();
+    let names: Vec<String> = flaws.iter().zip(0..).map(|(flaw, at)| format!("{at}-{}.adf", flaw.number)).collect();
     let desk = Desk::new(names.iter().cloned().zip(flaws.iter().map(|flaw| flaw.image.clone())));
     let audited_names: Vec<&str> =
         names.iter().zip(&flaws).filter(|(_, flaw)| flaw.audit).map(|(name, _)| &name[..]).collect();
@@ -934,12 +993,12 @@ fn every_number_of_images_and_paths() {
     for (name, Flaw { number, image, audit, find, read }) in names.iter().zip(&flaws) {
         assert!(!audit || says(audited(image).0.as_bytes(), *number), "{number} by an audit");
         if let Some(path) = find {
-            assert!(says(looked_up(image, path.as_bytes()).0.as_bytes(), *number), "{number} by a lookup");
+            assert!(says(looked_up(image, path).0.as_bytes(), *number), "{number} by a lookup");
             desk.hold_find(name, &[path]);
         }
         if let Some(path) = read {
-            assert!(says(&read_out(image, path.as_bytes()).err, *number), "{number} by a read");
-            desk.hold_read(name, path.as_bytes());
+            assert!(says(&read_out(image, path).err, *number), "{number} by a read");
+            desk.hold_read(name, path);
         }
     }
 }
@@ -993,21 +1052,25 @@ fn every_number_of_programs_and_bases() {
     desk.hold_move("title", &BASES_A, &[BASES_A[0], BASES_A[1], BASES_A[1] + 44]);
 }
 
-/// Every number comes, but 2: the tool lends an audit a claim area of a byte for each block, whatever the image.
+/// Every number comes on a disk of each kind, but 2: the tool lends an audit a claim area of a byte for each block,
+/// whatever the image.
 #[test]
 fn the_numbers_tried_are_all_there_are() {
-    let of_images: Vec<Flaw> = flaws();
-    let numbers = |of: fn(&Flaw) -> bool| -> BTreeSet<u32> {
-        of_images.iter().filter(|flaw| of(flaw)).map(|flaw| flaw.number).collect()
-    };
-    assert!(numbers(|flaw| flaw.audit).into_iter().eq([1].into_iter().chain(3..18)));
-    assert!(numbers(|flaw| flaw.find.is_some()).into_iter().eq([1].into_iter().chain(3..13).chain(18..21)));
-    let of_read = [1].into_iter().chain(3..13).chain([14, 15]).chain(18..21);
-    assert!(numbers(|flaw| flaw.read.is_some()).into_iter().eq(of_read));
-    let of_programs = program_flaws().into_iter().map(|(number, ..)| number);
-    let tried: BTreeSet<u32> = of_images.iter().map(|flaw| flaw.number).chain(of_programs).collect();
-    let all: BTreeSet<u32> = SENTENCES.iter().map(|&(number, _)| number).filter(|&number| number != 2).collect();
-    assert_eq!(tried, all);
+    let of_programs: Vec<u32> = program_flaws().into_iter().map(|(number, ..)| number).collect();
+    for disk in &Disk::FLOPPIES {
+        let of_images: Vec<Flaw> = flaws(disk);
+        let numbers = |of: fn(&Flaw) -> bool| -> BTreeSet<u32> {
+            of_images.iter().filter(|flaw| of(flaw)).map(|flaw| flaw.number).collect()
+        };
+        assert!(numbers(|flaw| flaw.audit).into_iter().eq([1].into_iter().chain(3..18)));
+        assert!(numbers(|flaw| flaw.find.is_some()).into_iter().eq([1].into_iter().chain(3..13).chain(18..21)));
+        let of_read = [1].into_iter().chain(3..13).chain([14, 15]).chain(18..21);
+        assert!(numbers(|flaw| flaw.read.is_some()).into_iter().eq(of_read));
+        let tried: BTreeSet<u32> = of_images.iter().map(|flaw| flaw.number).chain(of_programs.clone()).collect();
+        let all: BTreeSet<u32> =
+            SENTENCES.iter().map(|&(number, _)| number).filter(|&number| number != 2).collect();
+        assert_eq!(tried, all);
+    }
 }
 
 /// The folder of the repository.

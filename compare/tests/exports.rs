@@ -14,8 +14,6 @@ use compare::programs::{bytes, long_file, worked_file, Room};
 use compare::rng::Rng;
 use compare::volumes::{any_style, Kind, Plan, Volume};
 
-const DISK: Disk = Disk::FLOPPY;
-
 /// What this package answers, and what the exported functions do.
 #[derive(Default)]
 struct Both {
@@ -41,13 +39,18 @@ macro_rules! expect {
     }};
 }
 
-/// A volume with a directory and a file of this size.
-fn volume(seed: u64, size: u32) -> Volume {
-    let (mut rng, mut plan) = (Rng::new(seed), Plan::default());
+/// A volume with a directory and a file of this size, on a disk of this kind.
+fn volume(seed: u64, disk: &Disk, size: u32) -> Volume {
+    let (mut rng, mut plan) = (Rng::new(seed), Plan::new(disk));
     plan.add_named(None, b"c", Kind::Directory);
-    plan.add_named(None, b"file", Kind::File(size));
+    plan.add_named(None, b"fil\xE9", Kind::File(size));
     let style = any_style(&mut rng);
-    Volume::new(&mut rng, &DISK, &plan, style)
+    Volume::new(&mut rng, &plan, style)
+}
+
+/// Paths of the file: as it stands, and in the other case as far as the disk has one.
+fn paths_of_file(disk: &Disk) -> [&'static [u8]; 2] {
+    [b"fil\xE9", if disk.is_international() { b"FIL\xC9" } else { b"FIL\xE9" }]
 }
 
 /// An output of so many bytes with these at its beginning, as a line shows it.
@@ -59,20 +62,23 @@ fn output(beginning: &[u8], room: usize) -> String {
 /// Without an opinion of this package. Cut to 32 bits, most of these offsets would lie in the file.
 #[test]
 fn reads_from_far_offsets_give_nothing() {
-    let volume = volume(170, 1_000);
-    let mut both = Both::default();
-    same!(both.take_image(&volume.image));
-    let contents = Paths::new(&volume).contents(1);
-    for (offset, count) in [(0, 10), (990, 10), (991, 9), (999, 1), (1_000, 0), (1_001, 0)] {
-        let due = format!("bytes {count} {}", output(&contents[offset.min(1_000)..][..count], 10));
-        assert_eq!(same!(both.read(b"FILE", offset, 10)), due);
-        for high in [1 << 32, 3 << 32, 1 << 48, 1 << 63, u32::MAX as usize * (1 << 32)] {
-            assert_eq!(same!(both.read(b"FILE", high + offset, 10)), format!("bytes 0 {}", output(b"", 10)));
+    for disk in &Disk::FLOPPIES {
+        let volume = volume(170, disk, 1_000);
+        let [file, capital] = paths_of_file(disk);
+        let mut both = Both::default();
+        same!(both.take_image(&volume.image));
+        let contents = Paths::new(&volume).contents(1);
+        for (offset, count) in [(0, 10), (990, 10), (991, 9), (999, 1), (1_000, 0), (1_001, 0)] {
+            let due = format!("bytes {count} {}", output(&contents[offset.min(1_000)..][..count], 10));
+            assert_eq!(same!(both.read(capital, offset, 10)), due);
+            for high in [1 << 32, 3 << 32, 1 << 48, 1 << 63, u32::MAX as usize * (1 << 32)] {
+                assert_eq!(same!(both.read(capital, high + offset, 10)), format!("bytes 0 {}", output(b"", 10)));
+            }
         }
-    }
-    for offset in far_offsets(&DISK, 1_000).into_iter().chain((0..1_100).map(|back| usize::MAX - back)) {
-        for room in [0, 1, 1_000, 1_100] {
-            assert_eq!(same!(both.read(b"file", offset, room)), format!("bytes 0 {}", output(b"", room)));
+        for offset in far_offsets(disk, 1_000).into_iter().chain((0..1_100).map(|back| usize::MAX - back)) {
+            for room in [0, 1, 1_000, 1_100] {
+                assert_eq!(same!(both.read(file, offset, room)), format!("bytes 0 {}", output(b"", room)));
+            }
         }
     }
 }
@@ -80,57 +86,94 @@ fn reads_from_far_offsets_give_nothing() {
 /// What is refused is refused at every offset.
 #[test]
 fn reads_from_far_offsets_are_refused_as_others() {
-    let volume = volume(171, 1_000);
-    let mut image = volume.image.clone();
-    image[volume.entries[1].data[2] as usize * 512 + 511] ^= 1;
-    let due = format!("refused 7 {} ", volume.entries[1].data[2]);
-    let mut both = Both::default();
-    for offset in [0, 1_000].into_iter().chain(far_offsets(&DISK, 1_000)) {
-        same!(both.take_image(&volume.image));
-        expect!(both.read(b"c", offset, 9), "refused 20 0 ");
-        expect!(both.read(b"", offset, 9), "refused 20 0 ");
-        expect!(both.read(b"file/x", offset, 9), "refused 20 0 ");
-        expect!(both.read(b"nobody", offset, 9), "refused 19 0 ");
-        expect!(both.read(b"c//", offset, 9), "refused 18 1 ");
-        same!(both.take_image(&image));
-        expect!(both.read(b"file", offset, 0), due);
-        expect!(both.read(b"file", offset, 9), due);
+    for disk in &Disk::FLOPPIES {
+        let volume = volume(171, disk, 1_000);
+        let [file, capital] = paths_of_file(disk);
+        let last = volume.entries[1].data[2];
+        let mut image = volume.image.clone();
+        image[last as usize * 512 + 511] ^= 1;
+        let due = format!("refused 7 {last} ");
+        let mut both = Both::default();
+        for offset in [0, 1_000].into_iter().chain(far_offsets(disk, 1_000)) {
+            same!(both.take_image(&volume.image));
+            expect!(both.read(b"c", offset, 9), "refused 20 0 ");
+            expect!(both.read(b"", offset, 9), "refused 20 0 ");
+            expect!(both.read(&[file, b"x"].join(&b'/'), offset, 9), "refused 20 0 ");
+            expect!(both.read(b"nobody", offset, 9), "refused 19 0 ");
+            expect!(both.read(b"c//", offset, 9), "refused 18 1 ");
+            same!(both.take_image(&image));
+            expect!(both.read(file, offset, 0), due);
+            expect!(both.read(capital, offset, 9), due);
+        }
+        same!(both.take_image(&image[1..]));
+        expect!(both.read(file, usize::MAX, 9), "refused 1 0 ");
     }
-    same!(both.take_image(&image[1..]));
-    expect!(both.read(b"file", usize::MAX, 9), "refused 1 0 ");
 }
 
 #[test]
 fn outputs_longer_than_any_file() {
-    let volume = volume(172, 844_240);
-    let mut both = Both::default();
-    same!(both.take_image(&volume.image));
-    for room in [844_239, 844_240, 844_241, 1_048_577, 3_000_001] {
-        expect!(both.read(b"file", 0, room), format!("bytes {} ", room.min(844_240)));
+    for disk in &Disk::FLOPPIES {
+        let volume = volume(172, disk, 844_240);
+        let [file, capital] = paths_of_file(disk);
+        let mut both = Both::default();
+        same!(both.take_image(&volume.image));
+        for room in [844_239, 844_240, 844_241, 1_048_577, 3_000_001] {
+            expect!(both.read(file, 0, room), format!("bytes {} ", room.min(844_240)));
+        }
+        expect!(both.read(capital, 844_239, 3_000_001), "bytes 1 ");
     }
-    expect!(both.read(b"file", 844_239, 3_000_001), "bytes 1 ");
 }
 
 #[test]
 fn claim_areas_and_paths_of_any_length() {
-    let volume = volume(173, 5_000);
+    for disk in &Disk::FLOPPIES {
+        let volume = volume(173, disk, 5_000);
+        let [file, _] = paths_of_file(disk);
+        let mut both = Both::default();
+        same!(both.take_image(&volume.image));
+        for length in [1_759, 1_760, 1_761, 4_097, 1_000_003] {
+            let due = if length < 1_760 { "refused 2 0 " } else { "accepted 1 1 0 11 15 1743 " };
+            expect!(both.audit(length), due);
+        }
+        for length in [255, 256, 4_097, 1_000_003] {
+            let path = vec![b'\xE9'; length];
+            expect!(both.find(&path), "refused 18 0");
+            expect!(both.read(&path, 1, 3), "refused 18 0 ");
+        }
+        for length in [901_119, 901_121, 1_802_241, 5_000_000] {
+            let mut image = volume.image.clone();
+            image.resize(length, 0);
+            same!(both.take_image(&image));
+            expect!(both.audit(1_000_003), "refused 1 0 ");
+            expect!(both.find(b""), "refused 1 0");
+            expect!(both.read(file, 0, 4_000), "refused 1 0 ");
+        }
+    }
+}
+
+/// Every last byte of the tag: two are kinds of disk, and of these only one has the capital for the letter.
+#[test]
+fn every_kind_that_a_tag_can_name() {
+    let volume = volume(174, &Disk::INTERNATIONAL, 1_000);
+    let key = volume.entries.iter().find(|entry| entry.size() > 0).expect("the file").key;
     let mut both = Both::default();
-    same!(both.take_image(&volume.image));
-    for length in [1_759, 1_760, 1_761, 4_097, 1_000_003] {
-        expect!(both.audit(length), if length < 1_760 { "refused 2 0 " } else { "accepted 1 1 0 11 15 1743 " });
-    }
-    for length in [255, 256, 4_097, 1_000_003] {
-        let path = vec![b'x'; length];
-        expect!(both.find(&path), "refused 18 0");
-        expect!(both.read(&path, 1, 3), "refused 18 0 ");
-    }
-    for length in [901_119, 901_121, 1_802_241, 5_000_000] {
+    for kind in 0..=255 {
         let mut image = volume.image.clone();
-        image.resize(length, 0);
+        image[3] = kind;
         same!(both.take_image(&image));
-        expect!(both.audit(1_000_003), "refused 1 0 ");
-        expect!(both.find(b""), "refused 1 0");
-        expect!(both.read(b"file", 0, 4_000), "refused 1 0 ");
+        let [audit, small, capital] = match kind {
+            // the file hangs where a plain disk has FIL and the capital, and a plain disk has its name elsewhere
+            0 => [format!("refused 12 {key} "), "refused 19 0".to_string(), format!("refused 12 {key}")],
+            2 => {
+                let found = format!("file {key} 1000 1");
+                ["accepted 1 1 0 3 7 1751 ".to_string(), found.clone(), found]
+            }
+            _ => ["refused 3 0 ".to_string(), "refused 3 0".to_string(), "refused 3 0".to_string()],
+        };
+        expect!(both.audit(1_760), audit);
+        expect!(both.find(b"fil\xE9"), small);
+        expect!(both.find(b"FIL\xC9"), capital);
+        expect!(both.find(b"c/"), "refused 18 1");
     }
 }
 

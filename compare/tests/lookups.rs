@@ -10,7 +10,7 @@ use std::ops::{Deref, DerefMut};
 
 use compare::bad_volumes::{causes, harmless, scratch, wrong_lengths, Cause, Harm, Patch};
 use compare::blocks::{DIRECTORY, FILE};
-use compare::disk::Disk;
+use compare::disk::{Disk, FLOPPY};
 use compare::driver::checksum;
 use compare::lookup::{find, Found, LONGEST_PATH};
 use compare::model::read_request;
@@ -22,8 +22,8 @@ use compare::rng::Rng;
 use compare::sides::{with_seeds, Who};
 use compare::talk;
 use compare::volumes::{
-    any_name, any_style, chain, empty, files, full, mixed, nested, shuffle, Entry, Kind, Part, Plan, Volume,
-    TELLING_SIZES,
+    any_name, any_style, chain, empty, every_byte, files, full, lookalike, mixed, nested, recased, shuffle, Entry,
+    Kind, Part, Plan, Volume, TELLING_SIZES,
 };
 use compare::words::{mend, put, slot_word, word, BLOCK_BYTES, BLOCK_WORDS, TABLE};
 
@@ -31,8 +31,6 @@ const FIND: u32 = 4;
 const READ: u32 = 5;
 
 const BAD: &str = "bad request";
-
-const DISK: Disk = Disk::FLOPPY;
 
 /// What is in the output before a read.
 const BEFORE: u8 = 0xAA;
@@ -51,17 +49,19 @@ const LARGEST: u32 = 844_728;
 const OF_FIND: [u32; 14] = [1, 3, 4, 5, 6, 7, 8, 9, 10, 11, 12, 18, 19, 20];
 const OF_READ: [u32; 2] = [14, 15];
 
+/// The kind of a disk, and the number of a refusal or 0.
+type Answer = (u8, u32);
+
 /// How often each kind of answer is due.
 #[derive(Default)]
 struct Tally {
-    finds: usize,
-    reads: usize,
-    /// Those from an offset that four bytes do not hold.
+    /// By the kind that the tag says, or where it says none, by that of the image as it was sent.
+    finds: BTreeMap<Answer, usize>,
+    reads: BTreeMap<Answer, usize>,
+    /// Lookups on a volume under the tag of another kind, by the kind that it was laid out for.
+    retagged: BTreeMap<Answer, usize>,
+    /// Reads from an offset that four bytes do not hold.
     far: usize,
-    found: usize,
-    copied: usize,
-    refused_finds: BTreeMap<u32, usize>,
-    refused_reads: BTreeMap<u32, usize>,
     /// Answers known beforehand, and those of them that a harm told.
     known: usize,
     told: usize,
@@ -70,7 +70,14 @@ struct Tally {
 /// A talk about one image, and what was asked in it.
 struct Talk {
     talk: talk::Talk,
+    /// The kind of the image as it was sent.
+    sent: Disk,
     tally: Tally,
+}
+
+/// The number of a refusal, or 0.
+fn number<T>(answer: &Result<T, Refusal>) -> u32 {
+    answer.as_ref().map_or_else(|refusal| refusal.number, |_| 0)
 }
 
 impl Deref for Talk {
@@ -89,7 +96,18 @@ impl DerefMut for Talk {
 
 impl Talk {
     fn new(who: Who) -> Talk {
-        Talk { talk: talk::Talk::new(who), tally: Tally::default() }
+        Talk { talk: talk::Talk::new(who), sent: Disk::PLAIN, tally: Tally::default() }
+    }
+
+    /// Sends an image.
+    fn image(&mut self, image: &[u8]) {
+        self.sent = Disk::of(FLOPPY, image).unwrap_or(self.sent);
+        self.talk.image(image);
+    }
+
+    /// The kind under which an answer is counted.
+    fn kind(&self) -> u8 {
+        Disk::of(FLOPPY, self.held()).unwrap_or(self.sent).kind
     }
 
     /// Does this with the image patched; it is as before afterwards.
@@ -101,18 +119,14 @@ impl Talk {
 
     fn find(&mut self, path: &[u8]) -> Result<Found, Refusal> {
         let path = in_room(path);
-        let answer = find(&DISK, self.held(), path);
-        self.tally.finds += 1;
+        let answer = find(FLOPPY, self.held(), path);
+        *self.tally.finds.entry((self.kind(), number(&answer))).or_default() += 1;
         let line = match answer {
             Ok(Found { kind, key, size, compared }) => {
-                self.tally.found += 1;
                 let kind = if kind == DIRECTORY { "directory" } else { "file" };
                 format!("{kind} {key} {size} {compared}")
             }
-            Err(Refusal { number, place }) => {
-                *self.tally.refused_finds.entry(number).or_default() += 1;
-                format!("refused {number} {place}")
-            }
+            Err(Refusal { number, place }) => format!("refused {number} {place}"),
         };
         self.ask(FIND, path, &line);
         answer
@@ -121,18 +135,12 @@ impl Talk {
     /// A read, and the output after it.
     fn read(&mut self, path: &[u8], offset: usize, room: usize) -> (Result<usize, Refusal>, Vec<u8>) {
         let (path, mut output) = (in_room(path), vec![BEFORE; room]);
-        let answer = read(&DISK, self.held(), path, offset, &mut output);
-        self.tally.reads += 1;
+        let answer = read(FLOPPY, self.held(), path, offset, &mut output);
+        *self.tally.reads.entry((self.kind(), number(&answer))).or_default() += 1;
         self.tally.far += usize::from(offset > u32::MAX as usize);
         let line = match answer {
-            Ok(count) => {
-                self.tally.copied += 1;
-                format!("bytes {count}")
-            }
-            Err(Refusal { number, place }) => {
-                *self.tally.refused_reads.entry(number).or_default() += 1;
-                format!("refused {number} {place}")
-            }
+            Ok(count) => format!("bytes {count}"),
+            Err(Refusal { number, place }) => format!("refused {number} {place}"),
         };
         let (number, body) = read_request(offset, room, path);
         self.ask(number, &body, &format!("{line} out {}", checksum(&output)));
@@ -178,16 +186,16 @@ fn read_body(offset: u32, room: u32, path: &[u8]) -> Vec<u8> {
 
 fn laid_out(rng: &mut Rng, plan: &Plan) -> Volume {
     let style = any_style(rng);
-    Volume::new(rng, &DISK, plan, style)
+    Volume::new(rng, plan, style)
 }
 
 /// Where to read in a file of this size, and how much.
-fn spot(rng: &mut Rng, size: u32) -> (usize, usize) {
+fn spot(rng: &mut Rng, disk: &Disk, size: u32) -> (usize, usize) {
     let any = rng.below(u64::from(size) + 1) as usize;
-    let telling = rng.pick(&telling_offsets(&DISK, size)) as usize;
-    let far = rng.pick(&far_offsets(&DISK, size));
+    let telling = rng.pick(&telling_offsets(disk, size)) as usize;
+    let far = rng.pick(&far_offsets(disk, size));
     let offset = rng.pick(&[0, 0, any, any, telling, telling, telling, far]);
-    let rooms = telling_rooms(&DISK, (size as usize).saturating_sub(offset));
+    let rooms = telling_rooms(disk, (size as usize).saturating_sub(offset));
     let room = rng.pick(&rooms);
     // few of the long ones
     (offset, if room > SHORT && rng.below(8) > 0 { rng.below(SHORT as u64) as usize } else { room })
@@ -196,8 +204,13 @@ fn spot(rng: &mut Rng, size: u32) -> (usize, usize) {
 /// The answers to a few paths on the volume without entries, without an opinion of this package.
 #[test]
 fn the_empty_volume() {
-    let volume = laid_out(&mut Rng::new(140), &empty());
+    Disk::FLOPPIES.iter().for_each(an_empty_volume);
+}
+
+fn an_empty_volume(disk: &Disk) {
+    let volume = laid_out(&mut Rng::new(140), &empty(disk));
     let mut talk = talk::Talk::new(Who::Both);
+    talk.about(format!("kind {}", disk.kind));
     talk.image(&volume.image);
     for (path, answer) in [
         (&b""[..], "directory 880 0 0"),
@@ -229,7 +242,7 @@ fn before_any_image_its_length_is_zero() {
 #[test]
 fn paths_and_outputs_above_their_room_and_short_bodies_are_bad() {
     let mut rng = Rng::new(141);
-    let plan = files(&mut rng, &[1_000]);
+    let plan = files(&mut rng, &Disk::PLAIN, &[1_000]);
     let volume = laid_out(&mut rng, &plan);
     let (paths, path) = (Paths::new(&volume), &volume.entries[0].name);
     let mut talk = Talk::new(Who::Both);
@@ -259,8 +272,8 @@ fn paths_and_outputs_above_their_room_and_short_bodies_are_bad() {
 }
 
 /// Names of one byte 130 directories deep, and longest names that come to a path of 255 bytes and one of 256.
-fn deep(rng: &mut Rng) -> Volume {
-    let mut plan = empty();
+fn deep(rng: &mut Rng, disk: &Disk) -> Volume {
+    let mut plan = empty(disk);
     let letter = |rng: &mut Rng| [rng.pick(b"abcxyzABC\xC4\xE4")];
     (0..130).fold(None, |within, _| Some(plan.add_named(within, &letter(rng), Kind::Directory)));
     let eighth = (0..8u8).fold(None, |within, depth| {
@@ -275,14 +288,14 @@ fn deep(rng: &mut Rng) -> Volume {
 }
 
 /// Names that lie near one another, in pairs on one chain.
-fn near_names(rng: &mut Rng) -> Volume {
-    let mut plan = empty();
+fn near_names(rng: &mut Rng, disk: &Disk) -> Volume {
+    let mut plan = empty(disk);
     let mut pairs = 0;
     let mut names: Vec<Vec<u8>> = Vec::new();
     while pairs < 25 {
         let name = any_name(rng);
-        let Some(near) = unfolded(rng, &name) else { continue };
-        if ![&name, &near].into_iter().any(|new| names.iter().any(|name| same(name, new))) {
+        let Some(near) = unfolded(rng, disk, &name) else { continue };
+        if ![&name, &near].into_iter().any(|new| names.iter().any(|name| same(disk, name, new))) {
             for name in [&name, &near] {
                 plan.add_named(None, name, rng.pick(&[Kind::Directory, Kind::File(0), Kind::File(490)]));
             }
@@ -293,30 +306,32 @@ fn near_names(rng: &mut Rng) -> Volume {
     laid_out(rng, &plan)
 }
 
-/// Volumes of moderate size, and what they are.
-fn moderate(rng: &mut Rng) -> Vec<(String, Volume)> {
-    let mut volumes = vec![("deep".to_string(), deep(rng)), ("near names".to_string(), near_names(rng))];
+/// Volumes of moderate size on a disk of this kind, and what they are.
+fn moderate(rng: &mut Rng, disk: &Disk) -> Vec<(String, Volume)> {
+    let mut volumes =
+        vec![("deep".to_string(), deep(rng, disk)), ("near names".to_string(), near_names(rng, disk))];
     let plans = [
-        ("telling sizes", files(rng, &TELLING_SIZES)),
-        ("several lists", files(rng, &[105_409, 70_272, 1])),
-        ("30 nested", nested(rng, 30)),
-        ("40 on a chain", chain(rng, 40)),
+        ("telling sizes", files(rng, disk, &TELLING_SIZES)),
+        ("several lists", files(rng, disk, &[105_409, 70_272, 1])),
+        ("30 nested", nested(rng, disk, 30)),
+        ("40 on a chain", chain(rng, disk, 40)),
     ];
     volumes.extend(plans.iter().map(|(what, plan)| (what.to_string(), laid_out(rng, plan))));
     for blocks in [40, 80, 120, 160, 250] {
-        let plan = mixed(rng, &DISK, blocks);
+        let plan = mixed(rng, disk, blocks);
         volumes.push((format!("mixed, {blocks} blocks"), laid_out(rng, &plan)));
     }
-    volumes
+    volumes.into_iter().map(|(what, volume)| (format!("kind {}, {what}", disk.kind), volume)).collect()
 }
 
-/// Volumes that fill the disk.
+/// Volumes that fill the disk, each of some kind.
 fn large(rng: &mut Rng) -> Vec<(String, Volume)> {
+    let [one, two, three, four] = [(); 4].map(|()| rng.pick(&Disk::FLOPPIES));
     let plans = [
-        ("nested throughout", nested(rng, DISK.chain_limit())),
-        ("one chain", chain(rng, DISK.chain_limit())),
-        ("the largest file", files(rng, &[LARGEST])),
-        ("full", full(rng, &DISK)),
+        ("nested throughout", nested(rng, &one, one.chain_limit())),
+        ("one chain", chain(rng, &two, two.chain_limit())),
+        ("the largest file", files(rng, &three, &[LARGEST])),
+        ("full", full(rng, &four)),
     ];
     plans.iter().map(|(what, plan)| (what.to_string(), laid_out(rng, plan))).collect()
 }
@@ -326,12 +341,13 @@ fn large(rng: &mut Rng) -> Vec<(String, Volume)> {
 fn every_entry_is_found_and_every_file_read() {
     let mut rng = Rng::new(142);
     let (mut found, mut out_of_reach, mut bytes) = (0, 0, 0);
-    let volumes = [moderate(&mut rng), large(&mut rng)];
+    let [plain, international] = &Disk::FLOPPIES;
+    let volumes = [moderate(&mut rng, plain), moderate(&mut rng, international), large(&mut rng)];
     for (what, volume) in volumes.iter().flatten() {
         let paths = Paths::new(volume);
         for (number, entry) in volume.entries.iter().enumerate() {
             let Question { path, due, .. } = paths.existing(&mut rng, number);
-            let answer = find(&DISK, &volume.image, &path);
+            let answer = find(FLOPPY, &volume.image, &path);
             assert_eq!(answer, due, "{what}: {path:?}");
             let Ok(Found { kind, key, size, .. }) = answer else {
                 assert!(path.len() > LONGEST_PATH, "{what}: {path:?}");
@@ -342,7 +358,7 @@ fn every_entry_is_found_and_every_file_read() {
             let due = if entry.kind == Kind::Directory { (DIRECTORY, 0) } else { (FILE, entry.size()) };
             assert_eq!(((kind, size), key), (due, entry.key), "{what}: {path:?}");
             let mut output = vec![BEFORE; size as usize + 3];
-            let answer = read(&DISK, &volume.image, &path, 0, &mut output);
+            let answer = read(FLOPPY, &volume.image, &path, 0, &mut output);
             if kind == DIRECTORY {
                 let last = paths.components(Some(number)).len() - 1;
                 assert_eq!(answer, Err(Refusal::at(20, last)), "{what}: {path:?}");
@@ -357,13 +373,13 @@ fn every_entry_is_found_and_every_file_read() {
 }
 
 /// Images of a wrong length, and good ones with other tags, asked for paths of all forms.
-fn lengths(who: Who, rng: &mut Rng) -> Talk {
+fn lengths(who: Who, rng: &mut Rng, disk: &Disk) -> Talk {
     let mut talk = Talk::new(who);
-    let plan = mixed(rng, &DISK, 30);
+    let plan = mixed(rng, disk, 30);
     let volume = laid_out(rng, &plan);
     let path = Paths::new(&volume).path(0);
     let all = [&b""[..], &path, b"nobody", b"a//b", &[b'x'; 256]];
-    for length in wrong_lengths(&DISK) {
+    for length in wrong_lengths(FLOPPY) {
         let mut image = volume.image.clone();
         image.resize(length, 0);
         talk.about(format!("{length} bytes"));
@@ -374,7 +390,7 @@ fn lengths(who: Who, rng: &mut Rng) -> Talk {
         }
     }
     talk.image(&volume.image);
-    for tag in [*b"KICK", *b"DOS\x01", *b"dos\0", [0; 4]] {
+    for tag in [*b"KICK", *b"DOS\x01", *b"DOS\x03", *b"DOS\x04", *b"DOS\xFF", *b"dos\0", *b"dos\x02", [0; 4]] {
         talk.about(format!("the boot tag {tag:?}"));
         talk.patched(&[(0, tag.to_vec())], |talk| {
             for (path, due) in all.into_iter().zip([(3, 0), (3, 0), (3, 0), (18, 1), (18, 0)]) {
@@ -392,7 +408,7 @@ fn ask(talk: &mut Talk, rng: &mut Rng, what: &str, questions: &[Question]) {
         talk.about(format!("{what}: {}", question.what));
         match question.due {
             Err(due) if rng.below(3) == 0 => {
-                let (offset, room) = spot(rng, 600);
+                let (offset, room) = spot(rng, &Disk::PLAIN, 600);
                 talk.expect_refused(&question.path, offset, room, due);
             }
             due => talk.expect_find(&question.path, due),
@@ -406,7 +422,7 @@ fn reads(talk: &mut Talk, rng: &mut Rng, paths: &Paths, number: usize, times: us
     let last = paths.components(Some(number)).len() - 1;
     let contents = paths.contents(number);
     for _ in 0..times {
-        let (offset, room) = spot(rng, contents.len() as u32);
+        let (offset, room) = spot(rng, &paths.volume.disk, contents.len() as u32);
         match due {
             Ok(found) if found.kind == FILE => talk.expect_bytes(&path, offset, room, &contents),
             Ok(_) => talk.expect_refused(&path, offset, room, Refusal::at(20, last)),
@@ -448,9 +464,9 @@ fn as_is(talk: &mut Talk, rng: &mut Rng, what: &str, volume: &Volume, times: usi
 }
 
 /// The volume with long paths: those of 255 bytes, of 256, and of 128 components.
-fn long_paths(who: Who, rng: &mut Rng) -> Talk {
+fn long_paths(who: Who, rng: &mut Rng, disk: &Disk) -> Talk {
     let mut talk = Talk::new(who);
-    let volume = deep(rng);
+    let volume = deep(rng, disk);
     let paths = Paths::new(&volume);
     talk.about("long paths");
     talk.image(&volume.image);
@@ -470,20 +486,20 @@ fn long_paths(who: Who, rng: &mut Rng) -> Talk {
 }
 
 /// Files of telling sizes, read from every telling offset into every telling room.
-fn ends(who: Who, rng: &mut Rng) -> Talk {
+fn ends(who: Who, rng: &mut Rng, disk: &Disk) -> Talk {
     let mut talk = Talk::new(who);
     let sizes = [&TELLING_SIZES[..], &[976, 70_272, 70_273]].concat();
-    let plan = files(rng, &sizes);
+    let plan = files(rng, disk, &sizes);
     let volume = laid_out(rng, &plan);
     let paths = Paths::new(&volume);
     talk.image(&volume.image);
     for (number, entry) in volume.entries.iter().enumerate() {
         talk.about(format!("a file of {} bytes", entry.size()));
         let (path, contents) = (paths.path(number), paths.contents(number));
-        let near = telling_offsets(&DISK, entry.size()).into_iter().map(|offset| offset as usize);
-        for offset in near.chain(far_offsets(&DISK, entry.size())) {
+        let near = telling_offsets(disk, entry.size()).into_iter().map(|offset| offset as usize);
+        for offset in near.chain(far_offsets(disk, entry.size())) {
             let left = contents.len().saturating_sub(offset);
-            for room in telling_rooms(&DISK, left) {
+            for room in telling_rooms(disk, left) {
                 if room < SHORT || rng.below(4) == 0 {
                     talk.expect_bytes(&path, offset, room, &contents);
                 }
@@ -520,14 +536,14 @@ fn changed_words(volume: &Volume, patch: &Patch) -> Vec<usize> {
 /// The path of no entry, for which the chain of this slot in a directory is gone through.
 fn lacking(rng: &mut Rng, paths: &Paths, within: Option<usize>, hangs: u32) -> Vec<u8> {
     let mut components = paths.components(within);
-    components.push(paths.new_name(rng, within, |name| slot(name) == hangs));
+    components.push(paths.new_name(rng, within, |name| slot(&paths.volume.disk, name) == hangs));
     components.join(&b'/')
 }
 
 /// Paths to the chain of this slot in a directory: to some entry that hangs in it, and to one that does not.
 fn to_slot(rng: &mut Rng, paths: &Paths, within: Option<usize>, hangs: u32) -> Vec<Vec<u8>> {
     let volume = paths.volume;
-    let key = within.map_or(DISK.root(), |number| volume.entries[number].key);
+    let key = within.map_or(volume.disk.root(), |number| volume.entries[number].key);
     let on_chain = |entry: &Entry| entry.directory == key && entry.slot == hangs;
     let all: Vec<usize> = (0..volume.entries.len()).filter(|&n| on_chain(&volume.entries[n])).collect();
     let some = (!all.is_empty()).then(|| paths.path(rng.pick(&all)));
@@ -570,12 +586,12 @@ fn concerned(rng: &mut Rng, paths: &Paths, patches: &[Patch]) -> Vec<Vec<u8>> {
 fn look(talk: &mut Talk, rng: &mut Rng, all: &[Vec<u8>]) {
     for path in all {
         let (finds, reads) = rng.pick(&[(true, true), (true, true), (true, false), (false, true)]);
-        let found = find(&DISK, talk.held(), path);
+        let found = find(FLOPPY, talk.held(), path);
         if finds {
             let _ = talk.find(path);
         }
         if reads {
-            let (offset, room) = spot(rng, found.map_or(500, |found| found.size.min(LARGEST)));
+            let (offset, room) = spot(rng, &Disk::PLAIN, found.map_or(500, |found| found.size.min(LARGEST)));
             let (answer, output) = talk.read(path, offset, room);
             let untouched = output.iter().all(|&byte| byte == BEFORE);
             assert!(answer.is_ok() || untouched, "{}: {path:?}", talk.subject());
@@ -601,19 +617,21 @@ fn bearer(volume: &Volume, harm: &Harm, patches: &[Patch]) -> Option<usize> {
 fn earlier_namesake(volume: &Volume, patches: &[Patch]) -> Option<usize> {
     let changed = &volume.entries[owner(volume, patched_key(&patches[0]))?];
     let new = name(&patches[0].1)?;
-    volume.entries.iter().position(|entry| entry.directory == changed.directory && same(&entry.name, new))
+    let is_same = |entry: &Entry| same(&volume.disk, &entry.name, new);
+    volume.entries.iter().position(|entry| entry.directory == changed.directory && is_same(entry))
 }
 
 /// A harm, and what is known of it.
 fn harmed(talk: &mut Talk, rng: &mut Rng, paths: &Paths, harm: &Harm) {
     let (patches, due) = (harm.patches(), harm.due());
     let all = concerned(rng, paths, &patches);
-    let in_root = due.number == 3 || due.place == DISK.root() as usize && [4, 7, 8, 11].contains(&due.number);
+    let disk = &paths.volume.disk;
+    let in_root = due.number == 3 || due.place == disk.root() as usize && [4, 7, 8, 11].contains(&due.number);
     let bearer = bearer(paths.volume, harm, &patches).filter(|&number| paths.is_within_reach(number));
     let namesake = (due.number == 13).then(|| earlier_namesake(paths.volume, &patches)).flatten();
     talk.patched(&patches, |talk| {
         look(talk, rng, &all);
-        let (offset, room) = spot(rng, 1_000);
+        let (offset, room) = spot(rng, disk, 1_000);
         if let Some(number) = bearer {
             talk.tally.told += 1;
             talk.expect_refused(&paths.existing(rng, number).path, offset, room, due);
@@ -672,7 +690,7 @@ fn scratches(talk: &mut Talk, rng: &mut Rng, what: &str, volume: &Volume, times:
         talk.about(format!("{what}: wreck {number}"));
         let wrecks: Vec<Patch> = (0..8).flat_map(|_| scratch(rng, volume)).collect();
         // the boot tag and the root would hide the rest
-        let is_hiding = |patch: &Patch| [0, DISK.root()].contains(&patched_key(patch));
+        let is_hiding = |patch: &Patch| [0, volume.disk.root()].contains(&patched_key(patch));
         let wrecks: BTreeMap<usize, Vec<u8>> = wrecks.into_iter().filter(|patch| !is_hiding(patch)).collect();
         let patches: Vec<Patch> = wrecks.into_iter().collect();
         let numbers = (0..12).map(|_| rng.below(volume.entries.len() as u64 + 1) as usize).collect::<Vec<_>>();
@@ -720,8 +738,8 @@ struct Target {
 }
 
 /// A target of this size, after and before others on its chains.
-fn target(rng: &mut Rng, size: u32) -> Target {
-    let mut plan = empty();
+fn target(rng: &mut Rng, disk: &Disk, size: u32) -> Target {
+    let mut plan = empty(disk);
     plan.add(rng, None, Some(30), Kind::File(3));
     let within = Some(plan.add(rng, None, Some(30), Kind::Directory));
     plan.add(rng, None, Some(30), Kind::Directory);
@@ -760,7 +778,7 @@ impl Target {
         let patch = if mended { (place, block) } else { unmended };
         let is_header = matches!(part, Part::Root | Part::Directory(_) | Part::File(_));
         let due = Refusal::at(7, key as usize);
-        let (offset, room) = spot(rng, self.contents.len() as u32);
+        let (offset, room) = spot(rng, &self.volume.disk, self.contents.len() as u32);
         talk.about(format!("{part:?}: w{index} is {value:X}, sum mended: {mended}"));
         talk.patched(&[patch], |talk| {
             if !mended && part != Part::Bitmap {
@@ -778,12 +796,12 @@ impl Target {
 }
 
 /// Every word of every kind of block, changed with the sum mended and without.
-fn every_word(who: Who, rng: &mut Rng) -> Talk {
+fn every_word(who: Who, rng: &mut Rng, disk: &Disk) -> Talk {
     let mut talk = Talk::new(who);
-    let target = target(rng, 73 * 488 + 5);
+    let target = target(rng, disk, 73 * 488 + 5);
     talk.image(&target.volume.image);
     let headers =
-        [DISK.root(), target.volume.bitmap, target.file.directory, target.file.key, target.file.lists[0]];
+        [disk.root(), target.volume.bitmap, target.file.directory, target.file.key, target.file.lists[0]];
     let data = [0, 30, 71, 72, 73].map(|index| target.file.data[index]);
     for index in 0..BLOCK_WORDS {
         let some_data = data.iter().filter(|_| index < 7 || rng.below(20) == 0).copied().collect::<Vec<_>>();
@@ -797,9 +815,9 @@ fn every_word(who: Who, rng: &mut Rng) -> Talk {
 }
 
 /// Damage to each block of a file in turn, with reads of what lies before it, in it and after it.
-fn in_the_middle(who: Who, rng: &mut Rng) -> Talk {
+fn in_the_middle(who: Who, rng: &mut Rng, disk: &Disk) -> Talk {
     let mut talk = Talk::new(who);
-    let Target { volume, path, file, found, .. } = target(rng, 150 * 488 - 7);
+    let Target { volume, path, file, found, .. } = target(rng, disk, 150 * 488 - 7);
     talk.image(&volume.image);
     let mut harms = Vec::new();
     for (index, &key) in file.data.iter().enumerate() {
@@ -839,9 +857,9 @@ type Step = (u32, usize, u32);
 /// Steps on the way to the target, in the order in which a read takes them, and how many of them a lookup takes.
 fn steps(target: &Target) -> (Vec<Step>, usize) {
     let Target { volume, file, slots, .. } = target;
-    let outer = on_chain(volume, DISK.root(), slots[0]);
+    let outer = on_chain(volume, volume.disk.root(), slots[0]);
     let inner = on_chain(volume, file.directory, slots[1]);
-    let mut steps = vec![(DISK.root(), 4, 4)];
+    let mut steps = vec![(volume.disk.root(), 4, 4)];
     steps.extend([outer[0], outer[1], inner[0], inner[1]].map(|entry| (entry.key, 1, 10)));
     let in_lookup = steps.len();
     steps.push((file.key, 2, 14));
@@ -855,9 +873,9 @@ fn steps(target: &Target) -> (Vec<Step>, usize) {
 }
 
 /// Two faults on the way to a file and through its blocks: the one that is met first is due.
-fn two_faults(who: Who, rng: &mut Rng) -> Talk {
+fn two_faults(who: Who, rng: &mut Rng, disk: &Disk) -> Talk {
     let mut talk = Talk::new(who);
-    let target = target(rng, 150 * 488 - 7);
+    let target = target(rng, disk, 150 * 488 - 7);
     let (steps, in_lookup) = steps(&target);
     let Target { volume, path, found, .. } = target;
     talk.image(&volume.image);
@@ -875,7 +893,7 @@ fn two_faults(who: Who, rng: &mut Rng) -> Talk {
         let due = Refusal::at(number, key as usize);
         talk.about(format!("{:?} and then {:?}", steps[first], steps[second]));
         talk.patched(&patches, |talk| {
-            let (offset, room) = spot(rng, found.size);
+            let (offset, room) = spot(rng, disk, found.size);
             talk.expect_find(&path, if first < in_lookup { Err(due) } else { Ok(found) });
             talk.expect_refused(&path, offset, room, due);
         });
@@ -914,7 +932,7 @@ fn loops(talk: &mut Talk, rng: &mut Rng, what: &str, volume: &Volume, times: usi
         let Question { path, due, .. } = paths.existing(rng, on_it);
         talk.about(format!("{what}: from place {last} back to {to}"));
         talk.patched(&[put_words(volume, chain[last].key, &[(124, chain[to].key)])], |talk| {
-            let key = chain[around(last + 1, to, DISK.chain_limit() as usize)].key;
+            let key = chain[around(last + 1, to, volume.disk.chain_limit() as usize)].key;
             let is_too_long = missing.len() > LONGEST_PATH;
             let refusal = if is_too_long { Refusal::at(18, 0) } else { Refusal::at(6, key as usize) };
             talk.expect_find(&missing, Err(refusal));
@@ -925,9 +943,9 @@ fn loops(talk: &mut Talk, rng: &mut Rng, what: &str, volume: &Volume, times: usi
 }
 
 /// The longest chain, and one more on it.
-fn longest_chain(who: Who, rng: &mut Rng) -> Talk {
+fn longest_chain(who: Who, rng: &mut Rng, disk: &Disk) -> Talk {
     let mut talk = Talk::new(who);
-    let plan = chain(rng, DISK.chain_limit());
+    let plan = chain(rng, disk, disk.chain_limit());
     let volume = laid_out(rng, &plan);
     let paths = Paths::new(&volume);
     let [first, middle, before, last] = [0, 800, 1_754, 1_755].map(|number| &volume.entries[number]);
@@ -944,7 +962,7 @@ fn longest_chain(who: Who, rng: &mut Rng) -> Talk {
             talk.expect_refused(&missing, 0, 3, Refusal::at(number, link as usize));
         });
     }
-    let more = bitmap_as_file(&volume, DISK.root(), &missing);
+    let more = bitmap_as_file(&volume, disk.root(), &missing);
     talk.about("a chain of 1,757");
     talk.patched(&[put_words(&volume, last.key, &[(124, volume.bitmap)]), more.clone()], |talk| {
         talk.expect_find(&missing, Err(Refusal::at(6, volume.bitmap as usize)));
@@ -961,9 +979,9 @@ fn longest_chain(who: Who, rng: &mut Rng) -> Talk {
 }
 
 /// Two long chains, one in the other's last directory: the limit is for each, the count for both.
-fn two_long_chains(who: Who, rng: &mut Rng) -> Talk {
+fn two_long_chains(who: Who, rng: &mut Rng, disk: &Disk) -> Talk {
     let mut talk = Talk::new(who);
-    let mut plan = empty();
+    let mut plan = empty(disk);
     (0..999).for_each(|_| _ = plan.add(rng, None, Some(7), Kind::File(0)));
     let within = Some(plan.add(rng, None, Some(7), Kind::Directory));
     (0..756).for_each(|_| _ = plan.add(rng, within, Some(70), Kind::File(0)));
@@ -971,7 +989,7 @@ fn two_long_chains(who: Who, rng: &mut Rng) -> Talk {
     let paths = Paths::new(&volume);
     let directory = volume.entries.iter().position(|entry| entry.kind == Kind::Directory).expect("the directory");
     let inner = on_chain(&volume, volume.entries[directory].key, 70);
-    let name = paths.new_name(rng, Some(directory), |name| slot(name) == 70);
+    let name = paths.new_name(rng, Some(directory), |name| slot(disk, name) == 70);
     let path = [&volume.entries[directory].name[..], &name].join(&b'/');
     talk.about("two long chains");
     talk.image(&volume.image);
@@ -994,15 +1012,79 @@ fn two_long_chains(who: Who, rng: &mut Rng) -> Talk {
     talk
 }
 
+/// Asks for a path of these components on a volume under the tag of another kind.
+fn ask_on(talk: &mut Talk, paths: &Paths, disk: &Disk, components: &[Vec<u8>]) {
+    let (path, due) = (components.join(&b'/'), paths.on(disk, components));
+    *talk.tally.retagged.entry((paths.volume.disk.kind, number(&due))).or_default() += 1;
+    talk.expect_find(&path, due);
+    match due {
+        Err(due) => talk.expect_refused(&path, 0, 9, due),
+        Ok(found) if found.kind == FILE && found.size < SHORT as u32 => {
+            let number = paths.volume.entries.iter().position(|entry| entry.key == found.key).expect("the file");
+            talk.expect_bytes(&path, 1, SHORT, &paths.contents(number));
+        }
+        Ok(_) => {}
+    }
+}
+
+/// Paths on the bytes of a volume under the tag of another kind, to so many of its entries: as their names stand, in
+/// the other case as that kind has it, and with other accents.
+fn other_kinds(talk: &mut Talk, rng: &mut Rng, what: &str, volume: &Volume, times: usize) {
+    let paths = Paths::new(volume);
+    let mut numbers: Vec<usize> = (0..volume.entries.len()).filter(|&one| paths.is_within_reach(one)).collect();
+    shuffle(rng, &mut numbers);
+    numbers.truncate(times);
+    for other in volume.disk.others() {
+        talk.about(format!("{what}: under the tag of kind {}", other.kind));
+        talk.patched(&[(0, other.boot_tag().to_vec())], |talk| {
+            for &number in &numbers {
+                let names = paths.components(Some(number));
+                let again: Vec<_> = names.iter().map(|name| recased(rng, &other, name)).collect();
+                let accents: Vec<_> = names.iter().map(|name| lookalike(rng, name)).collect();
+                [names, again, accents].iter().for_each(|names| ask_on(talk, &paths, &other, names));
+            }
+        });
+    }
+}
+
+/// A volume with a file for each byte that a name can be, and each byte asked for: the entry is the one with the
+/// capital of it, as far as the disk has capitals.
+fn bytes_as_names(who: Who, rng: &mut Rng, disk: &Disk) -> Talk {
+    let mut talk = Talk::new(who);
+    let plan = every_byte(rng, disk);
+    let volume = laid_out(rng, &plan);
+    let paths = Paths::new(&volume);
+    talk.image(&volume.image);
+    let capital = |byte: u8| match byte {
+        b'a'..=b'z' => byte - 0x20,
+        0xE0..=0xF6 | 0xF8..=0xFE if disk.kind == 2 => byte - 0x20,
+        _ => byte,
+    };
+    for byte in (0..=255).filter(|byte| !b"/:".contains(byte)) {
+        talk.about(format!("kind {}: the name {byte:02X}", disk.kind));
+        let number = volume.entries.iter().position(|entry| capital(entry.name[0]) == capital(byte));
+        talk.expect_find(&[byte], Ok(paths.found(number.expect("an entry for each byte"))));
+    }
+    other_kinds(&mut talk, rng, &format!("kind {}, bytes", disk.kind), &volume, 256);
+    talk
+}
+
 /// All requests of the great comparison, as the seed draws them.
 fn talks(who: Who, seed: u64) -> Vec<Talk> {
     let mut rng = Rng::new(seed);
-    let apart = [lengths, long_paths, ends, every_word, in_the_middle, two_faults, longest_chain, two_long_chains];
-    let mut talks: Vec<Talk> = apart.iter().map(|make| make(who, &mut rng)).collect();
-    for _ in 0..2 {
+    let of_each = [lengths, bytes_as_names];
+    let of_some = [long_paths, ends, every_word, in_the_middle, two_faults, longest_chain, two_long_chains];
+    let mut talks = Vec::new();
+    for make in of_some {
+        let disk = rng.pick(&Disk::FLOPPIES);
+        talks.push(make(who, &mut rng, &disk));
+    }
+    for disk in &Disk::FLOPPIES {
+        talks.extend(of_each.map(|make| make(who, &mut rng, disk)));
         let mut talk = Talk::new(who);
-        for (what, volume) in moderate(&mut rng) {
+        for (what, volume) in moderate(&mut rng, disk) {
             as_is(&mut talk, &mut rng, &what, &volume, 30);
+            other_kinds(&mut talk, &mut rng, &what, &volume, 12);
             harms(&mut talk, &mut rng, &what, &volume, 100);
             scratches(&mut talk, &mut rng, &what, &volume, 60);
             loops(&mut talk, &mut rng, &what, &volume, 2);
@@ -1012,6 +1094,7 @@ fn talks(who: Who, seed: u64) -> Vec<Talk> {
     let mut talk = Talk::new(who);
     for (what, volume) in large(&mut rng) {
         as_is(&mut talk, &mut rng, &what, &volume, 8);
+        other_kinds(&mut talk, &mut rng, &what, &volume, 4);
         harms(&mut talk, &mut rng, &what, &volume, 8);
         scratches(&mut talk, &mut rng, &what, &volume, 5);
     }
@@ -1019,29 +1102,49 @@ fn talks(who: Who, seed: u64) -> Vec<Talk> {
     talks
 }
 
-/// Enough of everything is asked: at least 20,000 calls, each number at least 20 times of each call that gives it.
+/// How often each answer is due over all talks.
+fn sum(talks: &[Talk], of: fn(&Tally) -> &BTreeMap<Answer, usize>) -> BTreeMap<Answer, usize> {
+    let mut sum = BTreeMap::new();
+    for (&answer, &times) in talks.iter().flat_map(|talk| of(&talk.tally)) {
+        *sum.entry(answer).or_default() += times;
+    }
+    sum
+}
+
+/// The answers for disks of one kind, by number: all that the call gives, each at least 20 times, and 1,000 that are no
+/// refusals. Answers with how many they are.
+fn hold_answers(what: &str, answers: &BTreeMap<Answer, usize>, kind: u8, numbers: &[u32]) -> usize {
+    let of_kind: BTreeMap<u32, usize> =
+        answers.range((kind, 0)..=(kind, u32::MAX)).map(|(&(_, number), &times)| (number, times)).collect();
+    println!("kind {kind}, {what} by number: {of_kind:?}");
+    let wanted: BTreeSet<u32> = numbers.iter().copied().chain([0]).collect();
+    assert!(of_kind.keys().eq(&wanted), "{what}, kind {kind}: not the numbers that there are: {of_kind:?}");
+    let rare: Vec<_> = of_kind.iter().filter(|(_, &times)| times < 20).collect();
+    assert!(
+        rare.is_empty() && of_kind[&0] >= 1_000,
+        "{what}, kind {kind}: too few of {rare:?} or {}",
+        of_kind[&0]
+    );
+    of_kind.values().sum()
+}
+
+/// Enough of everything is asked: at least 20,000 calls, and of each call and each kind every number.
 fn are_enough(talks: &[Talk]) {
-    let sum = |of: &dyn Fn(&Tally) -> usize| talks.iter().map(|talk| of(&talk.tally)).sum::<usize>();
-    let times = |map: &BTreeMap<u32, usize>, number: u32| map.get(&number).copied().unwrap_or(0);
-    let count = |of: fn(&Tally) -> &BTreeMap<u32, usize>, number| sum(&|tally| times(of(tally), number));
-    let of_find: BTreeMap<u32, usize> = OF_FIND.map(|number| (number, count(|t| &t.refused_finds, number))).into();
-    let all = OF_FIND.iter().chain(&OF_READ);
-    let of_read: BTreeMap<u32, usize> = all.map(|&number| (number, count(|t| &t.refused_reads, number))).collect();
-    let [finds, reads] = [sum(&|tally| tally.finds), sum(&|tally| tally.reads)];
-    let [found, copied] = [sum(&|tally| tally.found), sum(&|tally| tally.copied)];
-    println!("{finds} lookups, {found} found, refused by number: {of_find:?}");
-    let far = sum(&|tally| tally.far);
-    println!("{reads} reads, {far} far, {copied} copied, refused by number: {of_read:?}");
-    let [known, told] = [sum(&|tally| tally.known), sum(&|tally| tally.told)];
-    println!("{known} answers known beforehand, {told} of them told by a harm");
+    let [finds, reads] = [sum(talks, |tally| &tally.finds), sum(talks, |tally| &tally.reads)];
+    let all = [&OF_FIND[..], &OF_READ].concat();
+    let of_kind =
+        |kind| [hold_answers("lookups", &finds, kind, &OF_FIND), hold_answers("reads", &reads, kind, &all)];
+    let calls: usize = Disk::FLOPPIES.iter().flat_map(|disk| of_kind(disk.kind)).sum();
+    let total = |of: fn(&Tally) -> usize| talks.iter().map(|talk| of(&talk.tally)).sum::<usize>();
+    let [far, known, told] = [total(|tally| tally.far), total(|tally| tally.known), total(|tally| tally.told)];
+    println!("{calls} calls, {far} far, {known} answers known beforehand, {told} of them told by a harm");
     assert!(known >= 10_000 && told >= 1_000, "{known} known, {told} told");
-    assert!(finds + reads >= 20_000, "{finds} lookups, {reads} reads");
+    assert!(calls >= 20_000, "{calls} calls");
     assert!(far >= 1_000, "{far} reads from far offsets");
-    assert!(found >= 2_000 && copied >= 2_000, "{found} found, {copied} copied");
-    assert_eq!(found + of_find.values().sum::<usize>(), finds, "an answer of another number");
-    assert_eq!(copied + of_read.values().sum::<usize>(), reads, "an answer of another number");
-    let rare: Vec<_> = of_find.iter().chain(&of_read).filter(|(_, &times)| times < 20).collect();
-    assert!(rare.is_empty(), "too few of {rare:?}");
+    let retagged = sum(talks, |tally| &tally.retagged);
+    println!("lookups under the other tag, by kind and number: {retagged:?}");
+    let answers = [0, 12, 19].map(|number| [(0, number), (2, number)]).concat();
+    assert!(answers.iter().all(|answer| retagged.get(answer).is_some_and(|&times| times >= 20)), "{retagged:?}");
 }
 
 /// All that is known beforehand is answered so; no one else is needed for that.

@@ -4,7 +4,7 @@
 //! Neither shows the image's bytes. Its length can be told from outside, for it decides which patches fit; see
 //! [`holds`].
 
-use compare::disk::Disk;
+use compare::disk::{image_length, FLOPPY};
 use compare::driver::Batch;
 use compare::rng::Rng;
 
@@ -58,7 +58,7 @@ fn no_input_no_answer() {
 #[test]
 fn images_of_every_length_up_to_the_room() {
     let mut batch = Batch::new();
-    for length in [0, 1, 512, Disk::FLOPPY.image_length(), ROOM, 512, 1, 0] {
+    for length in [0, 1, 512, image_length(FLOPPY), ROOM, 512, 1, 0] {
         image(&mut batch, length);
         holds(&mut batch, length as u32);
     }

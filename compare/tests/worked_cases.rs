@@ -1,21 +1,87 @@
-//! The cases that docs/FORMAT.md works out ("Worked cases"), and the numbers that it gives for
-//! the one disk of the base.
+//! The cases that docs/FORMAT.md works out ("Worked cases"), and the numbers that it gives for the floppy; and slots
+//! of names with accents, worked out by hand for each kind of disk.
 
 use compare::audit::{audit, Report};
 use compare::bitmap::place;
-use compare::disk::Disk;
-use compare::names::slot;
+use compare::disk::{claim_length, image_length, Disk, FLOPPY};
+use compare::names::{same, slot};
 use compare::rng::Rng;
 use compare::sizes::{data_blocks, header_keys, held, last_list_keys, list_blocks};
 use compare::volumes::{any_style, empty, Volume};
 
-const DISK: Disk = Disk::FLOPPY;
+const DISK: Disk = Disk::PLAIN;
 
 #[test]
 fn slots() {
     let worked = [("a", 6), ("A", 6), ("c", 8), ("s", 24), ("MARY", 65)];
     for (name, wanted) in worked {
-        assert_eq!(slot(name.as_bytes()), wanted, "{name}");
+        for disk in Disk::FLOPPIES {
+            assert_eq!(slot(&disk, name.as_bytes()), wanted, "{name}");
+        }
+    }
+}
+
+/// The hash of a name of one byte b is 13 + b: E0 is 224, and 237 is 3 times 72 and 21. An international disk folds it
+/// to C0, which is 192, and 205 is 2 times 72 and 61.
+#[test]
+fn slots_of_one_byte_with_an_accent() {
+    let worked = [
+        (0xE0, 21, 61),
+        (0xC0, 61, 61),
+        (0xF7, 44, 44),
+        (0xD7, 12, 12),
+        (0xFE, 51, 19),
+        (0xDE, 19, 19),
+        (0xFF, 52, 52),
+        (0xDF, 20, 20),
+        (0xE9, 30, 70),
+        (0xC9, 70, 70),
+    ];
+    for (byte, plain, international) in worked {
+        assert_eq!(slot(&Disk::PLAIN, &[byte]), plain, "{byte:02X}");
+        assert_eq!(slot(&Disk::INTERNATIONAL, &[byte]), international, "{byte:02X}");
+    }
+}
+
+/// Longer names, with what the hash is after each byte and the slot, for a plain disk and for an international one. The
+/// last of them is of the signs and letters that no disk folds.
+#[test]
+fn slots_of_longer_names_with_accents() {
+    let worked: [(&[u8], [(&[u32], u32); 2]); 5] = [
+        (b"M\xE9t\xE9o", [(&[142, 31, 487, 420, 1443], 3), (&[142, 2047, 71, 1124, 355], 67)]),
+        (b"M\xC9T\xC9O", [(&[142, 2047, 71, 1124, 355], 67); 2]),
+        (b"\xC9t\xE9", [(&[240, 1156, 925], 61), (&[240, 1156, 893], 29)]),
+        (
+            b"\xC5ngstr\xF6m",
+            [
+                (&[301, 1943, 754, 1693, 1613, 571, 1525, 1470], 30),
+                (&[301, 1943, 754, 1693, 1613, 571, 1493, 1054], 46),
+            ],
+        ),
+        (b"\xF7\xD7\xFF\xDF", [(&[299, 6, 333, 456], 24); 2]),
+    ];
+    for (name, by_kind) in worked {
+        for (disk, (steps, wanted)) in Disk::FLOPPIES.iter().zip(by_kind) {
+            assert_eq!(steps.last().map(|hash| hash % 72), Some(wanted), "{name:?}");
+            assert_eq!(slot(disk, name), wanted, "{name:?}");
+        }
+    }
+}
+
+/// The pairs of bytes that are one name on an international disk, and those that are two on either.
+#[test]
+fn names_that_are_one_or_two() {
+    for (one, other, international) in [
+        (0xE0, 0xC0, true),
+        (0xE9, 0xC9, true),
+        (0xFE, 0xDE, true),
+        (0xF7, 0xD7, false),
+        (0xFF, 0xDF, false),
+        (0xFF, 0x9F, false),
+        (0xDF, 0xBF, false),
+    ] {
+        assert!(!same(&Disk::PLAIN, &[one], &[other]), "{one:02X} {other:02X}");
+        assert_eq!(same(&Disk::INTERNATIONAL, &[one], &[other]), international, "{one:02X} {other:02X}");
     }
 }
 
@@ -52,10 +118,12 @@ fn sizes() {
 #[test]
 fn an_empty_volume() {
     let mut rng = Rng::new(1);
-    let style = any_style(&mut rng);
-    let volume = Volume::new(&mut rng, &DISK, &empty(), style);
-    let report = audit(&DISK, &volume.image, &mut [0xAA; 1760]);
-    assert_eq!(report, Ok(Report { used: 2, free: 1756, ..Report::default() }));
+    for disk in Disk::FLOPPIES {
+        let style = any_style(&mut rng);
+        let volume = Volume::new(&mut rng, &empty(&disk), style);
+        let report = audit(FLOPPY, &volume.image, &mut [0xAA; 1760]);
+        assert_eq!(report, Ok(Report { used: 2, free: 1756, ..Report::default() }));
+    }
 }
 
 #[test]
@@ -69,15 +137,19 @@ fn the_largest_size_stated_and_the_largest_that_fits() {
 }
 
 #[test]
-fn the_disk() {
-    assert_eq!(DISK.blocks, 1760);
-    assert_eq!(DISK.image_length(), 901_120);
-    assert_eq!(DISK.root(), 880);
-    assert_eq!(DISK.keys(), 2..1760);
-    assert_eq!(DISK.chain_limit(), 1756);
-    assert_eq!(DISK.data_bytes(), 488);
-    assert_eq!(DISK.file_limit(), 856_440);
-    assert_eq!(DISK.boot_tag(), [0x44, 0x4F, 0x53, 0x00]);
-    assert_eq!(DISK.claim_length(), 1760);
-    assert_eq!(DISK.bitmap_span(), 1758);
+fn the_disks() {
+    assert_eq!(FLOPPY, 1760);
+    assert_eq!(image_length(FLOPPY), 901_120);
+    assert_eq!(claim_length(FLOPPY), 1760);
+    for disk in Disk::FLOPPIES {
+        assert_eq!(disk.blocks, 1760);
+        assert_eq!(disk.root(), 880);
+        assert_eq!(disk.keys(), 2..1760);
+        assert_eq!(disk.chain_limit(), 1756);
+        assert_eq!(disk.data_bytes(), 488);
+        assert_eq!(disk.file_limit(), 856_440);
+        assert_eq!(disk.bitmap_span(), 1758);
+    }
+    assert_eq!(Disk::PLAIN.boot_tag(), [0x44, 0x4F, 0x53, 0x00]);
+    assert_eq!(Disk::INTERNATIONAL.boot_tag(), [0x44, 0x4F, 0x53, 0x02]);
 }

@@ -3,7 +3,7 @@
 
 use std::rc::Rc;
 
-use compare::disk::Disk;
+use compare::disk::{Disk, FLOPPY};
 use compare::program::Memory;
 use compare::programs::{bytes, file, worked_file, Block, Body, Hunk, Program};
 use compare::rng::Rng;
@@ -12,7 +12,7 @@ use compare::words::{sum, BLOCK_BYTES};
 use compare::{audit, loader, reading};
 use jufferdeeg as rattle;
 
-const DISK: Disk = Disk::FLOPPY;
+const DISK: Disk = Disk::PLAIN;
 
 /// One of several ways to do the same.
 pub struct Side {
@@ -35,7 +35,7 @@ fn style(order: Order) -> Style {
 }
 
 fn image(rng: &mut Rng, plan: &Plan) -> Vec<u8> {
-    Volume::new(rng, &DISK, plan, style(Order::Shuffled)).image
+    Volume::new(rng, plan, style(Order::Shuffled)).image
 }
 
 /// Images with no free block.
@@ -58,16 +58,16 @@ pub fn filled_image(used: u32) -> Vec<u8> {
 /// An image with so many entries, all on one chain.
 pub fn chain_image(length: u32) -> Vec<u8> {
     let mut rng = Rng::new(3);
-    let plan = chain(&mut rng, length);
+    let plan = chain(&mut rng, &DISK, length);
     image(&mut rng, &plan)
 }
 
 /// The largest file that a disk can hold, as `big`, and its size.
 pub fn big_file(order: Order) -> (Vec<u8>, usize) {
     let size = 1_731 * DISK.data_bytes();
-    let mut plan = Plan::default();
+    let mut plan = Plan::new(&DISK);
     plan.add_named(None, b"big", Kind::File(size));
-    (Volume::new(&mut Rng::new(4), &DISK, &plan, style(order)).image, size as usize)
+    (Volume::new(&mut Rng::new(4), &plan, style(order)).image, size as usize)
 }
 
 /// A program of 8 hunks with 32,768 stored words and so many targets each, its bases, and others.
@@ -104,7 +104,7 @@ pub fn audits(name: &str, images: Vec<Vec<u8>>) -> Case {
     for image in images.iter() {
         let (mut ours, mut theirs) = (vec![0xAA; 1_760], vec![0x55; 1_760]);
         let answer = rattle::audit(image, &mut ours);
-        let wanted = audit::audit(&DISK, image, &mut theirs).expect("a volume");
+        let wanted = audit::audit(FLOPPY, image, &mut theirs).expect("a volume");
         let numbers =
             [wanted.directories, wanted.files, wanted.list_blocks, wanted.data_blocks, wanted.used, wanted.free];
         let given =
@@ -122,7 +122,7 @@ pub fn audits(name: &str, images: Vec<Vec<u8>>) -> Case {
         }),
         side("Rust", move || {
             for image in second.iter() {
-                assert!(audit::audit(&DISK, image, &mut theirs).is_ok());
+                assert!(audit::audit(FLOPPY, image, &mut theirs).is_ok());
             }
         }),
         side("sums alone, in Rust", move || {
@@ -141,12 +141,12 @@ pub fn reads(name: &str, (image, size): (Vec<u8>, usize)) -> Case {
     let (mut ours, mut theirs) = (vec![0; size], vec![0; size]);
     let answer = rattle::read(&image, b"big", 0, &mut ours);
     assert_eq!((answer.number, answer.count), (0, size));
-    assert_eq!(reading::read(&DISK, &image, b"big", 0, &mut theirs), Ok(size));
+    assert_eq!(reading::read(FLOPPY, &image, b"big", 0, &mut theirs), Ok(size));
     assert_eq!(ours, theirs);
     let other = image.clone();
     let sides = vec![
         side("Rattle", move || assert_eq!(rattle::read(&image, b"big", 0, &mut ours).count, size)),
-        side("Rust", move || assert_eq!(reading::read(&DISK, &other, b"big", 0, &mut theirs), Ok(size))),
+        side("Rust", move || assert_eq!(reading::read(FLOPPY, &other, b"big", 0, &mut theirs), Ok(size))),
     ];
     Case { name: name.to_string(), sides }
 }
