@@ -1,7 +1,9 @@
-//! The files of the folder `samples`: a volume with a title program on it, the same volume damaged, and the program
-//! alone.
+//! The files of the folder `samples`: a volume with a title program on it, the same volume damaged, a volume of the
+//! international kind, and the program alone.
 //!
 //! They are made by the generators of this package, and the same in every run.
+
+use std::collections::BTreeMap;
 
 use crate::disk::Disk;
 use crate::names::put_name;
@@ -17,11 +19,10 @@ pub const TITLE: &str = "c/title";
 pub const SETTINGS: &str = "s/settings";
 /// The path of a file that is long enough for a list block.
 pub const FONT: &str = "fonts/lower-third";
-
-const DISK: Disk = Disk::PLAIN;
-
-/// The name of the volume.
-const NAME: &[u8] = b"Titles";
+/// Paths on the international volume.
+pub const SUMMER: &str = "Météo/Été";
+pub const WINTER: &str = "Météo/Hiver";
+pub const OPTIONS: &str = "s/réglages";
 
 /// The bytes of the settings.
 const SETTINGS_TEXT: &[u8] = b"; title board 3, evening shift
@@ -31,6 +32,26 @@ font      lower-third
 colour    white on blue
 fade      12 frames
 ";
+
+/// The texts of the international volume.
+const SUMMER_TEXT: &str = "; bande météo, édition d'été
+ligne1    Île-d'Orléans: 24 à 27 degrés
+ligne2    Rivière-à-Pierre: 19 à 22 degrés
+";
+const WINTER_TEXT: &str = "; bande météo, édition d'hiver
+ligne1    Île-d'Orléans: -9 à -4 degrés
+ligne2    Rivière-à-Pierre: -14 à -11 degrés
+";
+const OPTIONS_TEXT: &str = "; régie 2, équipe du soir
+chaîne    Télé Côte-Nord
+police    petites capitales
+fondu     12 images
+";
+
+/// A text in Latin-1, a byte for each letter.
+pub fn latin_1(text: &str) -> Vec<u8> {
+    text.chars().map(|letter| u8::try_from(letter).expect("a letter of Latin-1")).collect()
+}
 
 /// The byte that a drive writes into a sector which it formats anew.
 const FORMATTED: u8 = 0xF6;
@@ -100,79 +121,111 @@ fn font() -> Vec<u8> {
     Rng::new(4).bytes(36_000)
 }
 
-/// The files of the volume by their paths, and what is in them.
-fn contents() -> [(&'static str, Vec<u8>); 3] {
-    [(TITLE, title()), (SETTINGS, SETTINGS_TEXT.to_vec()), (FONT, font())]
+/// What a volume is to be.
+struct Sample {
+    disk: Disk,
+    /// Its name.
+    name: &'static str,
+    /// Its files by their paths, and what is in them.
+    files: Vec<(&'static str, Vec<u8>)>,
+    /// A directory with nothing in it.
+    bare: &'static str,
 }
 
-/// The entries of the volume: a directory for each file, and an empty one.
-fn plan() -> Plan {
-    let mut plan = Plan::new(&DISK);
-    for (path, bytes) in contents() {
-        let (directory, name) = path.split_once('/').expect("a file in a directory");
-        let within = plan.add_named(None, directory.as_bytes(), Kind::Directory);
-        plan.add_named(Some(within), name.as_bytes(), Kind::File(bytes.len() as u32));
-    }
-    plan.add_named(None, b"t", Kind::Directory);
-    plan
+/// The volume of a titling board.
+fn of_board() -> Sample {
+    let files = vec![(TITLE, title()), (SETTINGS, SETTINGS_TEXT.to_vec()), (FONT, font())];
+    Sample { disk: Disk::PLAIN, name: "Titles", files, bare: "t" }
 }
 
-/// What is in the file of which this is a name.
-fn contents_of(name: &[u8]) -> Vec<u8> {
-    let all = contents();
-    let wanted = all.iter().find(|(path, _)| path.split('/').next_back().map(str::as_bytes) == Some(name));
-    wanted.expect("a file of the volume").1.clone()
+/// The volume of a broadcaster: the same title program, and names with accents.
+fn of_broadcaster() -> Sample {
+    let texts = [(SUMMER, SUMMER_TEXT), (WINTER, WINTER_TEXT), (OPTIONS, OPTIONS_TEXT)];
+    let files = [(TITLE, title())].into_iter().chain(texts.map(|(path, text)| (path, latin_1(text)))).collect();
+    Sample { disk: Disk::INTERNATIONAL, name: "Télé Côte-Nord", files, bare: "Générique" }
 }
 
-/// The block of a volume as a disk has it: nothing where no rule asks, the bytes of the file in a data block, and
-/// the sum in its usual place.
-fn finished(volume: &Volume, Met { key, part }: Met) -> Vec<u8> {
-    let mut block = volume.block(key).to_vec();
-    volume.spare(part).iter().for_each(|&index| put(&mut block, index, 0));
-    match part {
-        Part::Root => {
-            block[432..464].fill(0);
-            put_name(&mut block, NAME);
+impl Sample {
+    /// The entries of the volume: each file after its directory, and the directory with nothing in it.
+    fn plan(&self) -> Plan {
+        let (mut plan, mut directories) = (Plan::new(&self.disk), BTreeMap::new());
+        for (path, bytes) in &self.files {
+            let (directory, name) = path.split_once('/').expect("a file in a directory");
+            let new = || plan.add_named(None, &latin_1(directory), Kind::Directory);
+            let within = *directories.entry(directory).or_insert_with(new);
+            plan.add_named(Some(within), &latin_1(name), Kind::File(bytes.len() as u32));
         }
-        Part::Data(number, index) => {
-            let contents = contents_of(&volume.entries[number].name);
-            let bytes = contents.chunks(DISK.data_bytes() as usize).nth(index).expect("a block's bytes");
-            block[Disk::DATA_START..][..bytes.len()].copy_from_slice(bytes);
+        plan.add_named(None, &latin_1(self.bare), Kind::Directory);
+        plan
+    }
+
+    /// What is in the file of which this is a name.
+    fn contents_of(&self, name: &[u8]) -> &[u8] {
+        let is_wanted = |path: &str| path.split('/').next_back().map(latin_1).as_deref() == Some(name);
+        let wanted = self.files.iter().find(|(path, _)| is_wanted(path));
+        &wanted.expect("a file of the volume").1
+    }
+
+    /// The block of a volume as a disk has it: nothing where no rule asks, the bytes of the file in a data block, and
+    /// the sum in its usual place.
+    fn finished(&self, volume: &Volume, Met { key, part }: Met) -> Vec<u8> {
+        let mut block = volume.block(key).to_vec();
+        volume.spare(part).iter().for_each(|&index| put(&mut block, index, 0));
+        match part {
+            Part::Root => {
+                block[432..464].fill(0);
+                put_name(&mut block, &latin_1(self.name));
+            }
+            Part::Data(number, index) => {
+                let contents = self.contents_of(&volume.entries[number].name);
+                let bytes = contents.chunks(self.disk.data_bytes() as usize).nth(index).expect("a block's bytes");
+                block[Disk::DATA_START..][..bytes.len()].copy_from_slice(bytes);
+            }
+            _ => {}
         }
-        _ => {}
+        mend(&mut block, if part == Part::Bitmap { 0 } else { 5 });
+        block
     }
-    mend(&mut block, if part == Part::Bitmap { 0 } else { 5 });
-    block
+
+    /// The volume, with an image as a disk has it.
+    fn volume(&self) -> Volume {
+        let style = Style { filling: Filling::Zeros, order: Order::Rising };
+        let mut volume = Volume::new(&mut Rng::new(880), &self.plan(), style);
+        for met in volume.order.clone() {
+            let block = self.finished(&volume, met);
+            volume.image[met.key as usize * BLOCK_BYTES..][..BLOCK_BYTES].copy_from_slice(&block);
+        }
+        volume
+    }
 }
 
-/// The volume, with an image as a disk has it.
-fn volume() -> Volume {
-    let style = Style { filling: Filling::Zeros, order: Order::Rising };
-    let mut volume = Volume::new(&mut Rng::new(880), &plan(), style);
-    for met in volume.order.clone() {
-        let block = finished(&volume, met);
-        volume.image[met.key as usize * BLOCK_BYTES..][..BLOCK_BYTES].copy_from_slice(&block);
-    }
-    volume
-}
-
-/// The image of the volume.
+/// The image of the board's volume.
 pub fn titles() -> Vec<u8> {
-    volume().image
+    of_board().volume().image
 }
 
 /// The same, but the block with the title program was formatted anew.
 pub fn damaged() -> Vec<u8> {
-    let volume = volume();
+    let volume = of_board().volume();
     let title = volume.entries.iter().find(|entry| entry.name == b"title").expect("the title program");
     let mut image = volume.image.clone();
     image[title.data[0] as usize * BLOCK_BYTES..][..BLOCK_BYTES].fill(FORMATTED);
     image
 }
 
+/// The image of the broadcaster's volume.
+pub fn international() -> Vec<u8> {
+    of_broadcaster().volume().image
+}
+
 /// All files by their names.
-pub fn all() -> [(&'static str, Vec<u8>); 3] {
-    [("titles.adf", titles()), ("damaged.adf", damaged()), ("title", title())]
+pub fn all() -> [(&'static str, Vec<u8>); 4] {
+    [
+        ("titles.adf", titles()),
+        ("damaged.adf", damaged()),
+        ("international.adf", international()),
+        ("title", title()),
+    ]
 }
 
 #[cfg(test)]
@@ -186,7 +239,7 @@ mod tests {
 
     fn bytes_of(image: &[u8], path: &str) -> Result<Vec<u8>, Refusal> {
         let mut output = vec![0; 50_000];
-        let count = read(FLOPPY, image, path.as_bytes(), 0, &mut output)?;
+        let count = read(FLOPPY, image, &latin_1(path), 0, &mut output)?;
         output.truncate(count);
         Ok(output)
     }
@@ -202,7 +255,7 @@ mod tests {
         let entries = std::fs::read_dir(&folder).expect("the folder of samples");
         let mut names: Vec<_> = entries.map(|entry| entry.expect("a file").file_name()).collect();
         names.sort();
-        assert_eq!(names, ["README.md", "damaged.adf", "title", "titles.adf"]);
+        assert_eq!(names, ["README.md", "damaged.adf", "international.adf", "title", "titles.adf"]);
     }
 
     #[test]
@@ -217,13 +270,32 @@ mod tests {
     }
 
     #[test]
-    fn the_volume_is_good_and_its_files_are_there() {
-        let image = titles();
-        let report = agreed(FLOPPY, &image, &mut [0; 1_760]).expect("a good volume");
-        assert_eq!([report.directories, report.files, report.list_blocks, report.data_blocks], [4, 3, 1, 76]);
-        for (path, bytes) in contents() {
-            assert!(bytes_of(&image, path) == Ok(bytes), "{path}");
+    fn the_volumes_are_good_and_their_files_are_there() {
+        for (sample, counts) in [(of_board(), [4, 3, 1, 76]), (of_broadcaster(), [4, 4, 0, 4])] {
+            let image = sample.volume().image;
+            let report = agreed(FLOPPY, &image, &mut [0; 1_760]).expect("a good volume");
+            let found = [report.directories, report.files, report.list_blocks, report.data_blocks];
+            assert_eq!(found, counts);
+            for (path, bytes) in sample.files {
+                assert!(bytes_of(&image, path) == Ok(bytes), "{path}");
+            }
         }
+    }
+
+    /// The bytes that docs/FORMAT.md speaks of ("Blocks of a volume", Folding), and paths in the other case.
+    #[test]
+    fn the_international_volume_has_accents() {
+        let mut image = international();
+        assert_eq!(image[..4], *b"DOS\x02");
+        assert_eq!(latin_1(SUMMER), b"M\xE9t\xE9o/\xC9t\xE9");
+        for path in ["MÉTÉO/ÉTÉ", "météo/été", "Météo/éTÉ"] {
+            assert_eq!(bytes_of(&image, path), Ok(latin_1(SUMMER_TEXT)), "{path}");
+        }
+        assert_eq!(bytes_of(&image, "S/RÉGLAGES"), Ok(latin_1(OPTIONS_TEXT)));
+        assert_eq!(bytes_of(&image, "METEO/ETE"), Err(Refusal::at(19, 0)));
+        // on a plain disk most of it would hang wrongly
+        image[3] = 0;
+        assert_eq!(agreed(FLOPPY, &image, &mut [0; 1_760]).map_err(|refusal| refusal.number), Err(12));
     }
 
     /// One block is overwritten, and nothing but its file is lost.
@@ -233,7 +305,7 @@ mod tests {
         let refusal = agreed(FLOPPY, &image, &mut [0; 1_760]).expect_err("a damaged volume");
         assert_eq!(refusal.number, 7);
         assert_eq!(bytes_of(&image, TITLE), Err(refusal));
-        for (path, bytes) in contents().into_iter().skip(1) {
+        for (path, bytes) in of_board().files.into_iter().skip(1) {
             assert!(bytes_of(&image, path) == Ok(bytes), "{path}");
         }
     }

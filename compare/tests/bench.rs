@@ -29,7 +29,7 @@ use compare::paths::{bad_forms, Paths};
 use compare::program::{BOTH, BSS, CHIP, CODE, DATA, END, FAST, HEADER, HUNK_WORDS, RELOCATIONS, SYMBOLS};
 use compare::programs::{bytes, file, good_bases, good_program, long_file, worked_file};
 use compare::rng::Rng;
-use compare::samples::{damaged, title, titles, FONT, SETTINGS, TITLE};
+use compare::samples::{damaged, international, latin_1, title, titles, FONT, OPTIONS, SETTINGS, SUMMER, TITLE};
 use compare::volumes::{alike, any_style, chain, empty, files, full, mixed, nested, Entry, Kind, Plan, Volume};
 use compare::words::{mend, put, slot_word, word, BLOCK_BYTES};
 
@@ -492,7 +492,7 @@ fn every_verb_on_the_samples() {
     let desk = Desk::with_samples();
     desk.hold_audit(&["titles.adf"]);
     desk.hold_audit(&["damaged.adf"]);
-    desk.hold_audit(&["titles.adf", "damaged.adf", "title"]);
+    desk.hold_audit(&["titles.adf", "damaged.adf", "title", "international.adf"]);
     let paths = ["", "c", TITLE, "C/TITLE", SETTINGS, FONT, "t", "t/x", "c/title/x", "/", "c/", ":c", "a b"];
     for image in ["titles.adf", "damaged.adf"] {
         desk.hold_find(image, &paths);
@@ -511,11 +511,32 @@ fn every_verb_on_the_samples() {
     desk.hold_load("titles.adf", &BASES_A);
 }
 
+/// The international volume, with paths in every case; what is said of a path has its bytes as they were given.
+#[test]
+fn accents_on_the_samples() {
+    let desk = Desk::with_samples();
+    desk.hold_audit(&["international.adf"]);
+    let paths = [SUMMER, "MÉTÉO/ÉTÉ", "météo/été", "METEO/ETE", OPTIONS, "S/RÉGLAGES", "générique", TITLE, "t"];
+    let paths = paths.map(latin_1);
+    desk.hold_find("international.adf", &paths);
+    // on a plain disk there is none of them
+    desk.hold_find("titles.adf", &paths);
+    for path in &paths {
+        desk.hold_read("international.adf", path);
+    }
+    desk.hold_reset("international.adf", TITLE.as_bytes(), &BASES_A);
+    let image = international();
+    let (answer, found) = looked_up(&image, b"M\xC9T\xC9O");
+    assert!(found && answer.starts_with("directory, key "), "{answer}");
+    let due = [b"M\xC9T\xC9O: ", answer.as_bytes(), b"\n"].concat();
+    desk.hold_out(&[b"find", &b"international.adf"[..], b"M\xC9T\xC9O"], &due, true);
+}
+
 /// The tags beside those of the two kinds, with the sentence written out.
 #[test]
 fn images_of_other_kinds() {
     let of_kind = |kind: u8| {
-        let mut image = titles();
+        let mut image = international();
         image[3] = kind;
         (format!("{kind}.adf"), image)
     };
@@ -1078,12 +1099,28 @@ fn repository() -> &'static Path {
     Path::new(env!("CARGO_MANIFEST_DIR")).parent().expect("this package lies in a repository")
 }
 
-/// The calls that a page shows, each with the lines shown for it. They stand in lines that are set in by four.
-fn shown_calls(page: &str) -> Vec<(Vec<&str>, Vec<&str>)> {
-    let mut calls: Vec<(Vec<&str>, Vec<&str>)> = Vec::new();
+/// A word of a command as bash takes it: within `$'` and `'` a byte may stand as `\x` and two digits.
+fn unquoted(word: &str) -> Vec<u8> {
+    let Some(inner) = word.strip_prefix("$'").and_then(|word| word.strip_suffix('\'')) else { return word.into() };
+    let mut parts = inner.split("\\x");
+    let mut bytes: Vec<u8> = parts.next().unwrap_or_default().into();
+    for part in parts {
+        let (digits, rest) = part.split_at(2);
+        bytes.push(u8::from_str_radix(digits, 16).expect("two digits"));
+        bytes.extend(rest.bytes());
+    }
+    bytes
+}
+
+/// A call that a page shows, and the lines shown for it.
+type ShownCall<'a> = (Vec<Vec<u8>>, Vec<&'a str>);
+
+/// The calls that a page shows. They stand in lines that are set in by four.
+fn shown_calls(page: &str) -> Vec<ShownCall<'_>> {
+    let mut calls: Vec<ShownCall> = Vec::new();
     for text in page.lines().filter_map(|line| line.strip_prefix("    ")) {
         match (text.strip_prefix("./bench "), calls.last_mut()) {
-            (Some(words), _) => calls.push((words.split(' ').collect(), Vec::new())),
+            (Some(words), _) => calls.push((words.split(' ').map(unquoted).collect(), Vec::new())),
             (None, Some((_, lines))) => lines.push(text),
             (None, None) => {}
         }
@@ -1100,20 +1137,22 @@ fn are_as_shown(lines: &[&str], shown: &[&str]) -> bool {
     }
 }
 
-/// What the page of the samples shows is what the tool prints.
+/// What the page of the samples shows is what the tool prints, read as letters of Latin-1.
 #[test]
 fn the_page_of_the_samples_is_right() {
     let page = fs::read_to_string(repository().join("samples/README.md")).expect("the page");
     let calls = shown_calls(&page);
-    let verbs: BTreeSet<&str> = calls.iter().map(|(words, _)| words[0]).collect();
-    assert!(verbs.into_iter().eq(["audit", "find", "load", "move", "read", "reset"]));
+    let verbs: BTreeSet<&[u8]> = calls.iter().map(|(words, _)| &words[0][..]).collect();
+    assert!(verbs.into_iter().eq(["audit", "find", "load", "move", "read", "reset"].map(str::as_bytes)));
+    assert!(calls.iter().any(|(words, _)| words.concat().contains(&0xC9)), "a path with accents");
     for (words, lines) in calls {
         let mut command = rattle("bench");
-        command.args(&words).current_dir(repository()).stdin(Stdio::null());
+        command.args(words.iter().map(|word| OsStr::from_bytes(word)));
+        command.current_dir(repository()).stdin(Stdio::null());
         let run = command.output().expect("a program that starts");
-        let text = String::from_utf8([run.stdout, run.stderr].concat()).expect("a text");
+        let text: String = [run.stdout, run.stderr].concat().into_iter().map(char::from).collect();
         let got: Vec<&str> = text.lines().collect();
-        assert!(are_as_shown(&got, &lines), "{}: {text:?}", words.join(" "));
+        assert!(are_as_shown(&got, &lines), "{}: {text:?}", shown(&words));
     }
 }
 
@@ -1125,7 +1164,11 @@ fn lines_left_out_of_a_page() {
     assert!(!are_as_shown(&["a", "b"], &["a"]));
     assert!(!are_as_shown(&["a"], &["a", "b"]));
     let page = "text\n\n    cargo run\n\n    ./bench find a b\n    b: x\n\n    ./bench audit a\n";
-    assert_eq!(shown_calls(page), [(vec!["find", "a", "b"], vec!["b: x"]), (vec!["audit", "a"], vec![])]);
+    let words = |words: &[&str]| words.iter().map(|word| word.as_bytes().to_vec()).collect::<Vec<_>>();
+    let wanted = [(words(&["find", "a", "b"]), vec!["b: x"]), (words(&["audit", "a"]), vec![])];
+    assert_eq!(shown_calls(page), wanted);
+    assert_eq!(unquoted(r"$'M\xc9T\xE9'"), b"M\xC9T\xE9");
+    assert_eq!(unquoted(r"M\xc9"), br"M\xc9");
 }
 
 /// A desk with a stand-in for `rt`: a script that says where the kit is, and does this where it is asked to check.
