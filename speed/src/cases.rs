@@ -38,11 +38,11 @@ fn image(rng: &mut Rng, plan: &Plan) -> Vec<u8> {
     Volume::new(rng, plan, style(Order::Shuffled)).image
 }
 
-/// Images with no free block.
-pub fn full_images(count: usize) -> Vec<Vec<u8>> {
+/// Images of disks of this kind with no free block.
+pub fn full_images(disk: &Disk, count: usize) -> Vec<Vec<u8>> {
     let mut rng = Rng::new(1);
     let mut one = || {
-        let plan = full(&mut rng, &DISK);
+        let plan = full(&mut rng, disk);
         image(&mut rng, &plan)
     };
     (0..count).map(|_| one()).collect()
@@ -226,8 +226,9 @@ pub fn moves(name: &str, file: Vec<u8>, old: Vec<u32>, new: Vec<u32>) -> Case {
 pub fn main_cases() -> Vec<Case> {
     let (file, old, new) = program(4_096);
     vec![
-        audits("audit of a hundred full images", full_images(100)),
-        audits("audit of one full image", full_images(1)),
+        audits("audit of a hundred full images", full_images(&DISK, 100)),
+        audits("audit of one full image", full_images(&DISK, 1)),
+        audits("audit of one full image, international", full_images(&Disk::INTERNATIONAL, 1)),
         reads("read of a file of 844,728 bytes, blocks in any order", big_file(Order::Shuffled)),
         reads("read of a file of 844,728 bytes, blocks in order", big_file(Order::Rising)),
         loads("load of 1 MiB with 32,768 targets", file.clone(), old.clone()),
@@ -241,7 +242,7 @@ pub fn main_cases() -> Vec<Case> {
 pub fn case_named(name: &str) -> Option<Case> {
     let (file, old, new) = program(4_096);
     Some(match name {
-        "audit" => audits(name, full_images(1)),
+        "audit" => audits(name, full_images(&DISK, 1)),
         "chain" => audits(name, vec![chain_image(1_756)]),
         "read" => reads(name, big_file(Order::Shuffled)),
         "load" => loads(name, file, old),
