@@ -1,6 +1,7 @@
-/* Copies a folder to a new 880 KB disk of the old file system, by ADFlib: writer IMAGE LABEL keep|remove|mend FOLDER.
-   With remove and mend the files called gone.. leave the disk again before those called late.. come, so that blocks
-   do not lie in order. */
+/* Copies a folder to a new 880 KB disk of the old file system, by ADFlib:
+       writer IMAGE LABEL KIND keep|remove|mend FOLDER
+   KIND is the last byte of the boot tag: 0, or 2 for an international disk. With remove and mend the files called
+   gone.. leave the disk again before those called late.. come, so that blocks do not lie in order. */
 #include <dirent.h>
 #include <stdio.h>
 #include <stdlib.h>
@@ -70,16 +71,16 @@ static void walk(struct Volume *volume, const char *from, enum pass pass) {
 }
 
 int main(int count, char **words) {
-    if (count != 5) return 2;
+    if (count != 6) return 2;
     adfEnvInitDefault();
     struct Device *device = adfCreateDumpDevice(words[1], 80, 2, 11);
-    if (!device || adfCreateFlop(device, words[2], 0) != RC_OK) fail("cannot format", words[1]);
+    if (!device || adfCreateFlop(device, words[2], atoi(words[3])) != RC_OK) fail("cannot format", words[1]);
     struct Volume *volume = adfMount(device, 0, FALSE);
     if (!volume) fail("cannot mount", words[1]);
-    walk(volume, words[4], FIRST);
-    if (!strcmp(words[3], "remove")) walk(volume, words[4], REMOVE);
-    if (!strcmp(words[3], "mend")) walk(volume, words[4], MEND);
-    walk(volume, words[4], LATE);
+    walk(volume, words[5], FIRST);
+    if (!strcmp(words[4], "remove")) walk(volume, words[5], REMOVE);
+    if (!strcmp(words[4], "mend")) walk(volume, words[5], MEND);
+    walk(volume, words[5], LATE);
     adfUnMount(volume);
     adfUnMountDev(device);
     adfEnvCleanUp();
