@@ -388,6 +388,17 @@ pub fn patched(good: &[u8], patches: &[Patch]) -> Vec<u8> {
     image
 }
 
+/// The kinds that the image of a case says it is of: as it was drawn, and as it is asked about.
+pub fn kinds(case: &Case) -> Option<[Option<u8>; 2]> {
+    let Case::Image { good, patches, .. } = case else { return None };
+    let mut tag: Vec<u8> = good.iter().copied().take(4).collect();
+    for (place, bytes) in patches {
+        tag.iter_mut().skip(*place).zip(bytes).for_each(|(byte, &new)| *byte = new);
+    }
+    let kind = |image: &[u8]| Disk::of(FLOPPY, image).map(|disk| disk.kind);
+    Some([kind(good), kind(&tag)])
+}
+
 /// The words in which two images differ, as patches of one word each that make the first the second.
 pub fn differing_words(one: &[u8], other: &[u8]) -> Vec<Patch> {
     let words = one.chunks(4).zip(other.chunks(4)).enumerate();
@@ -430,13 +441,6 @@ mod tests {
 
     /// The calls among the requests.
     const CALLS: [u32; 5] = [AUDIT, FIND, READ, LOAD, MOVE];
-
-    /// The kind that an image says it is of, once with its patches and once without.
-    fn kinds(case: &Case) -> Option<[Option<u8>; 2]> {
-        let Case::Image { good, patches, .. } = case else { return None };
-        let kind = |image: &[u8]| Disk::of(FLOPPY, image).map(|disk| disk.kind);
-        Some([kind(good), kind(&patched(good, patches))])
-    }
 
     #[test]
     fn a_round_follows_from_its_seed_and_has_everything() {

@@ -1,7 +1,9 @@
 //! The fuzzing run against `probe` and the exported functions: a few rounds of it, and that it finds what is wrong.
 
+use std::collections::BTreeSet;
+
 use compare::driver::{answers, rattle, Request};
-use compare::fuzz::{compare, differ, due, exported, round, told, Case, Tally};
+use compare::fuzz::{compare, differ, due, exported, kinds, round, told, Case, Tally};
 use compare::model::{AUDIT, FIND, LOAD, MOVE, READ};
 use compare::shrink::shrink;
 use compare::sides::with_seeds;
@@ -18,10 +20,14 @@ fn has_every_call(tally: &Tally) {
 
 #[test]
 fn some_rounds_without_a_difference() {
+    let mut met = BTreeSet::new();
     for seed in [7_000, 7_001, 7_002] {
-        has_every_call(&compare(&round(seed), &mut due, &mut probe).expect("the same answers"));
-        has_every_call(&compare(&round(seed), &mut due, &mut exported).expect("the same answers"));
+        let cases = round(seed);
+        met.extend(cases.iter().filter_map(kinds).map(|[drawn, _]| drawn));
+        has_every_call(&compare(&cases, &mut due, &mut probe).expect("the same answers"));
+        has_every_call(&compare(&cases, &mut due, &mut exported).expect("the same answers"));
     }
+    assert!([0, 2].iter().all(|&kind| met.contains(&Some(kind))), "only {met:?}");
 }
 
 /// The exported functions are fast, and are asked ten times as much.

@@ -12,7 +12,7 @@ use std::process::ExitCode;
 use std::time::{Duration, Instant, SystemTime, UNIX_EPOCH};
 
 use compare::driver::{answers, framed, rattle, Request};
-use compare::fuzz::{compare, differ, due, exported, requests, round, told, Case, Difference, Tally};
+use compare::fuzz::{compare, differ, due, exported, kinds, requests, round, told, Case, Difference, Tally};
 use compare::model::{AUDIT, FIND, LOAD, MOVE, READ};
 use compare::shrink::shrink;
 
@@ -107,9 +107,13 @@ fn main() -> ExitCode {
     println!("seed {seed}");
     let start = Instant::now();
     let (mut tally, mut rounds, mut told_at) = (Tally::new(), 0, start);
+    let mut of_kind: BTreeMap<u8, usize> = BTreeMap::new();
     while seconds.is_none_or(|seconds| start.elapsed().as_secs() < seconds) {
         let seed = seed.wrapping_add(rounds);
         let cases = round(seed);
+        for kind in cases.iter().filter_map(kinds).filter_map(|[_, asked]| asked) {
+            *of_kind.entry(kind).or_default() += 1;
+        }
         match compare(&cases, &mut due, &mut held) {
             Ok(more) => more.into_iter().for_each(|(kind, times)| *tally.entry(kind).or_default() += times),
             Err(difference) => {
@@ -124,5 +128,6 @@ fn main() -> ExitCode {
         }
     }
     println!("{rounds} rounds, no difference: {}\n{}", counted(&tally), by_number(&tally));
+    println!("calls on images by the kind that the tag says: {of_kind:?}");
     ExitCode::SUCCESS
 }
