@@ -84,9 +84,9 @@ size_t jufferdeeg_reason(uint32_t number, uint8_t *output, size_t output_bytes);
  *
  * The last byte of the boot tag is the kind of the disk, and every call takes it from the image: 00 is plain, 02 is
  * international. Kinds differ in which names are equal. On a plain disk upper and lower case of a to z are the same;
- * on an international one so are bytes C0 to DE and the bytes 20 hex above them, but for D7 and F7, which are the
- * letters with accents of ISO 8859-1. A name or a path is just its bytes: text in another encoding, such as UTF-8, is
- * for the caller to convert. */
+ * on an international one so are bytes C0 to DE and the bytes 20 hex above them, the letters with accents of
+ * ISO 8859-1. D7 and F7, which are no letters, are two different bytes on both. A name or a path is just its bytes:
+ * text in another encoding, such as UTF-8, is for the caller to convert. */
 
 /* The length of an image, and of the shortest claim area. */
 #define JUFFERDEEG_IMAGE_BYTES 901120

@@ -1,6 +1,6 @@
 -- The numbers of an array that is a constant of code. A definition cannot name the constant. It can name the lowered
--- code (MIR) of an expression in a contract of a crate below, and a proof that of its function: the statement that
--- stores the constant there.
+-- code (MIR) of an expression in a contract of a crate below, and a proof can name that of its own function; there a
+-- statement stores the constant.
 use Prim.Native.Nat.{ℕ, _-_, _^_}
 use mathlib.Core.List.{List, [], _∷_}
 use mir.Val.{bits}
@@ -8,7 +8,7 @@ use mir.Syntax.{Opd, copy, int, intNeg, intBig, float, opdTrue, opdFalse, opdUni
 use mir.Syntax.{Rv, rvOpd, op2, op1, addrOf, aggregate, repeat}
 use mir.Syntax.{Body, skip, seq, assign, block, loop, cond, switch, exit, return, call}
 
--- a number as it is written; 0 for what is none. The upper half of a width is written from its end downward.
+-- a number as it is written; 0 for what is none. `intNeg w n` is n below the end of width w.
 abbrev number : Opd → ℕ
 number (int w n) = n
 number (intBig w n) = n

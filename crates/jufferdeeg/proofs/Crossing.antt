@@ -19,7 +19,10 @@ use Rattle.jufferdeeg.specs.Programs.{programNumbers, LoadsNumbers, Move
 pub audits : (s : List ℕ) (n : ℕ) (a : Audited) (r : AuditNumbers) (claim′ : List ℕ) → Audits (diskOf s) s n a claim′
     → r ≡ auditNumbers a → AuditsImage s n r claim′
 audits s n a r claim′ h e =
-    record { answer = e ∙ ap auditNumbers (h .answer); call = subst (λ x. Audits (diskOf s) s n x claim′) (h .answer) h }
+    record {
+      answer = e ∙ ap auditNumbers (h .answer);
+      call = subst (λ x. Audits (diskOf s) s n x claim′) (h .answer) h;
+    }
 
 pub reads : (s path : List ℕ) (o : ℕ) (output : List ℕ) (a : Reading) (r : ReadNumbers) (output′ : List ℕ)
     → Reads (diskOf s) s path o output a output′ → r ≡ readNumbers a → ReadsImage s path o output r output′

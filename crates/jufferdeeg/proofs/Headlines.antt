@@ -13,14 +13,15 @@ use Rattle.answers.specs.declared.Refusal.{Refusal}
 use Rattle.answers.specs.declared.Tested.the-variants.{Passed, Failed}
 use Rattle.answers.specs.Tests.{pick}
 use Rattle.reach.specs.References.{Reached}
-use Rattle.words.specs.Word.{Bytes}
+use Rattle.words.specs.Word.{Bytes, wordAt}
 use Rattle.volume.specs.declared.disk.Disk.{Disk}
-use Rattle.volume.specs.Disks.{kinds, floppy, rootOf, imageBytes, claimBytes, chainLimit, diskOf, NoTag}
+use Rattle.volume.specs.Disks.{kinds, floppy, tagOf, rootOf, imageBytes, claimBytes, chainLimit, diskOf, NoTag}
 use Rattle.volume.specs.Blocks.{directory}
 use Rattle.volume.specs.Files.{sizeOf}
 use Rattle.volume.specs.References.{to, entry, references}
 use Rattle.volume.specs.Names.{foldOf, folded, slotOf}
 use Rattle.volume.specs.Law.{Tree, Valid, Volume, IsVolume}
+use Rattle.volume.proofs.Tags as tags
 use Rattle.volume.proofs.Names as names
 use Rattle.volume.specs.Floppy.{Numerals}
 use Rattle.volume.proofs.Floppy as floppies
@@ -126,8 +127,11 @@ module _ (d : Disk) (s : List ℕ) (n : ℕ) where
       → (audit.numbersOf r ≡ audit.numbersOf r′) × (r ≡ r′) × (c ≡ c′)
   audit-determined r r′ c c′ a a′ = accepting.audit-determined d s n r r′ c c′ a a′
 
--- every call takes an image for the disk whose boot tag it has, and one statement is for all kinds: accepted if and
--- only if a volume of such a kind; 3 if and only if the tag is of no kind
+-- every call takes an image for the disk `diskOf`: that of the kind whose boot tag it has
+pub tag-disk : (s : List ℕ) (kind : ℕ) → kind ∈ kinds → wordAt s 0 ≡ tagOf (floppy kind) → diskOf s ≡ floppy kind
+tag-disk s kind m t = tags.tag-disk s kind m t
+
+-- one statement for all kinds: accepted if and only if a volume of such a kind; 3 if and only if the tag is of no kind
 module _ (s : List ℕ) (n : ℕ) where
   pub accepted-volume : claimBytes (diskOf s) ≤ n
       → ((r : Report) × (audit.auditOf (diskOf s) s n ≡ audited.Accepted r)) ↔ IsVolume s
@@ -402,10 +406,10 @@ module _ (s : List ℕ) (n : ℕ) (r : AuditNumbers) (claim : List ℕ) (a : Aud
   audit-refused-at = seen.audit-refused-at s n r claim a
 
   -- 3 if and only if length and claim area are right, and the image has the boot tag of no kind
-  pub audit-untagged : (k : ℕ)
+  pub audit-no-tag : (k : ℕ)
       → ((r .number ≡ fault.bootTag) × (r .place ≡ k))
       ↔ ((k ≡ 0) × (length s ≡ 901120) × (1760 ≤ n) × NoTag s)
-  audit-untagged = seen.audit-untagged s n r claim a
+  audit-no-tag = seen.audit-no-tag s n r claim a
 
   -- a number other than 0 is one of these; nothing is reported then, and the claim area is cleared
   pub audit-number : r .number ∈ (0 ∷ audit.auditRefusals)
@@ -431,10 +435,10 @@ module _ (s path : List ℕ) (r : FindNumbers) (a : r ≡ findInImage s path) wh
   find-refused-at = seen.find-refused-at s path r a
 
   -- 3 if and only if length and path are right, and the image has the boot tag of no kind
-  pub find-untagged : (k : ℕ)
+  pub find-no-tag : (k : ℕ)
       → ((r .number ≡ fault.bootTag) × (r .place ≡ k))
       ↔ ((k ≡ 0) × (length s ≡ 901120) × lookups.GoodForm path × NoTag s)
-  find-untagged = seen.find-untagged s path r a
+  find-no-tag = seen.find-no-tag s path r a
 
   -- a number other than 0 is one of these; all values are 0 then
   pub find-number : r .number ∈ (0 ∷ lookup.findRefusals)
@@ -456,10 +460,10 @@ module _ (s path : List ℕ) (o : ℕ) (output : List ℕ) (r : ReadNumbers) (ou
   read-refused-at = seen.read-refused-at s path o output r output′ a
 
   -- 3 if and only if length and path are right, and the image has the boot tag of no kind
-  pub read-untagged : (k : ℕ)
+  pub read-no-tag : (k : ℕ)
       → ((r .number ≡ fault.bootTag) × (r .place ≡ k))
       ↔ ((k ≡ 0) × (length s ≡ 901120) × lookups.GoodForm path × NoTag s)
-  read-untagged = seen.read-untagged s path o output r output′ a
+  read-no-tag = seen.read-no-tag s path o output r output′ a
 
   -- a number other than 0 is one of these; the output is as before then
   pub read-number : r .number ∈ (0 ∷ read.readRefusals)

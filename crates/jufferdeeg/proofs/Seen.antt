@@ -102,10 +102,10 @@ module _ (s : List ℕ) (n : ℕ) (r : AuditNumbers) (claim′ : List ℕ) (a : 
       (audit-refusing.refused-exactly (diskOf s) s n v k))
 
   -- 3 if and only if length and claim area are right, and the image has the boot tag of no kind
-  pub audit-untagged : (k : ℕ)
+  pub audit-no-tag : (k : ℕ)
       → ((r .number ≡ fault.bootTag) × (r .place ≡ k))
       ↔ ((k ≡ 0) × (length s ≡ 901120) × (1760 ≤ n) × NoTag s)
-  audit-untagged k =
+  audit-no-tag k =
       rw (a .answer) (chain (audit-says (audit.auditOf (diskOf s) s n) fault.bootTag k (λ e. omega arith))
       (audit-refusing.refused-tag s n k))
 
@@ -148,8 +148,9 @@ find-says x v k z = (there x, λ e. rw e (refl, refl))
 -- the path leads to the directory of that key, with so many entries compared
 abbrev pub FindsDirectory : List ℕ → List ℕ → FindNumbers → Type 0
 FindsDirectory s path r =
-    (r .kind ≡ 2) × (r .size ≡ 0) × lookups.Opened (diskOf s) s path × Trail (diskOf s) s (rootOf (diskOf s)) (components path)
-    (r .key) (r .compared)
+    let d = diskOf s in
+    (r .kind ≡ 2) × (r .size ≡ 0) × lookups.Opened d s path × Trail d s (rootOf d) (components path) (r .key)
+    (r .compared)
 
 -- or to the file of that key and size
 abbrev pub FindsFile : List ℕ → List ℕ → FindNumbers → Type 0
@@ -175,7 +176,8 @@ module _ (s path : List ℕ) (r : FindNumbers) (a : r ≡ findInImage s path) wh
       there (inl (k, c, e)) =
           let q = finding.directory-exactly (diskOf s) s path k c .0 e in
           inl (rw (a ∙ ap findNumbers e) (refl, refl, q .0, q .1))
-      there (inr (k, z, c, e)) = inr (rw (a ∙ ap findNumbers e) (refl, finding.file-exactly (diskOf s) s path k z c .0 e))
+      there (inr (k, z, c, e)) =
+          let q = finding.file-exactly (diskOf s) s path k z c .0 e in inr (rw (a ∙ ap findNumbers e) (refl, q))
 
       back : FindsDirectory s path r ⊎ FindsFile s path r → r .number ≡ 0
       back (inl (i, j, o, t)) =
@@ -189,10 +191,10 @@ module _ (s path : List ℕ) (r : FindNumbers) (a : r ≡ findInImage s path) wh
       rw a (chain (find-says (lookup.findOf (diskOf s) s path) v k z) (finding.refused-exactly (diskOf s) s path v k))
 
   -- 3 if and only if length and path are right, and the image has the boot tag of no kind
-  pub find-untagged : (k : ℕ)
+  pub find-no-tag : (k : ℕ)
       → ((r .number ≡ fault.bootTag) × (r .place ≡ k))
       ↔ ((k ≡ 0) × (length s ≡ 901120) × lookups.GoodForm path × NoTag s)
-  find-untagged k =
+  find-no-tag k =
       rw a (chain (find-says (lookup.findOf (diskOf s) s path) fault.bootTag k (λ e. omega arith))
       (finding.refused-tag s path k))
 
@@ -249,10 +251,10 @@ module _ (s path : List ℕ) (o : ℕ) (output : List ℕ) (r : ReadNumbers) (ou
       (unread.refused-exactly (diskOf s) s path o (length output) v k))
 
   -- 3 if and only if length and path are right, and the image has the boot tag of no kind
-  pub read-untagged : (k : ℕ)
+  pub read-no-tag : (k : ℕ)
       → ((r .number ≡ fault.bootTag) × (r .place ≡ k))
       ↔ ((k ≡ 0) × (length s ≡ 901120) × lookups.GoodForm path × NoTag s)
-  read-untagged k =
+  read-no-tag k =
       rw (a .answer)
       (chain (read-says (read.readOf (diskOf s) s path o (length output)) fault.bootTag k (λ e. omega arith))
       (unread.refused-tag s path o (length output) k))

@@ -204,8 +204,7 @@ module _ (d : Disk) (s path : List ℕ) (n : ℕ) (e : n ≡ imageBytes d) where
       unfolding pick
       find-root r q h = h ∙ (rw q at tagged)
 
--- ---- the disk of today
+-- ---- the disk that the image is taken for
 
--- on the disk that the image is taken for
 pub on-disk : (d : Disk) (s path : List ℕ) (r : Found) → d ≡ diskOf s → r ≡ findOf d s path → Finds (diskOf s) s path r
 on-disk d s path r e f = let g = rw e at f in record { answer = g; numbers = ap numbersOf g }

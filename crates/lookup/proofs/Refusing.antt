@@ -27,9 +27,9 @@ use Rattle.lookup.specs.Paths.{components}
 use Rattle.lookup.specs.Search.{positionFault}
 use Rattle.lookup.specs.Lookup.{refuse, findOf}
 use Rattle.lookup.specs.Trails.{Trail}
-use Rattle.lookup.specs.Verdicts.{GoodForm, Opened, keyIn, IsFile, Stands, Missing, AsDirectory, Refuses, number-1}
-use Rattle.lookup.specs.Verdicts.{number-18, number-3, of-root, number-5, number-6, of-entry, number-19}
-use Rattle.lookup.specs.Verdicts.{number-20}
+use Rattle.lookup.specs.Verdicts.{GoodForm, Opened, keyIn, IsFile, Stands, Missing, AsDirectory, Refuses}
+use Rattle.lookup.specs.Verdicts.{number-1, number-18, number-3, of-root, number-5, number-6, of-entry}
+use Rattle.lookup.specs.Verdicts.{number-19, number-20}
 use Rattle.lookup.proofs.Chains.{faultAt}
 use Rattle.lookup.proofs.Positions.{positions-few}
 use Rattle.lookup.proofs.Trails.{holds, file, used, missing, failing}

@@ -1,4 +1,4 @@
--- Laws of boot tags: the kind that an image's boot tag names, and the disk that the image is taken for. Assumes nothing.
+-- Laws of boot tags: the kind that an image's tag names, and the disk that the image is taken for. Assumes nothing.
 use Prim.Native.Nat.{ℕ, _%_, _<_}
 use mathlib.Core.Path.{_≡_, refl, ap, sym, _∙_, subst}
 use mathlib.Core.Logic.{_≢_, _↔_, inl, inr}

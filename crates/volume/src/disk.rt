@@ -48,8 +48,8 @@ impl Disk {
         }
     }
 
-    // The disk that an image is taken for: its boot tag gives the kind. An image whose tag is of no kind is taken for
-    // a plain disk, whose tag it does not have.
+    // The disk that an image is taken for, by the last byte of its first word; a plain one where that is of no kind. An
+    // image with the tag of no kind does not have the tag of that disk.
     pub fn of(image: &[u8]) -> Disk
         ensures { λ r. ⌜ r ≡ diskOf (now (image .entry)) ⌝ }
     {

@@ -9,7 +9,7 @@ of-requires : tie.Need-of-requires
 of-requires c κs = search needs
 
 audit-on-requires : tie.Need-audit-on-requires
-audit-on-requires c κs = search disk-sized depth 7
+audit-on-requires c κs = search (needs, disk-sized) depth 7
 
 same-length : tie.Need-same-length
 same-length c = search needs

@@ -9,7 +9,7 @@ of-requires : tie.Need-of-requires
 of-requires c κs = search needs
 
 find-on-requires : tie.Need-find-on-requires
-find-on-requires c κs = search disk-sized depth 7
+find-on-requires c κs = search (needs, disk-sized) depth 7
 
 returns : tie.Need-returns
 returns c = search on-disk depth 7

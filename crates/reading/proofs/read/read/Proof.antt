@@ -9,7 +9,7 @@ of-requires : tie.Need-of-requires
 of-requires c κs = search needs
 
 read-on-requires : tie.Need-read-on-requires
-read-on-requires c κs = search disk-sized depth 7
+read-on-requires c κs = search (needs, disk-sized) depth 7
 
 same-length : tie.Need-same-length
 same-length c = search needs
