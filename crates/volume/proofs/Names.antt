@@ -112,6 +112,35 @@ module _ (d : Disk) (b r : ℕ) where
   unfolding foldOf pick
   fold-other k e = e ∙ rw (ne-eqb (d .kind) international k) refl
 
+-- ---- folding changes a byte by 20 hex or not at all
+
+plain-low : (b : ℕ) → foldPlain b % 0x20 ≡ b % 0x20
+plain-low b = low (decLt b 97)
+  where
+    high : 97 ≤ b → Dec (b ≤ 122) → foldPlain b % 0x20 ≡ b % 0x20
+    high g (yes h) = rw (fold-mid b g h) (omega arith)
+    high g (no h) = let l : 122 < b = omega arith in rw (fold-high b l) refl
+
+    low : Dec (b < 97) → foldPlain b % 0x20 ≡ b % 0x20
+    low (yes h) = rw (fold-low b h) refl
+    low (no h) = high (omega arith) (decLe b 122)
+
+fold-rest : (d : Disk) (b : ℕ) → foldOf d b % 0x20 ≡ b % 0x20
+unfolding foldOf foldInternational pick
+fold-rest d b = go (eqb (d .kind) international) (accented b) refl
+  where
+    go : (t a : Bool) → accented b ≡ a → pick t (pick a (b - 0x20) (foldPlain b)) (foldPlain b) % 0x20 ≡ b % 0x20
+    go true true e = let h = accented-is b e .0 in omega (arith, h)
+    go true false e = plain-low b
+    go false a e = plain-low b
+
+pub together : (d : Disk) (x y : ℕ) → x ≡ y → true ≡ eqb (foldOf d x) (foldOf d y)
+together d x y e = sym (eq-eqb _ _ (ap (foldOf d) e))
+
+pub apart : (d : Disk) (x y : ℕ) → (x % 0x20 ≡ y % 0x20 → ⊥) → false ≡ eqb (foldOf d x) (foldOf d y)
+apart d x y n =
+    sym (ne-eqb _ _ (λ e. n (sym (fold-rest d x) ∙ ap (λ (z : ℕ). z % 0x20) e ∙ fold-rest d y)))
+
 -- ---- equal folded names have equal slots: a fact of any folding
 hash-same : (d : Disk) (h : ℕ) (xs ys : List ℕ) → folded d xs ≡ folded d ys → hashFrom d h xs ≡ hashFrom d h ys
 unfolding hashFrom

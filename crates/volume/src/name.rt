@@ -3,6 +3,7 @@ use crate::block::Block;
 use crate::disk::Disk;
 ghost use mathlib.Core.Path.{_≡_};
 ghost use Prim.Native.Nat.{_+_, _*_, _<_, _≤_};
+ghost use lib.Dec.{eqb};
 ghost use lib.ListN.{length};
 ghost use lib.Seq.{slice};
 ghost use Rattle.volume.specs.Blocks.{Holds};
@@ -102,6 +103,20 @@ pub fn is_allowed(bytes: &[u8], at: usize, len: usize) -> bool
     true
 }
 
+// Whether two bytes are equal when folded. Folding changes a byte by 20 hex or not at all, so most are compared without
+// it.
+fn alike(disk: Disk, x: u8, y: u8) -> bool
+    ensures { λ r. ⌜ r ≡ eqb (foldOf disk x) (foldOf disk y) ⌝ }
+{
+    if x == y {
+        return true;
+    }
+    if x % 32 != y % 32 {
+        return false;
+    }
+    fold(disk, x) == fold(disk, y)
+}
+
 // Whether two names of one length are equal when folded.
 pub fn same_bytes(disk: Disk, xs: &[u8], a: usize, ys: &[u8], b: usize, len: usize) -> bool
     requires { ⌜ (a + len ≤ length (now xs)) × (b + len ≤ length (now ys)) ⌝ }
@@ -109,10 +124,11 @@ pub fn same_bytes(disk: Disk, xs: &[u8], a: usize, ys: &[u8], b: usize, len: usi
 {
     let mut i: usize = 0;
     while i < len {
-        if fold(disk, xs[a + i]) != fold(disk, ys[b + i]) {
+        if alike(disk, xs[a + i], ys[b + i]) {
+            i += 1;
+        } else {
             return false;
         }
-        i += 1;
     }
     true
 }

@@ -5,6 +5,7 @@ use mathlib.Core.Path.{_≡_, _∙_, sym}
 use native.Mathlib.Nat.{add-zero}
 use native.Mathlib.Omega.{arith}
 use lib.Seq.{slice}
+use borrow.Author.Tests.{eqb-true, eqb-false}
 use Rattle.volume.specs.Names.{same}
 use Rattle.volume.proofs.Names.{same-step, same-bad, same-done}
 use Rattle.volume.proofs.name.same_bytes.Statement.{statement}
@@ -21,30 +22,20 @@ abbrev μ-loop : tie.MeasureT-loop
 loop-holds : tie.Need-loop-holds Inv-loop μ-loop
 loop-holds c = (omega arith, rw (add-zero, add-zero))
 
-add-fold : tie.Need-add-fold Inv-loop μ-loop
-add-fold c = search needs
+add-alike : tie.Need-add-alike Inv-loop μ-loop
+add-alike c = search needs
 
-shared-slice-read-fold : tie.Need-shared-slice-read-fold Inv-loop μ-loop
-shared-slice-read-fold c = search needs
+shared-slice-read-alike : tie.Need-shared-slice-read-alike Inv-loop μ-loop
+shared-slice-read-alike c = search needs
 
-fold-requires : tie.Need-fold-requires Inv-loop μ-loop
-fold-requires c κs = search needs
+add-alike-2 : tie.Need-add-alike-2 Inv-loop μ-loop
+add-alike-2 c = search needs
 
-add-fold-2 : tie.Need-add-fold-2 Inv-loop μ-loop
-add-fold-2 c = search needs
+shared-slice-read-alike-2 : tie.Need-shared-slice-read-alike-2 Inv-loop μ-loop
+shared-slice-read-alike-2 c = search needs
 
-shared-slice-read-fold-2 : tie.Need-shared-slice-read-fold-2 Inv-loop μ-loop
-shared-slice-read-fold-2 c = search needs
-
-fold-requires-2 : tie.Need-fold-requires-2 Inv-loop μ-loop
-fold-requires-2 c κs = search needs
-
-returns : tie.Need-returns Inv-loop μ-loop
-returns c =
-    let l = c .before .before .before .before .before .before .loop in
-    let a = c .before .before .before .before .before .before .before .before .before .args in
-    same-bad (a .xs .now) (a .a + l .i) (a .a + a .len) (omega arith) (omega arith) (a .disk) (a .ys .now)
-    (a .b + l .i) (a .b + a .len) (omega arith) (omega arith) (λ e. c .if1 .taken (cc)) ∙ l .inv .1
+alike-requires : tie.Need-alike-requires Inv-loop μ-loop
+alike-requires c κs = search needs
 
 add-i : tie.Need-add-i Inv-loop μ-loop
 add-i c = search needs
@@ -54,14 +45,23 @@ loop-less c = search needs
 
 loop-again : tie.Need-loop-again Inv-loop μ-loop
 loop-again c =
-    let l = c .before .before .before .before .before .before .loop in
-    let a = c .before .before .before .before .before .before .before .before .before .args in
+    let l = c .before .before .before .before .before .loop in
+    let a = c .before .before .before .before .before .before .before .before .args in
     let e : a .a + (l .i + 1) ≡ a .a + l .i + 1 = omega arith in
     let g : a .b + (l .i + 1) ≡ a .b + l .i + 1 = omega arith in (
       omega arith,
       rw (e, g) (same-step (a .xs .now) (a .a + l .i) (a .a + a .len) (omega arith) (omega arith)
-          (a .disk) (a .ys .now) (a .b + l .i) (a .b + a .len) (omega arith) (omega arith) (cc) ∙ l .inv .1),
+          (a .disk) (a .ys .now) (a .b + l .i) (a .b + a .len) (omega arith) (omega arith)
+          (eqb-true _ _ (sym (c .before .alike .ensures) ∙ c .if1 .taken)) ∙ l .inv .1),
     )
+
+returns : tie.Need-returns Inv-loop μ-loop
+returns c =
+    let l = c .before .before .before .before .before .loop in
+    let a = c .before .before .before .before .before .before .before .before .args in
+    same-bad (a .xs .now) (a .a + l .i) (a .a + a .len) (omega arith) (omega arith) (a .disk) (a .ys .now)
+    (a .b + l .i) (a .b + a .len) (omega arith) (omega arith)
+    (eqb-false _ _ (sym (c .before .alike .ensures) ∙ c .if1 .left)) ∙ l .inv .1
 
 returns-2 : tie.Need-returns-2 Inv-loop μ-loop
 returns-2 c =
@@ -77,14 +77,13 @@ same-bytes-spec =
     Inv-loop
     μ-loop
     loop-holds
-    add-fold
-    shared-slice-read-fold
-    fold-requires
-    add-fold-2
-    shared-slice-read-fold-2
-    fold-requires-2
-    returns
+    add-alike
+    shared-slice-read-alike
+    add-alike-2
+    shared-slice-read-alike-2
+    alike-requires
     add-i
     loop-less
     loop-again
+    returns
     returns-2)
