@@ -1,6 +1,7 @@
 -- Laws of names: folding, slots, and the loops over a name's bytes. Assumes nothing.
 use Prim.Native.Nat.{ℕ, suc, _+_, _-_, _*_, _%_, _<_, _≤_}
 use mathlib.Core.Path.{_≡_, refl, ap, sym, _∙_}
+use mathlib.Core.Logic.{_⊎_, inl, inr}
 use mathlib.Core.Bool.{Bool, true, false}
 use mathlib.Core.List.{List, [], _∷_, map}
 use native.Mathlib.Omega.{arith}
@@ -18,7 +19,7 @@ use Rattle.volume.specs.Disks.{international}
 use Rattle.volume.specs.Names.{foldPlain, accented, foldInternational, foldOf, folded, hashFrom, slotOf, allowed}
 use Rattle.volume.specs.Names.{same, longest, nameLength, nameFrom, nameOf, nameGood}
 
--- ---- folding twice is folding once
+-- ---- the bytes that each folding moves
 
 module _ (b : ℕ) where
   fold-low : b < 97 → foldPlain b ≡ b
@@ -32,17 +33,6 @@ module _ (b : ℕ) where
   fold-mid : 97 ≤ b → b ≤ 122 → foldPlain b ≡ b - 32
   unfolding foldPlain pick
   fold-mid g h = rw (le-leb 97 b g, le-leb b 122 h)
-
-plain-twice : (b : ℕ) → foldPlain (foldPlain b) ≡ foldPlain b
-plain-twice b = low (decLt b 97)
-  where
-    high : 97 ≤ b → Dec (b ≤ 122) → foldPlain (foldPlain b) ≡ foldPlain b
-    high g (yes h) = let l : b - 32 < 97 = omega arith in rw (fold-mid b g h) (fold-low (b - 32) l)
-    high g (no h) = let l : 122 < b = omega arith in rw (fold-high b l) (fold-high b l)
-
-    low : Dec (b < 97) → foldPlain (foldPlain b) ≡ foldPlain b
-    low (yes h) = rw (fold-low b h) (fold-low b h)
-    low (no h) = high (omega arith) (decLe b 122)
 
 module _ (b : ℕ) where
   accented-not : b < 0xE0 → accented b ≡ false
@@ -59,50 +49,20 @@ module _ (b : ℕ) where
       go true p false q i e = impossible cc
       go false p u q i e = impossible cc
 
--- plain folding makes no letter with an accent
-accented-plain : (b : ℕ) → accented b ≡ false → accented (foldPlain b) ≡ false
-accented-plain b e = low (decLt b 97)
-  where
-    high : 97 ≤ b → Dec (b ≤ 122) → accented (foldPlain b) ≡ false
-    high g (yes h) = let l : b - 32 < 0xE0 = omega arith in rw (fold-mid b g h) (accented-not (b - 32) l)
-    high g (no h) = let l : 122 < b = omega arith in rw (fold-high b l) e
-
-    low : Dec (b < 97) → accented (foldPlain b) ≡ false
-    low (yes h) = rw (fold-low b h) e
-    low (no h) = high (omega arith) (decLe b 122)
-
-international-twice : (b : ℕ) → foldInternational (foldInternational b) ≡ foldInternational b
-unfolding foldInternational pick
-international-twice b = go (accented b) refl
-  where
-    go : (t : Bool) → accented b ≡ t → foldInternational (foldInternational b) ≡ foldInternational b
-    go true e =
-        let h = accented-is b e in
-        let l : b - 0x20 < 0xE0 = omega (arith, h .1) in
-        let g : 122 < b - 0x20 = omega (arith, h .0) in
-        rw (e, accented-not (b - 0x20) l) (fold-high (b - 0x20) g)
-    go false e = rw (e, accented-plain b e) (plain-twice b)
-
-pub fold-twice : (d : Disk) (b : ℕ) → foldOf d (foldOf d b) ≡ foldOf d b
-unfolding foldOf pick
-fold-twice d b = go (eqb (d .kind) international)
-  where
-    go : (t : Bool) → pick t (foldInternational (pick t (foldInternational b) (foldPlain b)))
-        (foldPlain (pick t (foldInternational b) (foldPlain b))) ≡ pick t (foldInternational b) (foldPlain b)
-    go true = international-twice b
-    go false = plain-twice b
-
 -- ---- a byte's folding, from what code knows of the byte and the disk
 
 module _ (d : Disk) (b r : ℕ) where
   -- below the letters with accents the two foldings are one
-  pub fold-below : b < 0x80 → r ≡ foldPlain b → r ≡ foldOf d b
+  fold-below : b < 0xE0 → r ≡ foldPlain b → r ≡ foldOf d b
   unfolding foldOf foldInternational pick
   fold-below h e = e ∙ go (eqb (d .kind) international)
     where
       go : (t : Bool) → foldPlain b ≡ pick t (pick (accented b) (b - 0x20) (foldPlain b)) (foldPlain b)
-      go true = rw (accented-not b (omega arith)) refl
+      go true = rw (accented-not b h) refl
       go false = refl
+
+  pub fold-ascii : b < 0x80 → r ≡ foldPlain b → r ≡ foldOf d b
+  fold-ascii h e = fold-below (omega arith) e
 
   pub fold-accents : d .kind ≡ international → r ≡ foldInternational b → r ≡ foldOf d b
   unfolding foldOf pick
@@ -112,28 +72,66 @@ module _ (d : Disk) (b r : ℕ) where
   unfolding foldOf pick
   fold-other k e = e ∙ rw (ne-eqb (d .kind) international k) refl
 
--- ---- folding changes a byte by 20 hex or not at all
+-- ---- what holds of either folding: a byte folds to itself, or to the byte 20 hex lower, which folds to itself
 
-plain-low : (b : ℕ) → foldPlain b % 0x20 ≡ b % 0x20
-plain-low b = low (decLt b 97)
+record Capital (d : Disk) (b : ℕ) : Type 0 where
+  least : 0x20 ≤ b
+  is : foldOf d b ≡ b - 0x20
+  stays : foldOf d (b - 0x20) ≡ b - 0x20
+
+folds : (d : Disk) (b : ℕ) → (foldOf d b ≡ b) ⊎ Capital d b
+unfolding foldOf foldInternational pick
+folds d b = low (decLt b 97)
   where
-    high : 97 ≤ b → Dec (b ≤ 122) → foldPlain b % 0x20 ≡ b % 0x20
-    high g (yes h) = rw (fold-mid b g h) (omega arith)
-    high g (no h) = let l : 122 < b = omega arith in rw (fold-high b l) refl
+    -- what plain folding makes of a byte below the letters with accents
+    below : (x y : ℕ) → x < 0xE0 → foldPlain x ≡ y → foldOf d x ≡ y
+    below x y h e = sym (fold-below d x y h (sym e))
 
-    low : Dec (b < 97) → foldPlain b % 0x20 ≡ b % 0x20
-    low (yes h) = rw (fold-low b h) refl
+    far : 122 < b → (t : Bool) → eqb (d .kind) international ≡ t → (a : Bool) → accented b ≡ a
+        → (foldOf d b ≡ b) ⊎ Capital d b
+    far h false p a q = inl (rw p (fold-high b h))
+    far h true p false q = inl (rw (p, q) (fold-high b h))
+    far h true p true q =
+        let l = accented-is b q in
+        let x : b - 0x20 < 0xE0 = omega (arith, l .1) in
+        let y : 122 < b - 0x20 = omega (arith, l .0) in
+        inr (record {
+          least = omega arith;
+          is = rw (p, q) refl;
+          stays = below (b - 0x20) (b - 0x20) x (fold-high (b - 0x20) y);
+        })
+
+    high : 97 ≤ b → Dec (b ≤ 122) → (foldOf d b ≡ b) ⊎ Capital d b
+    high g (no h) = far (omega arith) (eqb (d .kind) international) refl (accented b) refl
+    high g (yes h) =
+        let x : b < 0xE0 = omega arith in
+        let y : b - 0x20 < 0xE0 = omega arith in
+        let z : b - 0x20 < 97 = omega arith in
+        inr (record {
+          least = omega arith;
+          is = below b (b - 0x20) x (fold-mid b g h);
+          stays = below (b - 0x20) (b - 0x20) y (fold-low (b - 0x20) z);
+        })
+
+    low : Dec (b < 97) → (foldOf d b ≡ b) ⊎ Capital d b
+    low (yes h) = let x : b < 0xE0 = omega arith in inl (below b b x (fold-low b h))
     low (no h) = high (omega arith) (decLe b 122)
 
-fold-rest : (d : Disk) (b : ℕ) → foldOf d b % 0x20 ≡ b % 0x20
-unfolding foldOf foldInternational pick
-fold-rest d b = go (eqb (d .kind) international) (accented b) refl
+pub fold-twice : (d : Disk) (b : ℕ) → foldOf d (foldOf d b) ≡ foldOf d b
+fold-twice d b = go (folds d b)
   where
-    go : (t a : Bool) → accented b ≡ a → pick t (pick a (b - 0x20) (foldPlain b)) (foldPlain b) % 0x20 ≡ b % 0x20
-    go true true e = let h = accented-is b e .0 in omega (arith, h)
-    go true false e = plain-low b
-    go false a e = plain-low b
+    go : (foldOf d b ≡ b) ⊎ Capital d b → foldOf d (foldOf d b) ≡ foldOf d b
+    go (inl e) = ap (foldOf d) e
+    go (inr c) = rw (c .is) (c .stays)
 
+fold-rest : (d : Disk) (b : ℕ) → foldOf d b % 0x20 ≡ b % 0x20
+fold-rest d b = go (folds d b)
+  where
+    go : (foldOf d b ≡ b) ⊎ Capital d b → foldOf d b % 0x20 ≡ b % 0x20
+    go (inl e) = ap (λ (x : ℕ). x % 0x20) e
+    go (inr c) = let l = c .least in rw (c .is) (omega arith)
+
+-- two bytes, compared without folding
 pub together : (d : Disk) (x y : ℕ) → x ≡ y → true ≡ eqb (foldOf d x) (foldOf d y)
 together d x y e = sym (eq-eqb _ _ (ap (foldOf d) e))
 

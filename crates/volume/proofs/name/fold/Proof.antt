@@ -1,6 +1,6 @@
 -- `volume::name::fold` meets its contract. Assumes nothing.
 use borrow.Author.Needs.{needs}
-use Rattle.volume.proofs.Names.{fold-below, fold-accents, fold-other}
+use Rattle.volume.proofs.Names.{fold-ascii, fold-accents, fold-other}
 use Rattle.volume.proofs.name.fold.Statement.{statement}
 use Rattle.volume.proofs.name.fold.Tie as tie
 
@@ -8,7 +8,7 @@ fold-plain-requires : tie.Need-fold-plain-requires
 fold-plain-requires c κs = search needs
 
 returns : tie.Need-returns
-returns c = search fold-below depth 7
+returns c = search fold-ascii depth 7
 
 fold-international-requires : tie.Need-fold-international-requires
 fold-international-requires c κs = search needs
