@@ -15,8 +15,8 @@
  *   it refused, number says why, place says where, and all else in the struct is 0.
  * - Words of an image, of a program file and of the memory that a program is loaded into have their highest byte
  *   first. Bases, records and answers are numbers of the machine.
- * - Stack, not proved but measured, on both processors (examples/c/stack.c): an audit took up to 0.65 MiB, for the
- *   deepest volume that there can be, so lend it 1 MiB; find and read took less than 32 KiB, the other calls less
+ * - Stack, not proved but measured, on both processors (examples/c/stack.c): an audit took up to 0.70 MiB, for the
+ *   deepest volume that there can be, so lend it 1 MiB; find and read took less than 40 KiB, the other calls less
  *   than 4 KiB. */
 #ifndef JUFFERDEEG_H
 #define JUFFERDEEG_H

@@ -246,7 +246,7 @@ pub fn reason(number: u32) -> String {
     String::from_utf8_lossy(&room[..bytes]).into_owned()
 }
 
-/// Audits an image. Deep directories take stack: up to 0.65 MiB was measured, for the deepest volume that there can
+/// Audits an image. Deep directories take stack: up to 0.70 MiB was measured, for the deepest volume that there can
 /// be, so lend it 1 MiB.
 pub fn audit(image: &[u8], claim: &mut [u8]) -> AuditNumbers {
     unsafe { c::jufferdeeg_audit(image.as_ptr(), image.len(), claim.as_mut_ptr(), claim.len()) }
