@@ -18,8 +18,10 @@ use compare::rng::Rng;
 use compare::sides::{with_seeds, Who};
 use compare::talk;
 use compare::volumes::{
-    alike, any_style, chain, empty, every_byte, files, full, mixed, nested, shuffle, Plan, Volume, TELLING_SIZES,
+    alike, any_style, chain, empty, every_byte, files, full, mixed, nested, shuffle, Kind, Met, Part, Plan,
+    Volume, TELLING_SIZES,
 };
+use compare::words::{put, word, BLOCK_BYTES, BLOCK_WORDS};
 
 const AUDIT: u32 = 3;
 
@@ -370,6 +372,236 @@ fn as_is(talk: &mut Talk, rng: &mut Rng, what: &str, volume: &Volume, scratches:
     }
     talk.about(format!("{what}: patched back"));
     talk.expect(ENOUGH, Ok(volume.report()));
+}
+
+/// The sum of a block's words, worked out apart from the opinions.
+fn total(block: &[u8]) -> u32 {
+    let words = block.chunks(4).map(|four| u32::from_be_bytes(four.try_into().expect("four bytes")));
+    words.fold(0, u32::wrapping_add)
+}
+
+/// Changes of a byte, all of which change it.
+const CHANGES: [fn(u8) -> u8; 3] = [|byte| byte.wrapping_add(1), |byte| byte.wrapping_sub(1), |byte| byte ^ 0x80];
+
+/// Numbers that are added to one word and taken from another, so that carries run through one byte or several.
+const CARRIES: [u32; 6] = [1, 0x100, 0x1_0000, 0x100_0000, 0x8000_0000, 0xFFFF_FFFF];
+
+/// What is added to one word and taken from another, though not the same: one is twice the other, or stands at another
+/// byte, or both words rise.
+const UNEQUAL: [(u32, u32); 7] =
+    [(1, 2), (2, 1), (1, 0x100), (0x100, 1), (1, 0x100_0000), (0x8000_0000, 1), (1, 0xFFFF_FFFF)];
+
+/// A block of a good volume, to be audited with other words in it. If only spare words are changed and the sum is 0,
+/// the volume is as good as before. With any other sum 7 is due, whatever is changed: the key has passed 5 and 6, and
+/// no test of what is in a block comes earlier.
+struct Summed<'a> {
+    talk: &'a mut Talk,
+    volume: &'a Volume,
+    what: String,
+    key: u32,
+    /// The words that no rule tests.
+    spare: Vec<usize>,
+}
+
+impl Summed<'_> {
+    fn expect(&mut self, about: &str, block: &[u8], due: Result<Report, Refusal>) {
+        self.talk.about(format!("{}: {about}", self.what));
+        let patch = (self.key as usize * BLOCK_BYTES, block.to_vec());
+        self.talk.patched(&[patch], |talk| talk.expect(ENOUGH, due));
+    }
+
+    /// A block whose sum is 0, which is accepted.
+    fn right(&mut self, about: &str, block: &[u8]) {
+        assert_eq!(total(block), 0, "{}: {about}", self.what);
+        self.expect(about, block, Ok(self.volume.report()));
+    }
+
+    /// A block with another sum, which is refused.
+    fn wrong(&mut self, about: &str, block: &[u8]) {
+        assert_ne!(total(block), 0, "{}: {about}", self.what);
+        self.expect(about, block, Err(Refusal::at(7, self.key as usize)));
+    }
+
+    /// A block that is wrong as it is, and right again once it is mended, if only spare words were changed.
+    fn changed(&mut self, about: &str, block: &[u8]) {
+        self.wrong(about, block);
+        let own = self.volume.block(self.key);
+        let stays = |index: usize| word(block, index) == word(own, index) || self.spare.contains(&index);
+        if (0..BLOCK_WORDS).all(stays) {
+            self.right(&format!("{about}, and mended"), &self.mended(block));
+        }
+    }
+
+    /// The block with a sum of 0, by the first spare word.
+    fn mended(&self, block: &[u8]) -> Vec<u8> {
+        let mut mended = block.to_vec();
+        put(&mut mended, self.spare[0], word(block, self.spare[0]).wrapping_sub(total(block)));
+        mended
+    }
+
+    /// The block with these values in its spare words, and mended.
+    fn filled(&self, mut value: impl FnMut(usize) -> u32) -> Vec<u8> {
+        let mut block = self.volume.block(self.key).to_vec();
+        self.spare.iter().for_each(|&index| put(&mut block, index, value(index)));
+        self.mended(&block)
+    }
+
+    fn random(&self, rng: &mut Rng) -> Vec<u8> {
+        self.filled(|_| rng.draw() as u32)
+    }
+
+    /// Two spare words that are so far apart, in either order, if there are such.
+    fn apart(&self, rng: &mut Rng, distance: usize) -> Option<[usize; 2]> {
+        let has_other = |index: &usize| self.spare.contains(&(index + distance));
+        let firsts: Vec<usize> = self.spare.iter().copied().filter(has_other).collect();
+        let first = (!firsts.is_empty()).then(|| rng.pick(&firsts))?;
+        Some(rng.pick(&[[first, first + distance], [first + distance, first]]))
+    }
+
+    /// Words of which some bytes are as large as can be, or large, or small, and the others 0; full words up to any
+    /// place, or in every eighth; and anything.
+    fn extremes(&mut self, rng: &mut Rng) {
+        let some = [0xFF, 0x80, 0x7F, 0x01].into_iter().flat_map(|byte| (1..16).map(move |chosen| (byte, chosen)));
+        for (byte, chosen) in some.chain([(0, 0)]) {
+            let bytes = [0, 1, 2, 3].map(|place| if chosen >> place & 1 == 1 { byte } else { 0 });
+            let block = self.filled(|_| u32::from_be_bytes(bytes));
+            self.right(&format!("all words {bytes:02X?}"), &block);
+        }
+        let full = |is_full: bool| if is_full { u32::MAX } else { 0 };
+        for last in self.spare.clone() {
+            let block = self.filled(|index| full(index <= last));
+            self.right(&format!("full words up to w{last}"), &block);
+        }
+        for place in 0..8 {
+            let block = self.filled(|index| full(index % 8 == place));
+            self.right(&format!("every eighth word full, from w{place} on"), &block);
+        }
+        for _ in 0..16 {
+            let block = self.random(rng);
+            self.right("any words", &block);
+        }
+    }
+
+    /// Each byte of a right block changed alone, by these.
+    fn bytes(&mut self, about: &str, block: &[u8], changes: &[fn(u8) -> u8]) {
+        for index in 0..BLOCK_BYTES {
+            for byte in changes.iter().map(|change| change(block[index])) {
+                let mut changed = block.to_vec();
+                changed[index] = byte;
+                self.changed(&format!("{about}, byte {index} made {byte:02X}"), &changed);
+            }
+        }
+    }
+
+    /// Bytes of one word swapped, or turned round, or one of them up and another down.
+    fn within_words(&mut self, rng: &mut Rng) {
+        let block = self.random(rng);
+        let pairs = (0..4).flat_map(|one| (0..4).map(move |other| (one, other)));
+        for index in 0..BLOCK_WORDS {
+            let old: [u8; 4] = word(&block, index).to_be_bytes();
+            let mut new = vec![[3, 2, 1, 0].map(|place| old[place])];
+            for (one, other) in pairs.clone().filter(|(one, other)| one != other) {
+                let [mut swapped, mut moved] = [old; 2];
+                swapped.swap(one, other);
+                moved[one] = old[one].wrapping_add(1);
+                moved[other] = old[other].wrapping_sub(1);
+                new.push(moved);
+                new.extend((one < other).then_some(swapped));
+            }
+            for bytes in new.into_iter().filter(|&bytes| bytes != old) {
+                let mut changed = block.clone();
+                put(&mut changed, index, u32::from_be_bytes(bytes));
+                self.changed(&format!("w{index} from {old:02X?} to {bytes:02X?}"), &changed);
+            }
+        }
+    }
+
+    /// One word up and another down, not by the same; and sums that would be 0 with one word in the place of another.
+    /// The two are neighbours, or 8 words apart, or 64 bytes.
+    fn across_words(&mut self, rng: &mut Rng) {
+        let all = |distance| (0..BLOCK_WORDS - distance).map(move |one| [one, one + distance]);
+        let both_ways = |[one, other]: [usize; 2]| [[one, other], [other, one]];
+        for [one, other] in [1, 8, 16].into_iter().flat_map(all).flat_map(both_ways) {
+            let block = self.random(rng);
+            let (up, down) = rng.pick(&UNEQUAL);
+            let mut changed = block.clone();
+            put(&mut changed, one, word(&block, one).wrapping_add(up));
+            put(&mut changed, other, word(&block, other).wrapping_sub(down));
+            self.changed(&format!("w{one} up by {up:X}, w{other} down by {down:X}"), &changed);
+            let (first, more) = (self.spare[0], word(&block, one).wrapping_sub(word(&block, other)));
+            if more != 0 && ![one, other].contains(&first) {
+                let mut changed = block.clone();
+                put(&mut changed, first, word(&block, first).wrapping_sub(more));
+                self.wrong(&format!("a sum of 0 if w{one} is taken for w{other}"), &changed);
+            }
+        }
+    }
+
+    /// Two words exchanged, or one up and another down by the same; or the spare words in reverse order.
+    fn same_sums(&mut self, rng: &mut Rng) {
+        let any = BLOCK_WORDS as u64 - 1;
+        let distances: Vec<usize> = (1..=16).chain((0..32).map(|_| 1 + rng.below(any) as usize)).collect();
+        for distance in distances {
+            let Some([one, other]) = self.apart(rng, distance) else { continue };
+            let block = self.random(rng);
+            let mut changed = block.clone();
+            put(&mut changed, one, word(&block, other));
+            put(&mut changed, other, word(&block, one));
+            self.right(&format!("w{one} and w{other} exchanged"), &changed);
+            for (block, by) in [self.filled(|_| 0), block].iter().flat_map(|b| CARRIES.map(|by| (b, by))) {
+                let mut changed = block.clone();
+                put(&mut changed, one, word(block, one).wrapping_add(by));
+                put(&mut changed, other, word(block, other).wrapping_sub(by));
+                self.right(&format!("w{one} up and w{other} down by {by:X}"), &changed);
+            }
+        }
+        let block = self.random(rng);
+        let mut changed = block.clone();
+        for (&index, &other) in self.spare.iter().zip(self.spare.iter().rev()) {
+            put(&mut changed, index, word(&block, other));
+        }
+        self.right("spare words in reverse order", &changed);
+    }
+}
+
+/// Sums of blocks of every kind, and most of all of a full data block, of which all words but five are spare. However
+/// the words are added up, several at once or in parts, a slip that loses a word, a byte or a carry is to show.
+#[test]
+fn block_sums() {
+    let mut rng = Rng::new(94);
+    for disk in &Disk::FLOPPIES {
+        let mut talk = Talk::new(Who::Both);
+        // one of each kind, and 73 data blocks
+        let mut plan = files(&mut rng, disk, &[35_137]);
+        plan.add(&mut rng, None, None, Kind::Directory);
+        let volume = laid_out(&mut rng, &plan);
+        let tried = rng.below(72) as usize;
+        let is_tried = |part| !matches!(part, Part::Data(_, index) if index != tried);
+        for &Met { key, part } in volume.order.iter().filter(|met| is_tried(met.part)) {
+            // the exported functions get it at another address
+            talk.image(&volume.image);
+            let what = format!("kind {}, {part:?}", disk.kind);
+            let mut summed = Summed { talk: &mut talk, volume: &volume, what, key, spare: volume.spare(part) };
+            summed.extremes(&mut rng);
+            summed.same_sums(&mut rng);
+            let any = summed.random(&mut rng);
+            summed.bytes("any words", &any, &CHANGES[..1]);
+            // once is enough: the kind of a disk has no part in sums
+            if matches!(part, Part::Data(..)) && !disk.is_international() {
+                let [zeros, full] = [0, u32::MAX].map(|value| summed.filled(|_| value));
+                summed.bytes("any words", &any, &CHANGES[1..]);
+                summed.bytes("zeros", &zeros, &CHANGES);
+                summed.bytes("full words", &full, &CHANGES);
+                summed.within_words(&mut rng);
+                summed.across_words(&mut rng);
+            }
+        }
+        let audits = &talk.tally.audits;
+        println!("kind {}, sums: audits by number: {audits:?}", disk.kind);
+        let least = if disk.is_international() { 3_000 } else { 10_000 };
+        assert!([0, 7].iter().all(|&number| audits[&(disk.kind, number)] >= least), "{audits:?}");
+        talk.run();
+    }
 }
 
 /// All requests of the great comparison, as the seed draws them.
