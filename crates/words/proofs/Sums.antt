@@ -1,44 +1,14 @@
--- Laws of a block's sum: word by word, parts, what it depends on, and what a store does to it. Assumes nothing.
+-- Laws of a block's sum: what it depends on, and what a store does to it. Assumes nothing.
 use Prim.Native.Nat.{_^_, ℕ, zero, suc, _+_, _*_, _%_, _<_, _≤_}
 use mathlib.Core.Path.{_≡_, refl, ap, ap₂}
 use mathlib.Core.List.{List}
-use native.Mathlib.Nat.{add-zero}
-use native.Mathlib.Numerals.{add-one}
 use native.Mathlib.Omega.{arith}
 use native.Mathlib.Decide.{decLt}
 use mathlib.Core.Logic.{_⊎_, inl, inr, ⊎-elim}
 use lib.ListN.{getD, length}
-use Rattle.words.specs.Word.{Bytes, wordAt, setWord}
+use Rattle.words.specs.Word.{wordAt, setWord}
 use Rattle.words.specs.Sum.{blockWords, total, sumAt}
-use Rattle.words.proofs.Words.{wordAt-lt, wordAt-same, wordAt-apart, wordAt-same-bytes, setWord-above}
-use Rattle.words.proofs.Words.{setWord-below}
-
-module _ (s : List ℕ) (at : ℕ) where
-  pub total-none : total s at 0 ≡ 0
-  unfolding total
-  total-none = refl
-
-  pub total-more : (n : ℕ) → total s at (n + 1) ≡ total s at n + wordAt s (at + 4 * n)
-  unfolding total
-  total-more n = rw add-one
-
-  pub total-split : (m n : ℕ) → total s at (m + n) ≡ total s at m + total s (at + 4 * m) n
-  unfolding total
-  total-split m zero = rw (add-zero, add-zero)
-  total-split m (suc n) =
-      let e : m + suc n ≡ suc (m + n) = omega arith in
-      let a : at + 4 * (m + n) ≡ at + 4 * m + 4 * n = omega arith in
-      rw (e, total-split m n, a) (omega arith)
-
-  pub total-below : Bytes s → (n : ℕ) → total s at n ≤ n * 4294967295
-  unfolding total
-  total-below h zero = omega arith
-  total-below h (suc n) = omega (arith, total-below h n, wordAt-lt s (at + 4 * n) h)
-
-  -- one word more, in a sum that wraps
-  pub total-wraps : (n : ℕ) {sum r x : ℕ} → sum ≡ total s at n % 2 ^ 32 → r ≡ wordAt s (at + 4 * n)
-      → x ≡ (sum + r) % 2 ^ 32 → x ≡ total s at (n + 1) % 2 ^ 32
-  total-wraps n p q r = rw (total-more n) (omega arith)
+use Rattle.words.proofs.Words.{wordAt-same, wordAt-apart, wordAt-same-bytes, setWord-above, setWord-below}
 
 -- the sum depends on its own bytes alone
 pub total-same : (s t : List ℕ) (at n : ℕ) → ((k : ℕ) → at ≤ k → k < at + 4 * n → getD s k 0 ≡ getD t k 0)

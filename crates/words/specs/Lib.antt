@@ -3,5 +3,7 @@
 pub mod Word
 -- the sum of a block's words
 pub mod Sum
+-- what `block_sum` adds up in place of words
+pub mod Lanes
 -- amounts added to many words
 pub mod Shift
