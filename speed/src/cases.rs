@@ -12,6 +12,8 @@ use compare::words::{sum, BLOCK_BYTES};
 use compare::{audit, loader, reading};
 use jufferdeeg as rattle;
 
+use crate::older::Older;
+
 const DISK: Disk = Disk::PLAIN;
 
 /// One of several ways to do the same.
@@ -24,7 +26,7 @@ fn side(name: &'static str, run: impl FnMut() + 'static) -> Side {
     Side { name, run: Box::new(run) }
 }
 
-/// Something to measure: Rattle first, Rust second.
+/// Something to measure: Rattle first, and second Rust or an older archive.
 pub struct Case {
     pub name: String,
     pub sides: Vec<Side>,
@@ -247,6 +249,58 @@ pub fn case_named(name: &str) -> Option<Case> {
         "read" => reads(name, big_file(Order::Shuffled)),
         "load" => loads(name, file, old),
         "move" => moves(name, file, old, new),
+        _ => return None,
+    })
+}
+
+/// Audits all images with the present archive and with an older one.
+fn audits_since(name: &str, older: Older, images: Vec<Vec<u8>>) -> Case {
+    let images = Rc::new(images);
+    let (mut before, mut now) = (vec![0xAA; 1_760], vec![0x55; 1_760]);
+    for image in images.iter() {
+        assert_eq!(older.audit(image, &mut before), rattle::audit(image, &mut now));
+        assert_eq!(before, now);
+    }
+    let same = images.clone();
+    let sides = vec![
+        side("now", move || images.iter().for_each(|i| assert_eq!(rattle::audit(i, &mut now).number, 0))),
+        side("before", move || same.iter().for_each(|i| assert_eq!(older.audit(i, &mut before).number, 0))),
+    ];
+    Case { name: name.to_string(), sides }
+}
+
+/// Reads `big` whole with the present archive and with an older one.
+fn reads_since(name: &str, older: Older, (image, size): (Vec<u8>, usize)) -> Case {
+    let image = Rc::new(image);
+    let (mut before, mut now) = (vec![0; size], vec![0; size]);
+    assert_eq!(older.read(&image, b"big", 0, &mut before), rattle::read(&image, b"big", 0, &mut now));
+    assert_eq!(before, now);
+    let same = image.clone();
+    let sides = vec![
+        side("now", move || assert_eq!(rattle::read(&image, b"big", 0, &mut now).count, size)),
+        side("before", move || assert_eq!(older.read(&same, b"big", 0, &mut before).count, size)),
+    ];
+    Case { name: name.to_string(), sides }
+}
+
+/// The cases that hold the present archive to an older one.
+pub fn cases_since(older: Older) -> Vec<Case> {
+    vec![
+        audits_since("audit of a hundred full images", older, full_images(&DISK, 100)),
+        audits_since("audit of one full image", older, full_images(&DISK, 1)),
+        audits_since("audit of one full image, international", older, full_images(&Disk::INTERNATIONAL, 1)),
+        audits_since("audit of one chain of 1,756 entries", older, vec![chain_image(1_756)]),
+        reads_since("read of a file of 844,728 bytes, blocks in any order", older, big_file(Order::Shuffled)),
+        reads_since("read of a file of 844,728 bytes, blocks in order", older, big_file(Order::Rising)),
+    ]
+}
+
+/// One of them for counting instructions, by a short name.
+pub fn case_since(name: &str, older: Older) -> Option<Case> {
+    Some(match name {
+        "audit" => audits_since(name, older, full_images(&DISK, 1)),
+        "chain" => audits_since(name, older, vec![chain_image(1_756)]),
+        "read" => reads_since(name, older, big_file(Order::Shuffled)),
         _ => return None,
     })
 }

@@ -1,11 +1,13 @@
-//! Measures the Rattle library against the Rust of compare/. See the README here.
+//! Measures the Rattle library against the Rust of compare/, or against an older archive of it. See the README here.
 
 mod cases;
+mod older;
 mod plot;
 
 use std::time::Duration;
 
 use cases::Case;
+use older::Older;
 
 /// How long a measured stretch should take at least, in which a short call is made many times.
 const STRETCH: Duration = Duration::from_millis(5);
@@ -50,11 +52,14 @@ fn least(case: &mut Case, rounds: u32) -> Vec<f64> {
     least
 }
 
-fn main_table() {
-    println!("| call | Rattle | Rust | Rattle / Rust |");
+/// A table of the cases: the first two sides, and their ratio.
+fn table(cases: Vec<Case>) {
+    let names = |case: &Case| (case.sides[0].name, case.sides[1].name);
+    let (first, second) = cases.first().map_or(("", ""), names);
+    println!("| call | {first} | {second} | {first} / {second} |");
     println!("|---|---|---|---|");
     let micro = |time: f64| format!("{:.0} µs", time / 1e3);
-    for mut case in cases::main_cases() {
+    for mut case in cases {
         let least = least(&mut case, 25);
         println!("| {} | {} | {} | {:.2} |", case.name, micro(least[0]), micro(least[1]), least[0] / least[1]);
         for (side, time) in case.sides.iter().zip(&least).skip(2) {
@@ -72,8 +77,8 @@ fn growth() {
 }
 
 /// Makes one call so many times, for a counter of instructions: two runs differ by what the further calls take.
-fn repeat(name: &str, side: &str, times: &str) -> Option<()> {
-    let mut case = cases::case_named(name)?;
+fn repeat(case: Option<Case>, side: &str, times: &str) -> Option<()> {
+    let mut case = case?;
     let side = case.sides.iter_mut().find(|one| one.name.eq_ignore_ascii_case(side))?;
     (0..times.parse().ok()?).for_each(|_| (side.run)());
     Some(())
@@ -82,12 +87,16 @@ fn repeat(name: &str, side: &str, times: &str) -> Option<()> {
 fn main() {
     let words: Vec<String> = std::env::args().skip(1).collect();
     match &words.iter().map(String::as_str).collect::<Vec<&str>>()[..] {
-        ["time"] => main_table(),
+        ["time"] => table(cases::main_cases()),
+        ["since", library, "time"] => table(cases::cases_since(Older::load(library))),
         ["growth"] => growth(),
         ["plot", file] => print!("{}", plot::plot(&std::fs::read_to_string(file).expect("a file of numbers"))),
-        ["repeat", name, side, times] if repeat(name, side, times).is_some() => {}
+        ["repeat", name, side, times] if repeat(cases::case_named(name), side, times).is_some() => {}
+        ["since", library, "repeat", name, side, times]
+            if repeat(cases::case_since(name, Older::load(library)), side, times).is_some() => {}
         _ => {
-            eprintln!("speed time | growth | plot FILE | repeat audit|chain|read|load|move Rattle|Rust TIMES")
+            eprintln!("speed time | growth | plot FILE | repeat audit|chain|read|load|move Rattle|Rust TIMES");
+            eprintln!("speed since LIBRARY time | since LIBRARY repeat audit|chain|read now|before TIMES")
         }
     }
 }
