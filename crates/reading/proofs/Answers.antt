@@ -24,7 +24,7 @@ use Rattle.reading.specs.Reads.{tested, reads, readOf, Reads}
 use Rattle.reading.specs.Outcomes.{Gives, Filled}
 use Rattle.reading.proofs.Contents.{file-long, part-long}
 use Rattle.reading.proofs.Passing.{tested-exactly}
-use Rattle.reading.proofs.Readings.{followed, image-long, file-size}
+use Rattle.reading.proofs.Readings.{blocks-inside, image-long, file-size}
 
 -- ---- a copy, byte by byte
 
@@ -69,11 +69,11 @@ module _ (bytes : List ℕ) (o : ℕ) (before : List ℕ) (m : ℕ) (after : Lis
 module _ (d : Disk) (s : List ℕ) (h : ℕ) (long : length s ≡ imageBytes d) (p : blocksFault d s h ≡ Passed) where
   -- A file whose blocks pass has as many bytes as its size says.
   pub bytes-long : length (fileBytes d s h) ≡ sizeOf s h
-  bytes-long = file-long d s h long (followed d s h Passed (sym p) refl)
+  bytes-long = file-long d s h long (blocks-inside d s h Passed (sym p) refl)
 
   -- and a read copies as many as there are after the offset, and there is room for
   pub count-is : (o n : ℕ) → length (part (fileBytes d s h) o n) ≡ min n (sizeOf s h - o)
-  count-is o n = part-long d s h long (followed d s h Passed (sym p) refl) o n
+  count-is o n = part-long d s h long (blocks-inside d s h Passed (sym p) refl) o n
 
 module _ (d : Disk) (s path : List ℕ) where
   -- ---- the file that a path leads to

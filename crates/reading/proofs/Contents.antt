@@ -5,18 +5,18 @@ use mathlib.Core.Logic.{inl, inr}
 use mathlib.Core.List.{List, [], _∷_, _++_}
 use native.Mathlib.Nat.{zero-mul, suc-mul, add-comm, div-add-mod', div-lt-iff-lt-mul}
 use native.Mathlib.Omega.{arith}
-use lib.ListN.{length, getD, take, drop, length-take, length-drop, length-append}
+use lib.ListN.{length, take, drop, length-take, length-drop, length-append}
 use lib.Seq.{drop-drop, drop-nil, drop-append-add}
 use Rattle.reach.specs.References.{_∈_}
 use Rattle.volume.specs.declared.disk.Disk.{Disk}
-use Rattle.volume.specs.Blocks.{blockBytes, wordOf}
+use Rattle.volume.specs.Blocks.{blockBytes}
 use Rattle.volume.specs.Disks.{dataBytes, imageBytes, dataStart}
-use Rattle.volume.specs.Files.{sizeOf, keysOf}
+use Rattle.volume.specs.Files.{dataBlocks, sizeOf, keysOf}
 use Rattle.volume.proofs.Sizes.{data-is, blocks-hold}
 use Rattle.volume.proofs.Keys.{keys-long}
 use Rattle.reading.specs.Bytes.{dataOf, dataIn, fileBytes, part}
-use Rattle.reading.specs.Parts.{Followed}
-use Rattle.reading.proofs.Parts.{drop-take, take-least, getD-in, leads-first, leads-next}
+use Rattle.reading.specs.Parts.{BlocksInside}
+use Rattle.reading.proofs.Parts.{drop-take, take-least}
 
 -- ---- the numbers of a data block
 
@@ -28,6 +28,10 @@ module _ (d : Disk) where
 
   pub data-some : 0 < dataBytes d
   data-some = rw (data-is d) (omega arith)
+
+  -- one of a file of z bytes holds byte o
+  pub block-there : (z o : ℕ) → o < z → o / dataBytes d < dataBlocks d z
+  block-there z o l = div-lt-iff-lt-mul data-some .1 (omega (arith, blocks-hold d z))
 
 -- ---- the data of no blocks, and of some
 
@@ -69,7 +73,7 @@ module _ (d : Disk) (s : List ℕ) (long : length s ≡ imageBytes d) where
 
 -- ---- the bytes of a file that was tested
 
-module _ (d : Disk) (s : List ℕ) (h : ℕ) (long : length s ≡ imageBytes d) (t : Followed d s h) where
+module _ (d : Disk) (s : List ℕ) (h : ℕ) (long : length s ≡ imageBytes d) (t : BlocksInside d s h) where
   pub file-long : length (fileBytes d s h) ≡ sizeOf s h
   unfolding fileBytes
   file-long =
@@ -101,19 +105,3 @@ module _ (d : Disk) (s : List ℕ) (h : ℕ) (long : length s ≡ imageBytes d) 
         take-least n (sizeOf s h - o) (drop o (dataIn d s (keysOf d s h))),
         e,
       ) refl
-
-  -- ---- w4 leads through its keys
-
-  pub key-inside : (i : ℕ) → i < length (keysOf d s h) → getD (keysOf d s h) i 0 < d .blocks
-  key-inside i l = t .keys (getD (keysOf d s h) i 0) (getD-in (keysOf d s h) i 0 l)
-
-  pub key-first : wordOf s h 4 ≡ getD (keysOf d s h) 0 0
-  key-first = leads-first (λ k. wordOf s k 4) (wordOf s h 4) (keysOf d s h) (t .following)
-
-  pub key-next : (i : ℕ) → i < length (keysOf d s h)
-      → wordOf s (getD (keysOf d s h) i 0) 4 ≡ getD (keysOf d s h) (suc i) 0
-  key-next i l = leads-next (λ k. wordOf s k 4) (wordOf s h 4) (keysOf d s h) i (t .following) l
-
-  pub block-there : (o : ℕ) → o < sizeOf s h → o / dataBytes d < length (keysOf d s h)
-  block-there o l =
-      rw (keys-long d s h) (div-lt-iff-lt-mul (data-some d) .1 (omega (arith, blocks-hold d (sizeOf s h))))

@@ -5,7 +5,9 @@ pub mod Testing
 pub mod Tested
 -- parts of lists
 pub mod Parts
--- a file's keys and its bytes
+-- where a file's keys are listed
+pub mod Listing
+-- a file's bytes
 pub mod Contents
 -- the turns of copying
 pub mod Turns

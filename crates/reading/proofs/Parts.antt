@@ -1,8 +1,7 @@
 -- Facts on parts of lists. Assumes nothing.
 use Prim.Native.Nat.{ℕ, zero, suc, _+_, _-_, _≤_, _<_, min}
 use mathlib.Core.Path.{_≡_, refl, sym, ap, _∙_}
-use mathlib.Core.Logic.{inl, inr}
-use mathlib.Core.List.{List, [], _∷_, _++_, map}
+use mathlib.Core.List.{List, [], _∷_, _++_}
 use native.Mathlib.Nat.{sub-zero}
 use native.Mathlib.Omega.{arith}
 use native.Mathlib.Numerals.{add-one}
@@ -10,7 +9,7 @@ use native.Mathlib.Decide.{decLe}
 use lib.ListN.{length, getD, take, drop, set, length-take, length-drop}
 use lib.Seq.{paste, paste-suc, take-nil, take-all, take-take, take-add, take-at, drop-at, drop-drop, length-take-le}
 use lib.Seq.{getD-drop, drop-append-le, take-append-le}
-use Rattle.reach.specs.References.{_∈_}
+use Rattle.reach.specs.References.{At}
 
 module _ {A : Type 0} where
   pub drop-take : (o n : ℕ) (l : List A) → drop o (take n l) ≡ take (n - o) (drop o l)
@@ -26,10 +25,10 @@ module _ {A : Type 0} where
       go (yes h) = let e : min m n ≡ m = omega arith in rw e (take-take m n l h)
       go (no h) = let e : min m n ≡ n = omega arith in rw e (take-all m (take n l) (omega (arith, length-take n l)))
 
-  pub getD-in : (l : List A) (i : ℕ) (z : A) → i < length l → getD l i z ∈ l
-  getD-in [] i z h = absurd (omega arith)
-  getD-in (x ∷ l) zero z h = inl refl
-  getD-in (x ∷ l) (suc i) z h = inr (getD-in l i z (omega arith))
+  pub drop-from : (l : List A) (i : ℕ) (a : A) → At i a l → drop i l ≡ a ∷ drop (suc i) l
+  drop-from [] i a h = absurd h
+  drop-from (x ∷ l) zero a h = ap (λ y. y ∷ l) (sym h)
+  drop-from (x ∷ l) (suc i) a h = drop-from l i a h
 
 -- ---- a list filled from its front on
 
@@ -70,16 +69,3 @@ copied-one d s r at from n i e p l g =
     let h : at + i < length d = omega arith in
     let j : i < length (drop from s) = rw (length-drop from s) (omega arith) in
     rw (e, ← getD-drop from s i 0, paste-suc d at (drop from s) i 0 h j, ← add-one i) refl
-
--- ---- a list whose every element leads to the next, and its last to 0
-
-module _ (f : ℕ → ℕ) where
-  pub leads-first : (a : ℕ) (l : List ℕ) → (a ∷ map f l) ≡ l ++ (0 ∷ []) → a ≡ getD l 0 0
-  leads-first a [] e = cc
-  leads-first a (x ∷ l) e = cc
-
-  pub leads-next : (a : ℕ) (l : List ℕ) (i : ℕ) → (a ∷ map f l) ≡ l ++ (0 ∷ []) → i < length l
-      → f (getD l i 0) ≡ getD l (suc i) 0
-  leads-next a [] i e h = absurd (omega arith)
-  leads-next a (x ∷ l) zero e h = leads-first (f x) l (cc)
-  leads-next a (x ∷ l) (suc i) e h = leads-next (f x) l i (cc) (omega arith)

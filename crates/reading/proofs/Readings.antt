@@ -29,7 +29,7 @@ use Rattle.reading.specs.declared.read.Reading.{Reading}
 use Rattle.reading.specs.declared.read.Reading.the-variants.{Bytes, Refused}
 use Rattle.reading.specs.FileTests.{blocksFault}
 use Rattle.reading.specs.Bytes.{fileBytes}
-use Rattle.reading.specs.Parts.{Followed, Copied, handed}
+use Rattle.reading.specs.Parts.{BlocksInside, Copied, handed}
 use Rattle.lookup.proofs.find.Found.{the-type}
 use Rattle.reading.specs.Reads.{numbersOf, refuse, lastComponent, readOf, outputAfter, Reads}
 use Rattle.reading.proofs.Tested.{tested-whole}
@@ -106,12 +106,17 @@ module _ (n b : ℕ) where
 
 -- ---- a read
 
--- a file that passes its tests can be copied by following w4
-pub followed : (d : Disk) (s : List ℕ) (k : ℕ) (t : Tested) → t ≡ blocksFault d s k → t ≡ Passed → Followed d s k
-followed d s k t e q =
+-- the blocks of a file that passes its tests lie in the volume
+pub blocks-inside : (d : Disk) (s : List ℕ) (k : ℕ) (t : Tested) → t ≡ blocksFault d s k → t ≡ Passed
+    → BlocksInside d s k
+blocks-inside d s k t e q =
     let p : blocksFault d s k ≡ Passed = sym e ∙ q in
     let w = tested-whole d s k p in
-    record { size = w .file .size; keys = λ b a. w .keys b a .inside .high; following = w .file .following }
+    record {
+      size = w .file .size;
+      lists = λ b a. w .lists b a .inside .high;
+      keys = λ b a. w .keys b a .inside .high;
+    }
 
 -- what is found is a file with a key in the volume
 module _ (d : Disk) (s path : List ℕ) (f : Found) (e : f ≡ findOf d s path) (k z c : ℕ) (g : f ≡ found.File k z c) where

@@ -1,17 +1,17 @@
 -- `reading::copy::copy_file` meets its contract: the first `done` bytes are copied. Assumes nothing.
 use Prim.Native.Nat.{_-_}
 use borrow.Author.Needs.{needs}
-use Rattle.reading.proofs.Turns.{Going, none, some, starts, ends, held, falls, byte-fits, done-fits}
-use Rattle.reading.proofs.Turns.{from-inside, to-inside, goes}
+use Rattle.reading.proofs.Turns.{Going, none, way, starts, ends, listed-few, listed-held, falls, byte-fits}
+use Rattle.reading.proofs.Turns.{done-fits, from-inside, to-inside, goes}
 use Rattle.reading.proofs.copy.copy_file.Statement.{statement}
 use Rattle.reading.proofs.copy.copy_file.Tie as tie
 
 abbrev Inv-loop : tie.InvT-loop
-Inv-loop disk image header size offset output₀ left count bytes key₀ within₀ done₀ output key within done =
-    Going disk image header offset output₀ count bytes output key within done
+Inv-loop disk image header size offset output₀ left count bytes at₀ within₀ done₀ output at within done =
+    Going disk image header offset output₀ count bytes output at within done
 
 abbrev μ-loop : tie.MeasureT-loop
-μ-loop disk image header size offset output₀ left count bytes key₀ within₀ done₀ output key within done = count - done
+μ-loop disk image header size offset output₀ left count bytes at₀ within₀ done₀ output at within done = count - done
 
 left-of-requires : tie.Need-left-of-requires Inv-loop μ-loop
 left-of-requires c κs = search needs
@@ -28,14 +28,20 @@ data-bytes-requires c κs = search needs
 cast-bytes : tie.Need-cast-bytes Inv-loop μ-loop
 cast-bytes c = search needs
 
+div-seek : tie.Need-div-seek Inv-loop μ-loop
+div-seek c = search needs
+
 seek-requires : tie.Need-seek-requires Inv-loop μ-loop
-seek-requires c κs = (search needs, search needs, search needs, search some depth 7)
+seek-requires c κs = search way depth 7
 
 rem-within : tie.Need-rem-within Inv-loop μ-loop
 rem-within c = search needs
 
 loop-holds : tie.Need-loop-holds Inv-loop μ-loop
 loop-holds c = search starts depth 7
+
+key-of-requires : tie.Need-key-of-requires Inv-loop μ-loop
+key-of-requires c κs = (search listed-few depth 7, search listed-held depth 7)
 
 sub-least : tie.Need-sub-least Inv-loop μ-loop
 sub-least c = search needs
@@ -55,8 +61,8 @@ add-copy-bytes c = search (needs, byte-fits) depth 7
 copy-bytes-requires : tie.Need-copy-bytes-requires Inv-loop μ-loop
 copy-bytes-requires c κs = (search from-inside depth 7, search to-inside depth 7)
 
-word-of-requires : tie.Need-word-of-requires Inv-loop μ-loop
-word-of-requires c κs = (search needs, search held depth 7)
+next-key-requires : tie.Need-next-key-requires Inv-loop μ-loop
+next-key-requires c κs = (search listed-few depth 7, search listed-held depth 7)
 
 add-done : tie.Need-add-done Inv-loop μ-loop
 add-done c = search (needs, done-fits) depth 7
@@ -84,16 +90,18 @@ copy-file-spec =
     returns
     data-bytes-requires
     cast-bytes
+    div-seek
     seek-requires
     rem-within
     loop-holds
+    key-of-requires
     sub-least
     sub-least-2
     least-requires-2
     data-byte-requires
     add-copy-bytes
     copy-bytes-requires
-    word-of-requires
+    next-key-requires
     add-done
     loop-less
     loop-again

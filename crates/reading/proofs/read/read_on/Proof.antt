@@ -1,5 +1,5 @@
 -- `reading::read::read_on` meets its contract. Assumes nothing.
-use Rattle.reading.proofs.Readings.{read-handed, image-long, file-inside, file-size, followed, read-failed}
+use Rattle.reading.proofs.Readings.{read-handed, image-long, file-inside, file-size, blocks-inside, read-failed}
 use Rattle.reading.proofs.Readings.{read-copied}
 use borrow.Author.Needs.{needs}
 use Rattle.reading.proofs.read.read_on.Statement.{statement}
@@ -27,7 +27,7 @@ enum-told : tie.Need-enum-told
 enum-told c = search needs
 
 copy-file-requires : tie.Need-copy-file-requires
-copy-file-requires c κs = search (needs, image-long, file-inside, file-size, followed) depth 9
+copy-file-requires c κs = search (needs, image-long, file-inside, file-size, blocks-inside) depth 9
 
 returns-2 : tie.Need-returns-2
 returns-2 c = search read-failed depth 9
