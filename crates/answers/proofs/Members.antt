@@ -6,6 +6,7 @@ use mathlib.Core.Logic.{inl, inr}
 use mathlib.Core.Bool.{Bool, true, false, not, _&&_, _||_}
 use mathlib.Core.List.{List, [], _∷_}
 use lib.Dec.{T, T-not, eqb, eqb-refl, eqb→eq}
+use borrow.Author.Tests.{eq-eqb, ne-eqb}
 use Rattle.answers.specs.Members.{_∈_, has}
 
 -- whether each of ms is
@@ -33,6 +34,18 @@ pub found : (ns : List ℕ) (v : ℕ) → v ∈ ns → T (has ns v)
 found [] v h = h
 found (x ∷ ns) v (inl e) = or-left (eqb v x) (has ns v) (rw e (eqb-refl x))
 found (x ∷ ns) v (inr h) = or-right (eqb v x) (has ns v) (found ns v h)
+
+-- whether a number is one of two, as code tests it
+module _ (a b v : ℕ) where
+  pub first-of-two : v ≡ a → true ≡ has (a ∷ b ∷ []) v
+  first-of-two e = rw (eq-eqb v a e) refl
+
+  pub second-of-two : (v ≡ a → ⊥) → eqb v b ≡ has (a ∷ b ∷ []) v
+  second-of-two n = rw (ne-eqb v a n) (go (eqb v b))
+    where
+      go : (t : Bool) → t ≡ (t || false)
+      go true = refl
+      go false = refl
 
 -- a number of a list is none that the list has not
 pub unlisted : {X : Type 0} (ns : List ℕ) (v w : ℕ) → T (not (has ns w)) → v ∈ ns → v ≡ w → X

@@ -184,6 +184,14 @@ module _ (t : Bool) (x y v : ℕ) where
   unfolding pick
   pick-false q e = rw q e
 
+-- by a flag that the code computed
+module _ (r t : Bool) (x y v : ℕ) (h : r ≡ t) where
+  pub pick-yes : r ≡ true → x ≡ v → pick t x y ≡ v
+  pick-yes q e = pick-true t x y v (sym h ∙ q) e
+
+  pub pick-no : r ≡ false → y ≡ v → pick t x y ≡ v
+  pick-no q e = pick-false t x y v (sym h ∙ q) e
+
 pub ruleset faults = (
   tt,
   go,
@@ -210,6 +218,8 @@ pub ruleset faults = (
   pick-above,
   pick-true,
   pick-false,
+  pick-yes,
+  pick-no,
 )
 
 -- ---- a choice between values, as code makes it: by its parameters, or by values that it computed
