@@ -5,11 +5,11 @@ ghost use lib.ListN.{length};
 ghost use Rattle.answers.specs.Lines.{BeginsLine, EndsLine, copied, PutsLine};
 
 // Line n, from line 0 on, is the sentence of number n. An empty line is for a number that no refusal has.
-pub const SENTENCES: [u8; 1424] = *b"\
+pub const SENTENCES: [u8; 1422] = *b"\
 \n\
 the image is not 901120 bytes long\n\
 the claim area is too short\n\
-the image does not begin with the boot tag DOS 0 or DOS 2\n\
+the image does not begin with a boot tag DOS 0 to DOS 3\n\
 a fixed word of the root block is wrong\n\
 a key is not in 2 to 1759\n\
 a block is claimed twice, or a chain is too long\n\

@@ -1,4 +1,4 @@
--- What an accepted audit says: `accepted-exactly`, and `accepted-volume` of either kind; `accepted-claims`,
+-- What an accepted audit says: `accepted-exactly`, and `accepted-volume` of every kind; `accepted-claims`,
 -- `accepted-report`; and `audit-determined`. Assumes nothing.
 use Prim.Native.Nat.{ℕ, zero, suc, _+_, _-_, _≤_, _<_}
 use mathlib.Core.Path.{_≡_, refl, sym, ap, _∙_, subst}

@@ -23,7 +23,7 @@ pub walk-number : (d : Disk) (s : List ℕ) (v k : ℕ) → Cause d s v k → v 
 walk-number d s v k (number-4 a b e) = rw e (listed walkRefusals fault.rootWords tt)
 walk-number d s v k (number-5 a b c e) = rw e (listed walkRefusals fault.badKey tt)
 walk-number d s v k (number-6 a e) = rw e (listed walkRefusals fault.claimedTwice tt)
-walk-number d s v k (number-7 a b c e) = rw e (listed walkRefusals fault.blockSum tt)
+walk-number d s v k (number-7 a b o c e) = rw e (listed walkRefusals fault.blockSum tt)
 walk-number d s v k (number-8 a b c e) = rw e (listed walkRefusals fault.blockType tt)
 walk-number d s v k (number-9 a b e) = rw e (listed walkRefusals fault.link tt)
 walk-number d s v k (number-10 t i a b c e) = rw e (listed walkRefusals fault.wrongTies tt)
@@ -33,7 +33,7 @@ walk-number d s v k (number-12 t i a b e) = rw e (listed walkRefusals fault.wron
 walk-number d s v k (number-13 t i l a b c g f e) = rw e (listed walkRefusals fault.doubleName tt)
 walk-number d s v k (number-14 a b e) = rw e (listed walkRefusals fault.fileLayout tt)
 walk-number d s v k (number-14-list h i a b c e) = rw e (listed walkRefusals fault.fileLayout tt)
-walk-number d s v k (number-15 h i c a b g e) = rw e (listed walkRefusals fault.dataLayout tt)
+walk-number d s v k (number-15 h i c o a b g e) = rw e (listed walkRefusals fault.dataLayout tt)
 walk-number d s v k (number-16 a b e) = rw e (listed walkRefusals fault.bitmapWords tt)
 
 -- ---- a test's number

@@ -249,7 +249,7 @@ module _ (d : Disk) where
 pub floppy-numerals : (kind : ℕ) → Numerals (floppy kind)
 floppy-numerals = floppies.floppy-numerals
 
-pub stars-hold : (kind : ℕ) → kind ∈ kinds → Hold (floppy kind) stars
+pub stars-hold : (kind : ℕ) → kind ∈ kinds → Hold (floppy kind) (stars (floppy kind))
 stars-hold = starred.stars-hold
 
 -- ---- a program file

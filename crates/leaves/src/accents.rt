@@ -1,4 +1,4 @@
-// Names with accents: each vector on a plain disk, and then on an international one.
+// Names with accents: each vector on a plain disk, and then on an international one; folding on a disk of each kind.
 use crate::build::IMAGE;
 use crate::build::block;
 use crate::build::fill;
@@ -9,8 +9,10 @@ use volume::name;
 fn fold(b: u8) {
     say::text(b"folds");
     say::byte(b);
-    say::byte(name::fold(Disk::floppy(Disk::PLAIN), b));
-    say::byte(name::fold(Disk::floppy(Disk::INTERNATIONAL), b));
+    say::byte(name::fold(Disk::floppy(Disk::OLD), b));
+    say::byte(name::fold(Disk::floppy(Disk::FAST), b));
+    say::byte(name::fold(Disk::floppy(Disk::OLD_INTERNATIONAL), b));
+    say::byte(name::fold(Disk::floppy(Disk::FAST_INTERNATIONAL), b));
     say::end();
 }
 
@@ -36,8 +38,8 @@ fn slot(spelled: &[u8], text: &[u8]) {
     if n <= 255 {
         say::text(b"slots ");
         say::text(spelled);
-        say::number(name::slot(Disk::floppy(Disk::PLAIN), text, 0, n));
-        say::number(name::slot(Disk::floppy(Disk::INTERNATIONAL), text, 0, n));
+        say::number(name::slot(Disk::floppy(Disk::OLD), text, 0, n));
+        say::number(name::slot(Disk::floppy(Disk::OLD_INTERNATIONAL), text, 0, n));
         say::end();
     }
 }
@@ -65,8 +67,8 @@ fn pair(spelled: &[u8], one: &[u8], two: &[u8]) {
     if n == two.len() {
         say::text(b"same ");
         say::text(spelled);
-        say::truth(name::same_bytes(Disk::floppy(Disk::PLAIN), one, 0, two, 0, n));
-        say::truth(name::same_bytes(Disk::floppy(Disk::INTERNATIONAL), one, 0, two, 0, n));
+        say::truth(name::same_bytes(Disk::floppy(Disk::OLD), one, 0, two, 0, n));
+        say::truth(name::same_bytes(Disk::floppy(Disk::OLD_INTERNATIONAL), one, 0, two, 0, n));
         say::end();
     }
 }
@@ -98,6 +100,6 @@ fn names(disk: Disk, image: &[u8; IMAGE]) {
 pub fn in_blocks() {
     let mut image = block(2, &[108, 0x03E974E9]);
     fill(&mut image, 3, &[108, 0x03C954C9]);
-    names(Disk::floppy(Disk::PLAIN), &image);
-    names(Disk::floppy(Disk::INTERNATIONAL), &image);
+    names(Disk::floppy(Disk::OLD), &image);
+    names(Disk::floppy(Disk::OLD_INTERNATIONAL), &image);
 }

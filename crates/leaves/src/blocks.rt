@@ -209,6 +209,29 @@ pub fn file() {
     two(Kind::Empty, 2, 1, 81, 1);
 }
 
+// A file's own tests on a disk of the Fast File System: of 513 bytes, of 36,865 bytes, and of none. w4 is not tested.
+pub fn fast_file() {
+    good(Kind::FastFile);
+    one(Kind::FastFile, 2, 1);
+    one(Kind::FastFile, 2, 3);
+    one(Kind::FastFile, 4, 0xFFFFFFFF);
+    one(Kind::FastFile, 126, LIST);
+    one(Kind::FastFile, 81, 512);
+    one(Kind::FastFile, 81, 1024);
+    one(Kind::FastFile, 81, 1025);
+    one(Kind::FastFile, 81, 898561);
+    good(Kind::FastLong);
+    one(Kind::FastLong, 126, 0);
+    one(Kind::FastLong, 81, 36864);
+    two(Kind::FastLong, 81, 36864, 126, 0);
+    one(Kind::FastLong, 81, 856441);
+    one(Kind::FastLong, 81, 898560);
+    one(Kind::FastLong, 81, 898561);
+    good(Kind::FastEmpty);
+    one(Kind::FastEmpty, 4, DATA);
+    one(Kind::FastEmpty, 2, 1);
+}
+
 fn listed(image: &[u8; IMAGE], i: usize)
     requires { ⌜ i < 72 ⌝ }
 {
@@ -289,4 +312,14 @@ pub fn data() {
     good(Kind::Only);
     one(Kind::Only, 3, 487);
     one(Kind::Only, 4, LIST);
+}
+
+// A data block of the Fast File System may hold anything, and the block before it may name another.
+pub fn fast_data() {
+    good(Kind::FastData);
+    unmended(Kind::FastData, 6, 0x41000000);
+    unmended(Kind::FastData, 0, 2);
+    one(Kind::FastData, 0, 16);
+    one(Kind::FastData, 1, DATA);
+    one(Kind::FastData, 4, LIST);
 }

@@ -32,7 +32,8 @@ pub const DATA: u32 = 7;
 
 // What a block is tested as. A header is tested as an entry, and by a file's own tests: of 489 bytes, of 35,137 and
 // of none. A list block has a number of keys still to come. Data blocks are the first and the last of a file of 489
-// bytes, the one of a file of 488, and one that the block before it does not name.
+// bytes, the one of a file of 488, and one that the block before it does not name. On a disk of the Fast File System
+// files have 513 bytes, 36,865 and none; the data block is the last of a file of 513 bytes.
 pub enum Kind {
     Root,
     Map,
@@ -47,6 +48,10 @@ pub enum Kind {
     Last,
     Only,
     Unnamed,
+    FastFile,
+    FastLong,
+    FastEmpty,
+    FastData,
 }
 
 impl Kind {
@@ -62,6 +67,9 @@ impl Kind {
             Kind::File => HEADER,
             Kind::Long => HEADER,
             Kind::Empty => HEADER,
+            Kind::FastFile => HEADER,
+            Kind::FastLong => HEADER,
+            Kind::FastEmpty => HEADER,
             Kind::List(n) => LIST,
             _ => DATA,
         }
@@ -86,6 +94,10 @@ impl Kind {
             Kind::Last => say::text(b"last"),
             Kind::Only => say::text(b"only"),
             Kind::Unnamed => say::text(b"unnamed"),
+            Kind::FastFile => say::text(b"fast file"),
+            Kind::FastLong => say::text(b"fast long"),
+            Kind::FastEmpty => say::text(b"fast empty"),
+            Kind::FastData => say::text(b"fast data"),
         }
     }
 
@@ -95,6 +107,10 @@ impl Kind {
         let disk = Disk {
             blocks: 1760,
             kind: 0,
+        };
+        let fast = Disk {
+            blocks: 1760,
+            kind: 1,
         };
         match self {
             Kind::Root => root_fault(small, image),
@@ -106,10 +122,14 @@ impl Kind {
             Kind::Long => file_fault(disk, image, HEADER),
             Kind::Empty => file_fault(disk, image, HEADER),
             Kind::List(n) => list_fault(image, LIST, HEADER, n),
-            Kind::First => data(disk, image, 489, 1, DATA),
-            Kind::Last => data(disk, image, 489, 2, DATA),
-            Kind::Only => data(disk, image, 488, 1, DATA),
+            Kind::First => data(disk, image, 489, 1, HEADER),
+            Kind::Last => data(disk, image, 489, 2, HEADER),
+            Kind::Only => data(disk, image, 488, 1, HEADER),
             Kind::Unnamed => data(disk, image, 489, 2, LIST),
+            Kind::FastFile => file_fault(fast, image, HEADER),
+            Kind::FastLong => file_fault(fast, image, HEADER),
+            Kind::FastEmpty => file_fault(fast, image, HEADER),
+            Kind::FastData => data(fast, image, 513, 2, LIST),
         }
     }
 
@@ -127,6 +147,10 @@ impl Kind {
             Kind::List(n) => block(LIST, &[0, 16, 1, LIST, 2, 1, 125, HEADER, 127, 0xFFFFFFFD]),
             Kind::First => data_block(1, 488, LIST),
             Kind::Only => data_block(1, 488, 0),
+            Kind::FastFile => header_block(2, 0, 513, 0),
+            Kind::FastLong => header_block(72, 0, 36865, LIST),
+            Kind::FastEmpty => header_block(0, 0, 0, 0),
+            Kind::FastData => block(DATA, &[]),
             _ => data_block(2, 1, 0),
         }
     }
@@ -138,14 +162,14 @@ impl Kind {
     }
 }
 
-// The data block as number n of a file of `size` bytes.
-fn data(disk: Disk, image: &[u8; IMAGE], size: u32, n: u32, named: u32) -> u32
-    requires { ⌜ Sized disk × ((1 ≤ n) × (n < 1760)) ⌝ }
+// The data block as number n of a file of `size` bytes, after the block `last`.
+fn data(disk: Disk, image: &[u8; IMAGE], size: u32, n: u32, last: u32) -> u32
+    requires { ⌜ Sized disk × ((1 ≤ n) × (n < 1760)) × (last < 8) ⌝ }
 {
     if disk.file_limit() < size {
         return 14;
     }
-    data_fault(disk, image, DATA, HEADER, size, n, named)
+    data_fault(disk, image, DATA, HEADER, size, n, last)
 }
 
 // A block with these words and the name "MARY".
@@ -177,9 +201,11 @@ fn header_block(count: u32, first: u32, size: u32, list: u32) -> [u8; IMAGE] {
     image
 }
 
-// A data block with these words 2, 3 and 4.
+// A data block with these words 2, 3 and 4, which w4 of the header names.
 fn data_block(number: u32, held: u32, following: u32) -> [u8; IMAGE] {
-    block(DATA, &[0, 8, 1, HEADER, 2, number, 3, held, 4, following])
+    let mut image = block(DATA, &[0, 8, 1, HEADER, 2, number, 3, held, 4, following]);
+    fill(&mut image, HEADER, &[4, DATA]);
+    image
 }
 
 // The line of a good block.

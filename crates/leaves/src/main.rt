@@ -21,6 +21,7 @@ fn main() {
     accents::in_blocks();
     numbers::bits();
     numbers::sizes();
+    numbers::fast_sizes();
     numbers::held();
     numbers::disk();
     blocks::root();
@@ -33,8 +34,10 @@ fn main() {
     blocks::directory_name();
     blocks::header();
     blocks::file();
+    blocks::fast_file();
     blocks::keys();
     blocks::list();
     blocks::list_counts();
     blocks::data();
+    blocks::fast_data();
 }

@@ -11,6 +11,7 @@ use volume::block::sum_of;
 use volume::disk::Disk;
 use volume::file;
 ghost use Prim.Native.Nat.{_<_, _≤_};
+ghost use Rattle.volume.specs.Disks.{Sized};
 
 // The words at 0, 2 and 4, where the middle one straddles the others.
 fn three(bytes: &[u8; 8]) {
@@ -105,14 +106,13 @@ pub fn bits() {
 }
 
 // Data blocks, keys in the header, list blocks, and keys in the last block that has any.
-fn size(bytes: u32) {
-    let disk = Disk {
-        blocks: 1760,
-        kind: 0,
-    };
+fn size(disk: Disk, bytes: u32)
+    requires { ⌜ Sized disk ⌝ }
+{
     if bytes <= disk.file_limit() {
         let n = disk.data_blocks(bytes);
         say::text(b"size");
+        say::number(disk.kind as u32);
         say::number(bytes);
         say::number(n);
         say::number(file::keys_here(n));
@@ -123,15 +123,36 @@ fn size(bytes: u32) {
 }
 
 pub fn sizes() {
-    size(0);
-    size(1);
-    size(488);
-    size(489);
-    size(35136);
-    size(35137);
-    size(70272);
-    size(70273);
-    size(856440);
+    let disk = Disk {
+        blocks: 1760,
+        kind: 0,
+    };
+    size(disk, 0);
+    size(disk, 1);
+    size(disk, 488);
+    size(disk, 489);
+    size(disk, 35136);
+    size(disk, 35137);
+    size(disk, 70272);
+    size(disk, 70273);
+    size(disk, 856440);
+}
+
+// On a disk of the Fast File System.
+pub fn fast_sizes() {
+    let disk = Disk {
+        blocks: 1760,
+        kind: 1,
+    };
+    size(disk, 0);
+    size(disk, 1);
+    size(disk, 512);
+    size(disk, 513);
+    size(disk, 36864);
+    size(disk, 36865);
+    size(disk, 73728);
+    size(disk, 73729);
+    size(disk, 898560);
 }
 
 // The bytes that data block n of a file holds.
@@ -141,7 +162,7 @@ fn hold(bytes: u32, n: u32)
     say::text(b"held");
     say::number(bytes);
     say::number(n);
-    say::number(Disk::floppy(Disk::PLAIN).held(bytes, n));
+    say::number(Disk::floppy(Disk::OLD).held(bytes, n));
     say::end();
 }
 
@@ -161,17 +182,19 @@ pub fn held() {
 fn key(k: u32) {
     say::text(b"key");
     say::number(k);
-    say::truth(Disk::floppy(Disk::PLAIN).in_range(k));
+    say::truth(Disk::floppy(Disk::OLD).in_range(k));
     say::end();
 }
 
-// Whether four bytes are the tag of a plain disk, and of an international one; and the kind that they are taken for.
+// Whether four bytes are the tag of a disk of each kind, and the kind that they are taken for.
 fn tagged(a: u8, b: u8, c: u8, d: u8) {
     let bytes = [a, b, c, d];
     say::text(b"tagged");
     say::word(words::word(&bytes, 0));
-    say::truth(Disk::floppy(Disk::PLAIN).has_tag(&bytes));
-    say::truth(Disk::floppy(Disk::INTERNATIONAL).has_tag(&bytes));
+    say::truth(Disk::floppy(Disk::OLD).has_tag(&bytes));
+    say::truth(Disk::floppy(Disk::FAST).has_tag(&bytes));
+    say::truth(Disk::floppy(Disk::OLD_INTERNATIONAL).has_tag(&bytes));
+    say::truth(Disk::floppy(Disk::FAST_INTERNATIONAL).has_tag(&bytes));
     say::number(Disk::of(&bytes).kind as u32);
     say::end();
 }
@@ -185,13 +208,23 @@ fn limits() {
     say::number(disk.bit_span());
     say::text(b"\nchain limit");
     say::number(disk.chain_limit());
-    say::text(b"\nfile limit");
+    say::end();
+}
+
+// How many bytes of a file a data block holds, where they begin, and the largest size of a file.
+fn data(disk: Disk)
+    requires { ⌜ Sized disk ⌝ }
+{
+    say::text(b"data");
+    say::number(disk.kind as u32);
+    say::number(disk.data_bytes());
+    say::number(disk.data_start());
     say::number(disk.file_limit());
     say::end();
 }
 
 pub fn disk() {
-    let disk = Disk::floppy(Disk::PLAIN);
+    let disk = Disk::floppy(Disk::OLD);
     say::text(b"blocks");
     say::number(disk.blocks);
     say::text(b"\nroot");
@@ -200,10 +233,24 @@ pub fn disk() {
     say::count(disk.image_bytes());
     say::text(b"\nclaim bytes");
     say::count(disk.claim_bytes());
-    say::text(b"\ndata bytes");
-    say::number(disk.data_bytes());
     say::end();
     limits();
+    data(Disk {
+        blocks: 1760,
+        kind: 0,
+    });
+    data(Disk {
+        blocks: 1760,
+        kind: 1,
+    });
+    data(Disk {
+        blocks: 1760,
+        kind: 2,
+    });
+    data(Disk {
+        blocks: 1760,
+        kind: 3,
+    });
     say::text(b"place 880 w127");
     say::count(Block::byte(880, 127));
     say::text(b"\ntag");
@@ -213,6 +260,7 @@ pub fn disk() {
     tagged(0x44, 0x4F, 0x53, 0x01);
     tagged(0x44, 0x4F, 0x53, 0x02);
     tagged(0x44, 0x4F, 0x53, 0x03);
+    tagged(0x44, 0x4F, 0x53, 0x04);
     tagged(0x44, 0x4F, 0x53, 0xFF);
     tagged(0x44, 0x4F, 0x73, 0x00);
     tagged(0x44, 0x4F, 0x73, 0x02);

@@ -211,7 +211,7 @@ module _ (d : Disk) (s : List ℕ) (v : Tree d s) where
           long = v .long;
           form = joined-form names good l;
           tag = v .tag;
-          root = root-sound d s .0 (root-passes d s (v .sums (to Kind.root (rootOf d)) (top refl)) (v .top));
+          root = root-sound d s .0 (root-passes d s (v .sums (to Kind.root (rootOf d)) (top refl) refl) (v .top));
         }
 
     parts : components (pathOf s (rootOf d) k h) ≡ names

@@ -46,7 +46,7 @@ module _ (d : Disk) (s : List ℕ) (v : Tree d s) where
         let h : Hangs s t i k = record { slot = l; position = p; there = refl; some = some } in
         let b = held-by d s v t holder in
         record {
-          sum = v .sums (to Kind.entry k) position-reached;
+          sum = v .sums (to Kind.entry k) position-reached refl;
           entry = v .entries k position-reached;
           parent = b .parent i k h;
           link = λ e. v .directories k position-reached e .0;
@@ -97,7 +97,7 @@ module _ (d : Disk) (s : List ℕ) (v : Tree d s) where
       go (number-3 h p u a b) = absurd (u (v .tag))
       go (of-root h p u z b) =
           let a = root-breaks d s n .1 z in
-          absurd (a .1 (sym (a .0) ∙ root-passes d s (v .sums (to Kind.root (rootOf d)) (top refl)) (v .top)))
+          absurd (a .1 (sym (a .0) ∙ root-passes d s (v .sums (to Kind.root (rootOf d)) (top refl) refl) (v .top)))
       go (number-5 h y a) =
           absurd (y (rw (h .key) at (position-inside (h .comes .parent) (slotOf d (h .comes .name)) (h .position)
           (held h) (slot-below d (h .comes .name) _ refl) (some h))))

@@ -30,7 +30,7 @@ module _ (d : Disk) (s path : List ℕ) (o n v k : ℕ) where
       go (of-directory t c f a b) = rw a (listed readRefusals fault.wrongKind tt)
       go (of-header z c f b) = in-part headerRefusals readRefusals v tt (header-number b)
       go (of-block h z c f g (at-data i x a y (data-key q w))) = rw w (listed readRefusals fault.badKey tt)
-      go (of-block h z c f g (at-data i x a y (data-itself q b))) =
+      go (of-block h z c f g (at-data i x a y (data-itself q o b))) =
           in-part dataRefusals readRefusals v tt (data-number b)
       go (of-block h z c f g (at-list j a y (list-key q w))) = rw w (listed readRefusals fault.badKey tt)
       go (of-block h z c f g (at-list j a y (list-itself q b))) = in-part listRefusals readRefusals v tt (list-number b)

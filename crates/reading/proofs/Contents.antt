@@ -1,5 +1,5 @@
 -- A file has as many bytes as its size says. Assumes nothing.
-use Prim.Native.Nat.{ℕ, zero, suc, _+_, _-_, _*_, _/_, _%_, _≤_, _<_, min}
+use Prim.Native.Nat.{ℕ, zero, suc, _+_, _-_, _*_, _/_, _%_, _<_, min}
 use mathlib.Core.Path.{_≡_, refl, sym, ap, _∙_}
 use mathlib.Core.Logic.{inl, inr}
 use mathlib.Core.List.{List, [], _∷_, _++_}
@@ -9,29 +9,17 @@ use lib.ListN.{length, take, drop, length-take, length-drop, length-append}
 use lib.Seq.{drop-drop, drop-nil, drop-append-add}
 use Rattle.reach.specs.References.{_∈_}
 use Rattle.volume.specs.declared.disk.Disk.{Disk}
-use Rattle.volume.specs.Blocks.{blockBytes}
-use Rattle.volume.specs.Disks.{dataBytes, imageBytes, dataStart}
+use Rattle.volume.specs.Disks.{dataBytes, imageBytes}
 use Rattle.volume.specs.Files.{dataBlocks, sizeOf, keysOf}
-use Rattle.volume.proofs.Sizes.{data-is, blocks-hold}
+use Rattle.volume.proofs.Sizes.{data-some, data-inside, blocks-hold}
 use Rattle.volume.proofs.Keys.{keys-long}
 use Rattle.reading.specs.Bytes.{dataOf, dataIn, fileBytes, part}
 use Rattle.reading.specs.Parts.{BlocksInside}
 use Rattle.reading.proofs.Parts.{drop-take, take-least}
 
--- ---- the numbers of a data block
-
-module _ (d : Disk) where
-  -- its data end with it
-  pub data-inside : dataStart d + dataBytes d ≤ blockBytes
-  unfolding dataStart
-  data-inside = rw (data-is d) (omega arith)
-
-  pub data-some : 0 < dataBytes d
-  data-some = rw (data-is d) (omega arith)
-
-  -- one of a file of z bytes holds byte o
-  pub block-there : (z o : ℕ) → o < z → o / dataBytes d < dataBlocks d z
-  block-there z o l = div-lt-iff-lt-mul data-some .1 (omega (arith, blocks-hold d z))
+-- one of the data blocks of a file of z bytes holds byte o
+pub block-there : (d : Disk) (z o : ℕ) → o < z → o / dataBytes d < dataBlocks d z
+block-there d z o l = div-lt-iff-lt-mul (data-some d) .1 (omega (arith, blocks-hold d z))
 
 -- ---- the data of no blocks, and of some
 

@@ -134,7 +134,7 @@ unfolding filledBy part
 filled-whole bytes output h = rw (take-all (length output) bytes h) refl
 
 module _ (d : Disk) (s : List ℕ) (v : Tree d s) where
-  intact : (a : Kind) (k : ℕ) → Reached (references d s) (to a k) → Intact d s k
+  intact : (a : Kind) (k : ℕ) → Reached (references d s) (to a k) → Intact d s a k
   intact a k r =
       let p = v .keys (to a k) r in record { inside = record { low = p .0; high = p .1 }; sum = v .sums (to a k) r }
 

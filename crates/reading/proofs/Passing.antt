@@ -4,7 +4,6 @@ use Prim.Native.Nat.{ℕ, zero, suc, _+_, _-_}
 use mathlib.Core.Path.{_≡_, refl, sym, ap, subst}
 use mathlib.Core.Logic.{_⊎_, inl, inr, _↔_}
 use mathlib.Core.List.{List, [], _∷_, _++_}
-use native.Mathlib.Nat.{sub-zero}
 use native.Mathlib.Omega.{arith}
 use borrow.Author.Tests.{eq-eqb}
 use Rattle.answers.specs.Tests.{pick}
@@ -14,13 +13,14 @@ use Rattle.reach.proofs.Lists.{in-left, in-right, in-either}
 use Rattle.volume.specs.declared.disk.Disk.{Disk}
 use Rattle.volume.specs.Blocks.{slots, wordOf, keyWord}
 use Rattle.volume.specs.Files.{keysHere, listBlocks, keysDown, listsFrom, keysFrom, blocksOf}
+use Rattle.volume.specs.References.{Kind}
 use Rattle.volume.specs.Law.{ListBlock, KeyCount}
 use Rattle.volume.proofs.Passes.{_&_, file-passes, list-passes, data-passes}
 use Rattle.walk.specs.Nodes.{Node, list, datum, keyNodes, keyOf, faultOf}
 use Rattle.walk.proofs.Nodes.{in-keys}
 use Rattle.walk.proofs.Passes.{key-passes}
-use Rattle.walk.proofs.Spreads.{Follows, Run, Spread, here, spread-first, file-spreads}
-use Rattle.walk.proofs.KeyRuns.{DataSound, run-nodes}
+use Rattle.walk.proofs.Spreads.{Follows, Run, Spread, here, spread-first, file-spreads, file-header}
+use Rattle.walk.proofs.KeyRuns.{NodeFollows, run-nodes}
 use Rattle.reading.specs.FileTests.{nodeFault, firstFault, blocksFrom, fileNodes, blocksFault}
 use Rattle.reading.specs.Outcomes.{Intact, FileWhole}
 use Rattle.reading.proofs.Tested.{Pass, tested-whole}
@@ -37,17 +37,17 @@ module _ (d : Disk) (s : List ℕ) where
 
     -- ---- one block
 
-    datum-passes : (k n c : ℕ) → Intact d s k → Follows d s h n c k → nodeFault d s (datum k h n c) ≡ 0
+    datum-passes : (k n c : ℕ) → Intact d s Kind.datum k → Follows d s h n c k → nodeFault d s (datum k h n c) ≡ 0
     unfolding faultOf
     datum-passes k n c i f =
         key-passes d k (i .inside .low, i .inside .high) & data-passes d s k h n (wordOf s c 4)
-        (i .sum, f .0, (f .1, f .2))
+        (λ o. record { sum = i .sum o; ties = f o })
 
-    list-there : (k m c : ℕ) → Intact d s k → ListBlock s h k → KeyCount s k (blocksOf d s h - m)
+    list-there : (k m c : ℕ) → Intact d s Kind.list k → ListBlock s h k → KeyCount s k (blocksOf d s h - m)
         → nodeFault d s (list k h m c) ≡ 0
     unfolding faultOf
     list-there k m c i f l =
-        key-passes d k (i .inside .low, i .inside .high) & list-passes s k h (blocksOf d s h - m) (i .sum, f, l)
+        key-passes d k (i .inside .low, i .inside .high) & list-passes s k h (blocksOf d s h - m) (i .sum refl, f, l)
 
     -- ---- the data blocks of one block
 
@@ -58,28 +58,31 @@ module _ (d : Disk) (s : List ℕ) where
     key-down b m c i (suc n) x (inr a) = inr (key-down b m c (suc i) n x a)
 
     keys-pass : (b m c : ℕ) → Run d s h m c (keysDown s b 0 (here d s h m))
-        → ((k : ℕ) → k ∈ keysDown s b 0 (here d s h m) → Intact d s k)
+        → ((k : ℕ) → k ∈ keysDown s b 0 (here d s h m) → Intact d s Kind.datum k)
         → Pass d s (keyNodes s h b m c 0 (here d s h m))
     keys-pass b m c r f x a =
         let w = in-keys s h b m c 0 (here d s h m) x a in
-        let i = subst (λ y. Intact d s (keyOf d y)) (w .3) (f (keyOf d x) (key-down b m c 0 (here d s h m) x a)) in
+        let k = f (keyOf d x) (key-down b m c 0 (here d s h m) x a) in
+        let i = subst (λ y. Intact d s Kind.datum (keyOf d y)) (w .3) k in
         subst (λ y. nodeFault d s y ≡ 0) (sym (w .3))
-        (datum-passes (w .0) (w .1) (w .2) i (subst (DataSound d s) (w .3) (run-nodes d s h b m c .0 r x a)))
+        (datum-passes (w .0) (w .1) (w .2) i (subst (NodeFollows d s) (w .3) (run-nodes d s h b m c .0 r x a)))
 
     -- ---- and of those after it, r keys still to come
 
-    module _ (b m c r : ℕ) (e : r ≡ N - m) (bs : List ℕ) (f : (k : ℕ) → k ∈ keysFrom s r (b ∷ bs) → Intact d s k) where
-      first-keys : (k : ℕ) → k ∈ keysDown s b 0 (here d s h m) → Intact d s k
+    module _ (b m c r : ℕ) (e : r ≡ N - m) (bs : List ℕ)
+        (f : (k : ℕ) → k ∈ keysFrom s r (b ∷ bs) → Intact d s Kind.datum k) where
+      first-keys : (k : ℕ) → k ∈ keysDown s b 0 (here d s h m) → Intact d s Kind.datum k
       unfolding keysFrom
       first-keys k a = f k (in-left k (keysDown s b 0 (keysHere r)) (keysFrom s (r - slots) bs) (rw e a))
 
-      other-keys : (k : ℕ) → k ∈ keysFrom s (r - slots) bs → Intact d s k
+      other-keys : (k : ℕ) → k ∈ keysFrom s (r - slots) bs → Intact d s Kind.datum k
       unfolding keysFrom
       other-keys k a = f k (in-right k (keysDown s b 0 (keysHere r)) (keysFrom s (r - slots) bs) a)
 
     spread-passes : (q b m c r : ℕ) → q ≡ listBlocks (blocksOf d s h - m) → r ≡ blocksOf d s h - m
-        → Spread d s h q b m c → ((k : ℕ) → k ∈ listsFrom s b q → Intact d s k)
-        → ((k : ℕ) → k ∈ keysFrom s r (b ∷ listsFrom s b q) → Intact d s k) → Pass d s (blocksFrom d s h b m c q)
+        → Spread d s h q b m c → ((k : ℕ) → k ∈ listsFrom s b q → Intact d s Kind.list k)
+        → ((k : ℕ) → k ∈ keysFrom s r (b ∷ listsFrom s b q) → Intact d s Kind.datum k)
+        → Pass d s (blocksFrom d s h b m c q)
     unfolding blocksFrom listsFrom
     spread-passes zero b m c r e g p l f = keys-pass b m c (p .1) (first-keys b m c r g [] f)
     spread-passes (suc q) b m c r e g p l f =
@@ -119,7 +122,7 @@ module _ (d : Disk) (s : List ℕ) where
         let p = file-spreads d s h .0 (w .file) in
         let q = listBlocks (blocksOf d s h) in
         let z : blocksOf d s h ≡ blocksOf d s h - 0 = omega arith in
-        let e = file-passes d s h (p .0, rw sub-zero at (spread-first d s h q h 0 h (p .2) .0), p .1) in
+        let e = file-passes d s h (file-header d s h (w .file)) in
         rw (eq-eqb _ 0 e) (pass-all (fileNodes d s h)
         (spread-passes q h 0 h (blocksOf d s h) (ap listBlocks z) z (p .2) (w .lists) (w .keys)))
 

@@ -71,7 +71,7 @@ module _ (d : Disk) (s : List ℕ) (h : ℕ) where
     data-good = (
       to,
       λ g. key-passes d k (g .inside .low, g .inside .high) & data-sound d s k h (suc i) (wordOf s c 4) .1
-          (g .sum, g .ties),
+          (g .sound),
     )
       where
         to : nodeFault d s (datum k h (suc i) c) ≡ 0 → GoodData d s h i k c
@@ -79,7 +79,7 @@ module _ (d : Disk) (s : List ℕ) (h : ℕ) where
             let f = first-zero _ _ e in
             let r = key-passed d k (f .0) in
             let p = data-sound d s k h (suc i) (wordOf s c 4) .0 (f .1) in
-            record { inside = record { low = r .0; high = r .1 }; sum = p .0; ties = p .1 }
+            record { inside = record { low = r .0; high = r .1 }; sound = p }
 
     data-bad : (v : ℕ) → ((nodeFault d s (datum k h (suc i) c) ≡ v) × (v ≢ 0)) ↔ BadData d s h i k c v
     unfolding faultOf
@@ -87,12 +87,12 @@ module _ (d : Disk) (s : List ℕ) (h : ℕ) where
       where
         to : KeyFirst d k (dataFault d s k h (sizeOf s h) (suc i) (wordOf s c 4)) v → BadData d s h i k c v
         to (out p e) = data-key p e
-        to (own p e z) = data-itself p (data-breaks d s k h (suc i) (wordOf s c 4) v .0 (e, z))
+        to (own p e z) = let b = data-breaks d s k h (suc i) (wordOf s c 4) v .0 (e, z) in data-itself p (b .0) (b .1)
 
         from : BadData d s h i k c v → (nodeFault d s (datum k h (suc i) c) ≡ v) × (v ≢ 0)
         from (data-key p e) = (first-key d k _ v (out p e), λ z. omega arith)
-        from (data-itself p b) =
-            let e = data-breaks d s k h (suc i) (wordOf s c 4) v .1 b in
+        from (data-itself p o b) =
+            let e = data-breaks d s k h (suc i) (wordOf s c 4) v .1 (o, b) in
             (first-key d k _ v (own p (e .0) (e .1)), e .1)
 
   module _ (j k c : ℕ) where
@@ -291,6 +291,6 @@ refused-tag s path o n k = (
     go (of-directory t c e a b) = absurd (omega arith)
     go (of-header z c e b) = unlisted headerRefusals 3 3 tt (header-number b) refl
     go (of-block h z c e f (at-data i x p y (data-key q w))) = absurd (omega arith)
-    go (of-block h z c e f (at-data i x p y (data-itself q b))) = unlisted dataRefusals 3 3 tt (data-number b) refl
+    go (of-block h z c e f (at-data i x p y (data-itself q o b))) = unlisted dataRefusals 3 3 tt (data-number b) refl
     go (of-block h z c e f (at-list j p y (list-key q w))) = absurd (omega arith)
     go (of-block h z c e f (at-list j p y (list-itself q b))) = unlisted listRefusals 3 3 tt (list-number b) refl

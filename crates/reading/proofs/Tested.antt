@@ -18,13 +18,14 @@ use Rattle.reach.proofs.Lists.{in-left, in-right, in-either}
 use Rattle.volume.specs.declared.disk.Disk.{Disk}
 use Rattle.volume.specs.Blocks.{slots, wordOf, keyWord}
 use Rattle.volume.specs.Files.{keysHere, listBlocks, keysDown, listsFrom, keysFrom, blocksOf}
+use Rattle.volume.specs.References.{Kind}
 use Rattle.volume.specs.Law.{KeyCount, File}
 use Rattle.volume.specs.Rules.{fileFault}
 use Rattle.volume.proofs.Passes.{file-passed, list-passed, data-passed}
-use Rattle.walk.specs.Nodes.{Node, root, bitmap, entry, list, datum, before, keyNodes, keyOf, keyFault, faultOf}
+use Rattle.walk.specs.Nodes.{Node, root, bitmap, entry, list, datum, before, keyNodes, keyOf, bare, keyFault, faultOf}
 use Rattle.walk.proofs.Passes.{key-passed, in-tree, sum-passed}
 use Rattle.walk.proofs.Spreads.{Run, Spread, here, file-spreads}
-use Rattle.walk.proofs.KeyRuns.{DataSound, run-nodes}
+use Rattle.walk.proofs.KeyRuns.{NodeFollows, run-nodes}
 use Rattle.reading.specs.FileTests.{nodeFault, firstFault, blocksFrom, fileNodes, blocksFault}
 use Rattle.reading.specs.Outcomes.{Intact, FileWhole}
 
@@ -47,19 +48,19 @@ module _ (d : Disk) (s : List ℕ) where
   own : (x : Node) → nodeFault d s x ≡ 0 → faultOf d s x ≡ 0
   own x e = first-zero (keyFault d (keyOf d x)) _ e .1
 
-  intact : (x : Node) → nodeFault d s x ≡ 0 → Intact d s (keyOf d x)
+  intact : (x : Node) → nodeFault d s x ≡ 0 → Intact d s (bare d x .kind) (keyOf d x)
   intact x e =
       let r = key-passed d (keyOf d x) (first-zero (keyFault d (keyOf d x)) _ e .0) in
       record { inside = record { low = r .0; high = r .1 }; sum = sum-passed d s x (in-tree d s x (own x e)) }
 
   -- a data block that passes is as the law says
-  sound : (x : Node) → faultOf d s x ≡ 0 → DataSound d s x
+  sound : (x : Node) → faultOf d s x ≡ 0 → NodeFollows d s x
   unfolding faultOf
   sound root e = tt
   sound (bitmap k) e = tt
   sound (entry k t i p) e = tt
   sound (list k h m c) e = tt
-  sound (datum k h n c) e = let p = data-passed d s k h n (wordOf s c 4) e in (p .1, p .2 .0, p .2 .1)
+  sound (datum k h n c) e = λ o. data-passed d s k h n (wordOf s c 4) e o .ties
 
   module _ (h : ℕ) where
     abbrev next : ℕ → ℕ → Node
@@ -96,7 +97,8 @@ module _ (d : Disk) (s : List ℕ) where
 
     -- ---- the keys of its data blocks, and of its list blocks
 
-    down-intact : (b m c i n : ℕ) → Pass (keyNodes s h b m c i n) → (k : ℕ) → k ∈ keysDown s b i n → Intact d s k
+    down-intact : (b m c i n : ℕ) → Pass (keyNodes s h b m c i n) → (k : ℕ) → k ∈ keysDown s b i n
+        → Intact d s Kind.datum k
     unfolding keyNodes keysDown
     down-intact b m c i zero f k a = absurd a
     down-intact b m c i (suc n) f k (inl a) =
@@ -105,17 +107,18 @@ module _ (d : Disk) (s : List ℕ) where
 
     -- those of one block, and those after
     keys-split : (q b m c r k : ℕ) → r ≡ blocksOf d s h - m → Pass (blocksFrom d s h b m c q)
-        → (k ∈ keysFrom s (r - slots) (listsFrom s b q) → Intact d s k) → k ∈ keysFrom s r (b ∷ listsFrom s b q)
-        → Intact d s k
+        → (k ∈ keysFrom s (r - slots) (listsFrom s b q) → Intact d s Kind.datum k)
+        → k ∈ keysFrom s r (b ∷ listsFrom s b q) → Intact d s Kind.datum k
     unfolding keysFrom
     keys-split q b m c r k e f g a = go (in-either k (keysDown s b 0 (keysHere r)) _ a)
       where
-        go : (k ∈ keysDown s b 0 (keysHere r)) ⊎ (k ∈ keysFrom s (r - slots) (listsFrom s b q)) → Intact d s k
+        go : (k ∈ keysDown s b 0 (keysHere r)) ⊎ (k ∈ keysFrom s (r - slots) (listsFrom s b q))
+            → Intact d s Kind.datum k
         go (inl p) = down-intact b m c 0 (keysHere (blocksOf d s h - m)) (keysPart q b m c f) k (rw e at p)
         go (inr p) = g p
 
     keys-intact : (q b m c r k : ℕ) → r ≡ blocksOf d s h - m → Pass (blocksFrom d s h b m c q)
-        → k ∈ keysFrom s r (b ∷ listsFrom s b q) → Intact d s k
+        → k ∈ keysFrom s r (b ∷ listsFrom s b q) → Intact d s Kind.datum k
     unfolding keysFrom listsFrom
     keys-intact zero b m c r k e f a = keys-split zero b m c r k e f (λ p. absurd p) a
     keys-intact (suc q) b m c r k e f a =
@@ -123,7 +126,7 @@ module _ (d : Disk) (s : List ℕ) where
         (λ p. keys-intact q (wordOf s b 126) (m + slots) (keyWord s b 71) (r - slots) k (omega arith)
         (λ x y. rest q b m c f x (inr y)) p) a
 
-    lists-intact : (q b m c k : ℕ) → Pass (blocksFrom d s h b m c q) → k ∈ listsFrom s b q → Intact d s k
+    lists-intact : (q b m c k : ℕ) → Pass (blocksFrom d s h b m c q) → k ∈ listsFrom s b q → Intact d s Kind.list k
     unfolding listsFrom
     lists-intact zero b m c k f a = absurd a
     lists-intact (suc q) b m c k f (inl a) = rw a (intact (next b m) (rest q b m c f (next b m) (inl refl)))
@@ -155,10 +158,10 @@ module _ (d : Disk) (s : List ℕ) where
       tested-file =
           let p = file-passed d s h header-passes in
           file-spreads d s h .1 (
-            p .0,
-            p .2,
+            p .size,
+            p .empty,
             spread-tested (listBlocks (blocksOf d s h)) h 0 h
-                (ap listBlocks nothing-done) (subst (KeyCount s h) nothing-done (p .1)) blocks-pass,
+                (ap listBlocks nothing-done) (subst (KeyCount s h) nothing-done (p .lists)) blocks-pass,
           )
 
       -- and whole

@@ -13,13 +13,13 @@ use Rattle.volume.specs.declared.disk.Disk.{Disk}
 use Rattle.volume.specs.Blocks.{slots, Holds, keyWord}
 use Rattle.volume.specs.Disks.{Sized, dataBytes, imageBytes, fileLimit}
 use Rattle.volume.specs.Files.{sizeOf, blocksOf, keysOf}
-use Rattle.volume.proofs.Sizes.{limit-most}
+use Rattle.volume.proofs.Sizes.{limit-most, data-some, data-inside}
 use Rattle.volume.proofs.Keys.{keys-long}
 use Rattle.reading.specs.declared.copy.Listed.{Listed}
 use Rattle.reading.specs.Bytes.{dataByte, dataOf, dataIn, fileBytes, part, filledBy}
 use Rattle.reading.specs.Parts.{Copied, BlocksInside, IsListed, WayHeld, Steps}
 use Rattle.reading.proofs.Parts.{drop-take, drop-from, filled-more, turn-front, turn-rest}
-use Rattle.reading.proofs.Contents.{data-inside, data-some, data-long, all-none, all-first, part-long}
+use Rattle.reading.proofs.Contents.{data-long, all-none, all-first, part-long}
 use Rattle.reading.proofs.Contents.{part-there, block-there}
 use Rattle.reading.proofs.Listing.{way-held, lister-held, key-at}
 

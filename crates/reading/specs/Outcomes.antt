@@ -3,32 +3,36 @@
 -- "Numbers").
 use Prim.Native.Nat.{ℕ, suc, _+_, _-_, _*_, _/_, _≤_, _<_, min}
 use mathlib.Core.Path.{_≡_}
+use mathlib.Core.Bool.{true}
 use mathlib.Core.List.{List}
 use lib.ListN.{length, getD}
 use Rattle.reach.specs.References.{At, _∈_}
 use Rattle.answers.specs.Numbers as fault
 use Rattle.answers.specs.Refusals.{refusal}
 use Rattle.volume.specs.declared.disk.Disk.{Disk}
+use Rattle.volume.specs.Disks.{isOld}
 use Rattle.volume.specs.Blocks.{slots, wordOf, sumOf}
 use Rattle.volume.specs.Files.{blocksOf, listsOf, keysOf}
-use Rattle.volume.specs.Law.{File}
-use Rattle.volume.specs.Breaks.{IsData, Inside, HeaderSound, HeaderBreaks, ListSound, ListBreaks, DataTies, DataBreaks}
+use Rattle.volume.specs.References.{Kind, list, datum}
+use Rattle.volume.specs.Law.{File, summed}
+use Rattle.volume.specs.Breaks.{IsData, Inside, HeaderSound, HeaderBreaks, ListSound, ListBreaks, DataSound}
+use Rattle.volume.specs.Breaks.{DataBreaks}
 use Rattle.lookup.specs.declared.find.Found.the-variants as found
 use Rattle.lookup.specs.Lookup.{findOf}
 use Rattle.reading.specs.Reads.{lastComponent}
 
 -- ---- a file whose blocks pass their tests
 
--- a block that lies after the boot blocks, in the volume, and whose sum is 0
-pub record Intact (d : Disk) (s : List ℕ) (k : ℕ) : Type 0 where
+-- a block of a kind that lies after the boot blocks, in the volume, and whose sum is 0 if blocks of that kind have one
+pub record Intact (d : Disk) (s : List ℕ) (a : Kind) (k : ℕ) : Type 0 where
   pub inside : Inside d k
-  pub sum : sumOf s k ≡ 0
+  pub sum : summed d a ≡ true → sumOf s k ≡ 0
 
 -- it is as the law says, with all of its blocks
 pub record FileWhole (d : Disk) (s : List ℕ) (h : ℕ) : Type 0 where
   pub file : File d s h
-  pub lists : (k : ℕ) → k ∈ listsOf d s h → Intact d s k
-  pub keys : (k : ℕ) → k ∈ keysOf d s h → Intact d s k
+  pub lists : (k : ℕ) → k ∈ listsOf d s h → Intact d s list k
+  pub keys : (k : ℕ) → k ∈ keysOf d s h → Intact d s datum k
 
 -- ---- bytes are given
 
@@ -51,16 +55,15 @@ pub record Filled (bytes : List ℕ) (o : ℕ) (before : List ℕ) (m : ℕ) (af
 
 -- ---- the blocks of the file h
 
--- it is as the law says
+-- it is as the law says, which asks for words on the old file system alone
 pub record GoodData (d : Disk) (s : List ℕ) (h i k c : ℕ) : Type 0 where
   pub inside : Inside d k
-  pub sum : sumOf s k ≡ 0
-  pub ties : DataTies d s k h (suc i) (wordOf s c 4)
+  pub sound : isOld d ≡ true → DataSound d s k h (suc i) (wordOf s c 4)
 
--- or it is not: 5, or 7, 8, 15 as each of them says
+-- or it is not: 5, or on the old file system 7, 8, 15 as each of them says
 pub data BadData (d : Disk) (s : List ℕ) (h i k c v : ℕ) : Type 0 where
   data-key : (Inside d k → ⊥) → v ≡ fault.badKey → BadData d s h i k c v
-  data-itself : Inside d k → DataBreaks d s k h (suc i) (wordOf s c 4) v → BadData d s h i k c v
+  data-itself : Inside d k → isOld d ≡ true → DataBreaks d s k h (suc i) (wordOf s c 4) v → BadData d s h i k c v
 
 -- list block j, from 0, is block k, and as the law says: the keys still to come are those after the header's and
 -- the earlier list blocks'

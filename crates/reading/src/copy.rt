@@ -25,7 +25,7 @@ struct Listed {
 fn data_byte(disk: Disk, key: u32) -> usize
     ensures { λ r. ⌜ r ≡ dataByte disk key ⌝ }
 {
-    Block::byte(key, 0) + Block::DATA_START
+    Block::byte(key, 0) + disk.data_start() as usize
 }
 
 // The bytes of a file from `offset` on.

@@ -15,22 +15,23 @@ use Rattle.answers.proofs.Given.{given}
 use Rattle.answers.proofs.Clashes.{impossible}
 use Rattle.reach.specs.References.{_∈_}
 use Rattle.volume.specs.declared.disk.Disk.{Disk}
-use Rattle.volume.specs.Disks.{rootOf, fileLimit, inRange, firstKey}
+use Rattle.volume.specs.Disks.{isOld, rootOf, fileLimit, inRange, firstKey}
 use Rattle.volume.specs.Blocks.{slots, wordOf, sumOf, directory, headerType, listType, dataType}
 use Rattle.volume.specs.Blocks.{rootKind, directoryKind, fileKind, softLink, directoryLink, fileLink}
 use Rattle.volume.specs.Names.{nameOf, nameGood, slotOf}
 use Rattle.volume.specs.Files.{heldOf, sizeOf, blocksOf}
 use Rattle.volume.specs.Law.{RootKind, RootFixed, OneBitmap, Valid, EntryKind, KeyCount, ListKind}
 use Rattle.volume.specs.Rules.{rootWords, rootFault, allZero, mapFault, bitmapFault, entryWords, entryName}
-use Rattle.volume.specs.Rules.{entryFault, countRules, emptyRules, fileFault, listFault, dataLinks, dataFault}
+use Rattle.volume.specs.Rules.{entryFault, countRules, emptyRule, emptyRules, fileFault, listFault, dataLinks}
+use Rattle.volume.specs.Rules.{dataRules, dataFault}
 use Rattle.volume.specs.Breaks.{Inside, RootSound, RootBreaks, root-7, root-8, root-4, root-11, MapBreaks}
 use Rattle.volume.specs.Breaks.{map-16, BitmapBreaks, bitmap-7, EntryTies, EntrySound, EntryBreaks, entry-7}
 use Rattle.volume.specs.Breaks.{entry-8, entry-9, entry-10, entry-11, entry-12, HeaderSound, HeaderBreaks}
 use Rattle.volume.specs.Breaks.{header-14, ListSound, ListBreaks, list-7, list-8, list-10, list-14, DataTies}
-use Rattle.volume.specs.Breaks.{DataBreaks, data-7, data-8, data-15}
+use Rattle.volume.specs.Breaks.{DataSound, DataBreaks, data-7, data-8, data-15}
 use Rattle.volume.proofs.Sizes.{range-is}
 use Rattle.volume.proofs.Checks.{word-in, word-not-in, member, is, be, is-not, be-not, test-at, _&_}
-use Rattle.volume.proofs.Checks.{zeros-there, zeros-found, Test, broken}
+use Rattle.volume.proofs.Checks.{zeros-there, zeros-found, Test, broken, asked}
 use Rattle.volume.proofs.Checks.{breaks, down, fall, on, last, word-test, sum-test, name-test, bad-name}
 use Rattle.volume.proofs.Checks.{not-good, some, among}
 
@@ -450,20 +451,19 @@ module _ (d : Disk) (s : List ℕ) (h : ℕ) where
         passes = λ p. must-passes _ fault.fileLayout (le-leb _ _ p);
       }
 
-  empty-test : Test fault.fileLayout (tests (emptyRules d s h n)) (n ≡ 0 → wordOf s h 4 ≡ 0)
+  first-test : Test fault.fileLayout (must (eqb (wordOf s h 4) 0) fault.fileLayout) (wordOf s h 4 ≡ 0)
+  first-test = word-test _ _ fault.fileLayout (search given depth 8) tt
+
+  empty-test : Test fault.fileLayout (tests (emptyRules d s h n)) (isOld d ≡ true → n ≡ 0 → wordOf s h 4 ≡ 0)
   empty-test =
       record {
         gives = search given depth 8;
-        passed =
-            λ e z. is _ _ fault.fileLayout (sym (pick-true (eqb n 0) _ _ _ (eq-eqb n 0 z) refl)
-            ∙ test-at 0 (emptyRules d s h n) e refl) tt;
-        passes = λ p. empty p (eqb n 0) refl & refl;
+        passed = λ e o z. w .passed (sym (last _) ∙ e) o (eq-eqb n 0 z);
+        passes = λ p. last _ ∙ w .passes (λ o z. p o (eqb-true n 0 z));
       }
     where
-      empty : (n ≡ 0 → wordOf s h 4 ≡ 0) → (b : Bool) → eqb n 0 ≡ b
-          → pick (eqb n 0) (must (eqb (wordOf s h 4) 0) fault.fileLayout) 0 ≡ 0
-      empty p true e = pick-true (eqb n 0) _ _ _ e refl ∙ be _ _ fault.fileLayout (p (eqb-true n 0 e))
-      empty p false e = pick-false (eqb n 0) _ _ _ e refl
+      w : Test fault.fileLayout (emptyRule d s h n) (isOld d ≡ true → eqb n 0 ≡ true → wordOf s h 4 ≡ 0)
+      w = asked (isOld d) (asked (eqb n 0) first-test)
 
   -- it passes if and only if it is as the law says
   pub header-sound : (fileFault d s h ≡ 0) ↔ HeaderSound d s h
@@ -599,9 +599,8 @@ module _ (d : Disk) (s : List ℕ) (k h n named : ℕ) where
   data-type-test : Test fault.blockType (must (eqb (wordOf s k 0) dataType) fault.blockType) (wordOf s k 0 ≡ dataType)
   data-type-test = word-test _ _ fault.blockType (search given depth 8) tt
 
-  data-order : dataFault d s k h z n named ≡ first (must (eqb (sumOf s k) 0) fault.blockSum)
+  data-order : tests (dataRules d s k h z n named) ≡ first (must (eqb (sumOf s k) 0) fault.blockSum)
       (first (must (eqb (wordOf s k 0) dataType) fault.blockType) (tests rest))
-  unfolding dataFault
   data-order = refl
 
   -- past the type
@@ -638,36 +637,63 @@ module _ (d : Disk) (s : List ℕ) (k h n named : ℕ) where
           pick-true (eqb n (blocksOf d s h)) _ _ _ e refl ∙ be _ _ fault.dataLayout (p .last (eqb-true _ _ e))
       end p false e = pick-false (eqb n (blocksOf d s h)) _ _ _ e refl
 
-  data-broken : (v : ℕ) → v ≢ 0 → dataFault d s k h z n named ≡ v → DataBreaks d s k h n named v
-  data-broken v y e =
-      down (sum-test s k) _ y data-7
-      (λ a. down data-type-test _ y (data-8 a)
-      (λ b q. let w = broken (datum-test b) y q in data-15 a b (w .0) (w .1)))
-      (sym data-order ∙ e)
+  -- all tests are made on the old file system
+  module _ (o : isOld d ≡ true) where
+    old-order : dataFault d s k h z n named ≡ first (must (eqb (sumOf s k) 0) fault.blockSum)
+        (first (must (eqb (wordOf s k 0) dataType) fault.blockType) (tests rest))
+    unfolding dataFault
+    old-order = pick-true (isOld d) _ 0 _ o data-order
 
-  data-fault : (v : ℕ) → DataBreaks d s k h n named v → (dataFault d s k h z n named ≡ v) × (v ≢ 0)
-  data-fault v (data-7 a e) = (data-order ∙ fall (sum-test s k) _ (some e tt) a e, some e tt)
-  data-fault v (data-8 a b e) = (data-order ∙ on (sum-test s k) _ a (fall data-type-test _ (some e tt) b e), some e tt)
-  data-fault v (data-15 a b c e) =
-      (data-order ∙ on (sum-test s k) _ a (on data-type-test _ b (breaks (datum-test b) c e)), some e tt)
+    old-broken : (v : ℕ) → v ≢ 0 → dataFault d s k h z n named ≡ v → DataBreaks d s k h n named v
+    old-broken v y e =
+        down (sum-test s k) _ y data-7
+        (λ a. down data-type-test _ y (data-8 a)
+        (λ b q. let w = broken (datum-test b) y q in data-15 a b (w .0) (w .1)))
+        (sym old-order ∙ e)
+
+    old-fault : (v : ℕ) → DataBreaks d s k h n named v → (dataFault d s k h z n named ≡ v) × (v ≢ 0)
+    old-fault v (data-7 a e) = (old-order ∙ fall (sum-test s k) _ (some e tt) a e, some e tt)
+    old-fault v (data-8 a b e) =
+        (old-order ∙ on (sum-test s k) _ a (fall data-type-test _ (some e tt) b e), some e tt)
+    old-fault v (data-15 a b c e) =
+        (old-order ∙ on (sum-test s k) _ a (on data-type-test _ b (breaks (datum-test b) c e)), some e tt)
+
+    old-passed : dataFault d s k h z n named ≡ 0 → DataSound d s k h n named
+    old-passed e =
+        let a = first-zero _ _ (sym old-order ∙ e) in
+        let b = first-zero _ _ (a .1) in
+        record {
+          sum = sum-test s k .passed (a .0);
+          ties = datum-test (data-type-test .passed (b .0)) .passed (b .1);
+        }
+
+    old-passes : DataSound d s k h n named → dataFault d s k h z n named ≡ 0
+    old-passes p =
+        let b = p .ties .block .type in
+        old-order ∙ on (sum-test s k) _ (p .sum) (on data-type-test _ b (datum-test b .passes (p .ties)))
+
+  -- and none on the Fast File System
+  fast-none : isOld d ≡ false → dataFault d s k h z n named ≡ 0
+  unfolding dataFault
+  fast-none o = pick-false (isOld d) _ 0 _ o refl
 
   -- 7, 8 and 15
-  pub data-breaks : (v : ℕ) → ((dataFault d s k h (sizeOf s h) n named ≡ v) × (v ≢ 0)) ↔ DataBreaks d s k h n named v
-  data-breaks v = ((λ e. data-broken v (e .1) (e .0)), data-fault v)
-
-  -- and it passes if and only if it is as the law says
-  pub data-sound : (dataFault d s k h (sizeOf s h) n named ≡ 0) ↔ ((sumOf s k ≡ 0) × DataTies d s k h n named)
-  data-sound = (
-    passed′,
-    λ p. data-order ∙ on (sum-test s k) _ (p .0)
-        (on data-type-test _ (p .1 .block .type) (datum-test (p .1 .block .type) .passes (p .1))),
-  )
+  pub data-breaks : (v : ℕ)
+      → ((dataFault d s k h (sizeOf s h) n named ≡ v) × (v ≢ 0)) ↔ ((isOld d ≡ true) × DataBreaks d s k h n named v)
+  data-breaks v = ((λ e. go (isOld d) refl (e .1) (e .0)), λ b. old-fault (b .0) v (b .1))
     where
-      passed′ : dataFault d s k h (sizeOf s h) n named ≡ 0 → (sumOf s k ≡ 0) × DataTies d s k h n named
-      passed′ e =
-          let a = first-zero _ _ (sym data-order ∙ e) in
-          let b = first-zero _ _ (a .1) in
-          (sum-test s k .passed (a .0), datum-test (data-type-test .passed (b .0)) .passed (b .1))
+      go : (t : Bool) → isOld d ≡ t → v ≢ 0 → dataFault d s k h z n named ≡ v
+          → (isOld d ≡ true) × DataBreaks d s k h n named v
+      go true o y e = (o, old-broken o v y e)
+      go false o y e = absurd (y (sym e ∙ fast-none o))
+
+  -- and it passes if and only if it is as the law says, if that asks for words
+  pub data-sound : (dataFault d s k h (sizeOf s h) n named ≡ 0) ↔ (isOld d ≡ true → DataSound d s k h n named)
+  data-sound = ((λ e o. old-passed o e), λ f. go (isOld d) refl f)
+    where
+      go : (t : Bool) → isOld d ≡ t → (isOld d ≡ true → DataSound d s k h n named) → dataFault d s k h z n named ≡ 0
+      go true o f = old-passes o (f o)
+      go false o f = fast-none o
 
 -- ---- a key
 

@@ -12,7 +12,7 @@ use borrow.Author.Tests.{eq-eqb, ne-eqb, eqb-true, eqb-false}
 use Rattle.answers.specs.Numbers as fault
 use Rattle.answers.specs.Tests.{pick, must, never, first, tests}
 use Rattle.answers.proofs.Tests.{first-zero, must-passed, must-passes, never-passed, never-passes}
-use Rattle.answers.proofs.Given.{Given, given}
+use Rattle.answers.proofs.Given.{Given, given, none}
 use Rattle.answers.proofs.Clashes.{impossible}
 use Rattle.reach.specs.References.{At, _∈_}
 use Rattle.volume.specs.Blocks.{wordOf, sumOf}
@@ -125,6 +125,12 @@ module _ {n x : ℕ} {P : Type 0} (r : Test n x P) where
     pub on : P → y ≡ v → first x y ≡ v
     unfolding first
     on p e = rw (r .passes p) e
+
+-- a test that is made only where the flag t is true
+pub asked : {n x : ℕ} {P : Type 0} (t : Bool) → Test n x P → Test n (pick t x 0) (t ≡ true → P)
+unfolding pick
+asked true r = record { gives = r .gives; passed = λ e h. r .passed e; passes = λ f. r .passes (f refl) }
+asked false r = record { gives = none; passed = λ e h. impossible cc; passes = λ f. refl }
 
 -- the last
 pub last : (x : ℕ) → first x 0 ≡ x

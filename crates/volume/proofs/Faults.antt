@@ -8,13 +8,13 @@ use borrow.Author.Tests.{eq-eqb, ne-eqb}
 use Rattle.volume.specs.declared.disk.Disk.{Disk}
 use Rattle.answers.specs.Numbers as fault
 use Rattle.answers.specs.Tests.{tests, must, pick}
-use Rattle.volume.specs.Disks.{rootOf, fileLimit}
+use Rattle.volume.specs.Disks.{isOld, rootOf, fileLimit}
 use Rattle.volume.specs.Blocks.{wordOf, sumOf}
 use Rattle.volume.specs.Names.{nameOf, nameGood, slotOf}
 use Rattle.volume.specs.Files.{dataBlocks}
 use Rattle.volume.specs.Rules.{rootTypes, rootWords, rootFault, allZero, mapFault, bitmapFault, entryTypes}
 use Rattle.volume.specs.Rules.{entryWords, entryName, entryFault, countRules, emptyRules, fileFault, listWords}
-use Rattle.volume.specs.Rules.{listFault, dataWords, dataLinks, dataFault}
+use Rattle.volume.specs.Rules.{listFault, dataWords, dataLinks, dataRules, dataFault}
 use Rattle.answers.proofs.Tests.{go, stop, must-le, must-gt, must-true, must-false, must-eq, must-ne, then-go}
 use Rattle.answers.proofs.Tests.{then-stop}
 
@@ -162,13 +162,21 @@ module _ (s : List ℕ) (k h n f : ℕ) (p : f ≡ tests (listWords s k h)) wher
   unfolding listFault
   list-count v z e = then-go v f (listWords s k h) (countRules s k n) p z e
 
--- ---- a data block: f and v answer its two parts
+-- ---- a data block: f and v answer its two parts, which are asked on the old file system alone
 
 module _ (d : Disk) (s : List ℕ) (k h z n named f : ℕ) (p : f ≡ tests (dataWords d s k h z n)) where
-  pub data-words : (f ≡ 0 → ⊥) → f ≡ dataFault d s k h z n named
-  unfolding dataFault
+  pub data-words : (f ≡ 0 → ⊥) → f ≡ tests (dataRules d s k h z n named)
   data-words q = then-stop f (dataWords d s k h z n) (dataLinks d s k z n named) p q
 
-  pub data-links : (v : ℕ) → f ≡ 0 → v ≡ tests (dataLinks d s k z n named) → v ≡ dataFault d s k h z n named
-  unfolding dataFault
+  pub data-links : (v : ℕ) → f ≡ 0 → v ≡ tests (dataLinks d s k z n named) → v ≡ tests (dataRules d s k h z n named)
   data-links v q e = then-go v f (dataWords d s k h z n) (dataLinks d s k z n named) p q e
+
+module _ (d : Disk) (s : List ℕ) (k h z n last : ℕ) (t : Bool) (q : t ≡ isOld d) where
+  pub data-asked : (named f : ℕ) → t ≡ true → named ≡ wordOf s last 4 → f ≡ tests (dataRules d s k h z n named)
+      → f ≡ dataFault d s k h z n (wordOf s last 4)
+  unfolding dataFault pick
+  data-asked named f o e g = rw (← q, o, ← e) g
+
+  pub data-unasked : t ≡ false → 0 ≡ dataFault d s k h z n (wordOf s last 4)
+  unfolding dataFault pick
+  data-unasked o = rw (← q, o) refl

@@ -1,6 +1,5 @@
 -- Which numbers a block of each kind may give. Assumes nothing.
 use Prim.Native.Nat.{ℕ}
-use mathlib.Core.Path.{_≡_}
 use mathlib.Core.List.{List, [], _∷_}
 use Rattle.answers.specs.Numbers as fault
 use Rattle.answers.specs.Members.{_∈_}

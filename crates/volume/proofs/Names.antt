@@ -15,7 +15,7 @@ use Rattle.volume.specs.declared.disk.Disk.{Disk}
 use Rattle.answers.specs.Tests.{pick}
 use Rattle.answers.proofs.Clashes.{impossible}
 use Rattle.volume.specs.Blocks.{Holds, slots}
-use Rattle.volume.specs.Disks.{international}
+use Rattle.volume.specs.Disks.{foldsAccents}
 use Rattle.volume.specs.Names.{foldPlain, accented, foldInternational, foldOf, folded, hashFrom, slotOf, allowed}
 use Rattle.volume.specs.Names.{same, longest, nameLength, nameFrom, nameOf, nameGood}
 
@@ -55,7 +55,7 @@ module _ (d : Disk) (b r : ℕ) where
   -- below the letters with accents the two foldings are one
   fold-below : b < 0xE0 → r ≡ foldPlain b → r ≡ foldOf d b
   unfolding foldOf foldInternational pick
-  fold-below h e = e ∙ go (eqb (d .kind) international)
+  fold-below h e = e ∙ go (foldsAccents d)
     where
       go : (t : Bool) → foldPlain b ≡ pick t (pick (accented b) (b - 0x20) (foldPlain b)) (foldPlain b)
       go true = rw (accented-not b h) refl
@@ -64,13 +64,14 @@ module _ (d : Disk) (b r : ℕ) where
   pub fold-ascii : b < 0x80 → r ≡ foldPlain b → r ≡ foldOf d b
   fold-ascii h e = fold-below (omega arith) e
 
-  pub fold-accents : d .kind ≡ international → r ≡ foldInternational b → r ≡ foldOf d b
-  unfolding foldOf pick
-  fold-accents k e = e ∙ rw (eq-eqb (d .kind) international k) refl
+  module _ (t : Bool) (q : t ≡ foldsAccents d) where
+    pub fold-accents : t ≡ true → r ≡ foldInternational b → r ≡ foldOf d b
+    unfolding foldOf pick
+    fold-accents h e = e ∙ rw (← q, h) refl
 
-  pub fold-other : (d .kind ≡ international → ⊥) → r ≡ foldPlain b → r ≡ foldOf d b
-  unfolding foldOf pick
-  fold-other k e = e ∙ rw (ne-eqb (d .kind) international k) refl
+    pub fold-other : t ≡ false → r ≡ foldPlain b → r ≡ foldOf d b
+    unfolding foldOf pick
+    fold-other h e = e ∙ rw (← q, h) refl
 
 -- ---- what holds of either folding: a byte folds to itself, or to the byte 20 hex lower, which folds to itself
 
@@ -87,7 +88,7 @@ folds d b = low (decLt b 97)
     below : (x y : ℕ) → x < 0xE0 → foldPlain x ≡ y → foldOf d x ≡ y
     below x y h e = sym (fold-below d x y h (sym e))
 
-    far : 122 < b → (t : Bool) → eqb (d .kind) international ≡ t → (a : Bool) → accented b ≡ a
+    far : 122 < b → (t : Bool) → foldsAccents d ≡ t → (a : Bool) → accented b ≡ a
         → (foldOf d b ≡ b) ⊎ Capital d b
     far h false p a q = inl (rw p (fold-high b h))
     far h true p false q = inl (rw (p, q) (fold-high b h))
@@ -102,7 +103,7 @@ folds d b = low (decLt b 97)
         })
 
     high : 97 ≤ b → Dec (b ≤ 122) → (foldOf d b ≡ b) ⊎ Capital d b
-    high g (no h) = far (omega arith) (eqb (d .kind) international) refl (accented b) refl
+    high g (no h) = far (omega arith) (foldsAccents d) refl (accented b) refl
     high g (yes h) =
         let x : b < 0xE0 = omega arith in
         let y : b - 0x20 < 0xE0 = omega arith in

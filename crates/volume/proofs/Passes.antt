@@ -1,16 +1,18 @@
 -- What a block that passes its tests is, part by part, and that nothing else passes. Assumes nothing.
-use Prim.Native.Nat.{ℕ, _≤_}
+use Prim.Native.Nat.{ℕ}
 use mathlib.Core.Path.{_≡_}
 use mathlib.Core.Logic.{_↔_}
+use mathlib.Core.Bool.{true}
 use mathlib.Core.List.{List}
 use Rattle.volume.specs.declared.disk.Disk.{Disk}
-use Rattle.volume.specs.Disks.{rootOf, fileLimit}
-use Rattle.volume.specs.Blocks.{wordOf, sumOf}
-use Rattle.volume.specs.Files.{sizeOf, blocksOf}
-use Rattle.volume.specs.Law.{Root, Valid, KeyCount, ListBlock, DataBlock}
+use Rattle.volume.specs.Disks.{isOld, rootOf}
+use Rattle.volume.specs.Blocks.{sumOf}
+use Rattle.volume.specs.Files.{sizeOf}
+use Rattle.volume.specs.Law.{Root, Valid, KeyCount, ListBlock}
 use Rattle.volume.specs.Rules.{rootFault, mapFault, bitmapFault, entryFault, fileFault, listFault, dataFault}
 -- an entry that passes is placed
 pub use Rattle.volume.specs.Breaks.{EntrySound}
+use Rattle.volume.specs.Breaks.{HeaderSound, DataSound}
 pub use Rattle.volume.proofs.Checks.{_&_}
 use Rattle.volume.proofs.Checks.{sum-test}
 use Rattle.volume.proofs.Breaks.{root-sound, map-sound, entry-sound, header-sound, list-sound, data-sound}
@@ -61,23 +63,17 @@ module _ (s : List ℕ) (k h n : ℕ) where
 -- ---- a file's own tests
 
 module _ (d : Disk) (s : List ℕ) (k : ℕ) where
-  abbrev n : ℕ
-  n = blocksOf d s k
+  pub file-passed : fileFault d s k ≡ 0 → HeaderSound d s k
+  file-passed = header-sound d s k .0
 
-  pub file-passed : fileFault d s k ≡ 0 → (sizeOf s k ≤ fileLimit d) × KeyCount s k n × (n ≡ 0 → wordOf s k 4 ≡ 0)
-  file-passed e = let p = header-sound d s k .0 e in (p .size, p .lists, p .empty)
+  pub file-passes : HeaderSound d s k → fileFault d s k ≡ 0
+  file-passes = header-sound d s k .1
 
-  pub file-passes : (sizeOf s k ≤ fileLimit d) × KeyCount s k n × (n ≡ 0 → wordOf s k 4 ≡ 0) → fileFault d s k ≡ 0
-  file-passes p = header-sound d s k .1 (record { size = p .0; lists = p .1; empty = p .2 })
-
--- ---- data block n of the file h
+-- ---- data block n of the file h: nothing is asked of it on the Fast File System
 
 module _ (d : Disk) (s : List ℕ) (k h n named : ℕ) where
-  abbrev Linked : Type 0
-  Linked = (named ≡ k) × (n ≡ blocksOf d s h → wordOf s k 4 ≡ 0)
+  pub data-passed : dataFault d s k h (sizeOf s h) n named ≡ 0 → isOld d ≡ true → DataSound d s k h n named
+  data-passed = data-sound d s k h n named .0
 
-  pub data-passed : dataFault d s k h (sizeOf s h) n named ≡ 0 → (sumOf s k ≡ 0) × DataBlock d s h n k × Linked
-  data-passed e = let p = data-sound d s k h n named .0 e in (p .0, p .1 .block, (p .1 .here, p .1 .last))
-
-  pub data-passes : (sumOf s k ≡ 0) × DataBlock d s h n k × Linked → dataFault d s k h (sizeOf s h) n named ≡ 0
-  data-passes p = data-sound d s k h n named .1 (p .0, record { block = p .1; here = p .2 .0; last = p .2 .1 })
+  pub data-passes : (isOld d ≡ true → DataSound d s k h n named) → dataFault d s k h (sizeOf s h) n named ≡ 0
+  data-passes = data-sound d s k h n named .1

@@ -1,40 +1,68 @@
 -- Laws of a disk's numbers and of a file's. Assumes nothing.
-use Prim.Native.Nat.{ℕ, _-_, _*_, _≤_, _<_}
+use Prim.Native.Nat.{ℕ, _+_, _-_, _*_, _/_, _≤_, _<_}
 use mathlib.Core.Path.{_≡_, refl}
 use mathlib.Core.Bool.{Bool, true, false}
 use lib.Dec.{ltb}
 use borrow.Author.Tests.{ltb-true, ltb-false}
+use native.Mathlib.Nat.{mul-le-mul}
 use native.Mathlib.Omega.{arith}
 use Rattle.volume.specs.declared.disk.Disk.{Disk}
 use Rattle.answers.specs.Tests.{pick}
 use Rattle.answers.proofs.Clashes.{impossible}
-use Rattle.volume.specs.Blocks.{dataRoom}
-use Rattle.volume.specs.Disks.{Sized, mostBlocks, firstKey, inRange, dataBytes, fileLimit}
+use Rattle.volume.specs.Blocks.{blockBytes, dataRoom}
+use Rattle.volume.specs.Disks.{Sized, mostBlocks, firstKey, isOld, inRange, dataBytes, dataStart, fileLimit}
 use Rattle.volume.specs.Files.{dataBlocks, heldOf}
 
--- the one place where the data rule's number stands
-pub data-is : (d : Disk) → dataBytes d ≡ dataRoom
-unfolding dataBytes
-data-is d = refl
+-- what holds of both numbers that the data rule may give holds of the one that it gives
+pub by-data : (P : ℕ → Type 0) (d : Disk) → P dataRoom → P blockBytes → P (dataBytes d)
+unfolding dataBytes pick
+by-data P d old fast = go (isOld d)
+  where
+    go : (t : Bool) → P (pick t dataRoom blockBytes)
+    go true = old
+    go false = fast
+
+-- the number that it gives, as code tests it
+module _ (d : Disk) (t : Bool) (e : t ≡ isOld d) where
+  pub data-old : t ≡ true → dataRoom ≡ dataBytes d
+  unfolding dataBytes pick
+  data-old h = rw (← e, h) refl
+
+  pub data-fast : t ≡ false → blockBytes ≡ dataBytes d
+  unfolding dataBytes pick
+  data-fast h = rw (← e, h) refl
+
+-- so many bytes in each data block, at most all of its bytes: those of the largest file, and those before data block n
+module _ (b : ℕ) (h : b ≤ blockBytes) where
+  pub limit-fits : (d : Disk) → Sized d → (d .blocks - 5) * b ≤ 2079232
+  limit-fits d y = let k : d .blocks - 5 ≤ 4061 = omega (arith, y .most) in mul-le-mul k h
+
+  pub before-fits : (n : ℕ) → n ≤ mostBlocks → (n - 1) * b ≤ 2081280
+  before-fits n l = let k : n - 1 ≤ 4065 = omega arith in mul-le-mul k h
 
 module _ (d : Disk) where
+  -- a data block holds some bytes, which end with it
+  pub data-some : 1 ≤ dataBytes d
+  data-some = by-data (λ b. 1 ≤ b) d (omega arith) (omega arith)
+
+  pub data-most : dataBytes d ≤ blockBytes
+  data-most = by-data (λ b. b ≤ blockBytes) d (omega arith) (omega arith)
+
+  pub data-inside : dataStart d + dataBytes d ≤ blockBytes
+  unfolding dataStart
+  data-inside = omega (arith, data-most)
+
   pub limit-most : Sized d → fileLimit d ≤ 2079232
-  limit-most h = rw (data-is d) (omega arith)
+  limit-most h = limit-fits (dataBytes d) data-most d h
 
-  -- n data blocks hold z bytes, and n - 1 do not
+  -- its data blocks hold a file
   pub blocks-hold : (z : ℕ) → z ≤ dataBlocks d z * dataBytes d
-  blocks-hold z = rw (data-is d) (omega arith)
-
-  pub blocks-tight : (z : ℕ) → 1 ≤ z → (dataBlocks d z - 1) * dataBytes d < z
-  blocks-tight z h = rw (data-is d) (omega arith)
+  blocks-hold z = by-data (λ b. z ≤ (z + (b - 1)) / b * b) d (omega arith) (omega arith)
 
   -- a size within the limit has no more data blocks than the disk has room for
   pub blocks-most : (z : ℕ) → z ≤ fileLimit d → dataBlocks d z ≤ d .blocks - 5
-  blocks-most z h = let k = rw (data-is d) at h in rw (data-is d) (omega arith)
-
-  -- the bytes before data block n
-  pub before-most : (n : ℕ) → n ≤ mostBlocks → (n - 1) * dataBytes d ≤ 2081280
-  before-most n h = rw (data-is d) (omega arith)
+  blocks-most z =
+      by-data (λ b. z ≤ (d .blocks - 5) * b → (z + (b - 1)) / b ≤ d .blocks - 5) d (λ h. omega arith) (λ h. omega arith)
 
   -- ---- a key in range lies between the boot blocks and the end
 

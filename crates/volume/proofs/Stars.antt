@@ -4,13 +4,15 @@ use mathlib.Core.Path.{refl}
 use mathlib.Core.Logic.{inl, inr}
 use Rattle.answers.specs.Members.{_∈_}
 use Rattle.answers.specs.Tests.{pick}
-use Rattle.volume.specs.Disks.{kinds, floppy, dataBytes}
+use Rattle.volume.specs.Disks.{kinds, isOld, foldsAccents, floppy, dataBytes}
 use Rattle.volume.specs.Names.{slotOf, hashFrom, foldOf, foldInternational, accented, foldPlain}
 use Rattle.volume.specs.Stars.{answer, stars, Hold}
 
--- on a disk of either kind
-pub stars-hold : (k : ℕ) → k ∈ kinds → Hold (floppy k) stars
-unfolding answer slotOf hashFrom foldOf foldInternational accented foldPlain pick dataBytes
+-- on a disk of each kind
+pub stars-hold : (k : ℕ) → k ∈ kinds → Hold (floppy k) (stars (floppy k))
+unfolding answer slotOf hashFrom foldOf foldsAccents foldInternational accented foldPlain pick isOld dataBytes
 stars-hold k (inl e) = rw e refl
 stars-hold k (inr (inl e)) = rw e refl
-stars-hold k (inr (inr x)) = absurd x
+stars-hold k (inr (inr (inl e))) = rw e refl
+stars-hold k (inr (inr (inr (inl e)))) = rw e refl
+stars-hold k (inr (inr (inr (inr x)))) = absurd x

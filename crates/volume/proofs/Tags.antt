@@ -1,5 +1,5 @@
 -- Laws of boot tags: the kind that an image's tag names, and the disk that the image is taken for. Assumes nothing.
-use Prim.Native.Nat.{ℕ, _%_, _<_}
+use Prim.Native.Nat.{ℕ, zero, suc, _%_, _≤_, _<_}
 use mathlib.Core.Path.{_≡_, refl, ap, sym, _∙_, subst}
 use mathlib.Core.Logic.{_≢_, _↔_, inl, inr}
 use mathlib.Core.Bool.{Bool, true, false}
@@ -13,7 +13,8 @@ use Rattle.answers.specs.Tests.{pick}
 use Rattle.words.specs.Word.{wordAt}
 use Rattle.volume.specs.declared.disk.Disk.{Disk}
 use Rattle.volume.specs.Law.{Volume, IsVolume}
-use Rattle.volume.specs.Disks.{plain, international, kinds, floppy, Sized, tagOf, tagByte, kindIn, diskOf, NoTag}
+use Rattle.volume.specs.Disks.{old, fastInternational, kinds, floppy, Sized, tagOf, tagByte, kindIn, diskOf}
+use Rattle.volume.specs.Disks.{NoTag}
 
 true-is : (b : Bool) → T b → b ≡ true
 true-is true h = refl
@@ -22,6 +23,21 @@ true-is false h = absurd h
 pub floppy-sized : (k : ℕ) → k ∈ kinds → Sized (floppy k)
 floppy-sized k m = record { least = omega arith; most = omega arith; kind = true-is (has kinds k) (found kinds k m) }
 
+-- the kinds are 0 to 3
+kind-small : (k : ℕ) → k ∈ kinds → k ≤ fastInternational
+kind-small k (inl e) = omega (arith, e)
+kind-small k (inr (inl e)) = omega (arith, e)
+kind-small k (inr (inr (inl e))) = omega (arith, e)
+kind-small k (inr (inr (inr (inl e)))) = omega (arith, e)
+kind-small k (inr (inr (inr (inr x)))) = absurd x
+
+kind-listed : (k : ℕ) → k ≤ fastInternational → T (has kinds k)
+kind-listed zero h = tt
+kind-listed (suc zero) h = tt
+kind-listed (suc (suc zero)) h = tt
+kind-listed (suc (suc (suc zero))) h = tt
+kind-listed (suc (suc (suc (suc k)))) h = absurd (omega arith)
+
 module _ (s : List ℕ) where
   -- ---- the kind, from the word that code reads
 
@@ -29,26 +45,20 @@ module _ (s : List ℕ) where
   unfolding kindIn pick
   named {w} e h = rw (e, true-is (has kinds w) h) refl
 
-  pub kind-short : length s < 4 → plain ≡ kindIn s
+  pub kind-short : length s < 4 → old ≡ kindIn s
   unfolding wordAt
   kind-short h = let z = List·getD-eq-default s 0 {n = 3} (omega arith) in named (omega (arith, z)) tt
 
-  pub kind-named : (w : ℕ) → w ≡ wordAt s 0 → w % 256 ≡ international → international ≡ kindIn s
-  kind-named w q e = named (rw q at e) tt
+  pub kind-named : (w : ℕ) → w ≡ wordAt s 0 → w % 256 ≤ fastInternational → w % 256 ≡ kindIn s
+  kind-named w q h = named (ap (λ (x : ℕ). x % 256) (sym q)) (kind-listed (w % 256) h)
 
-  -- of the kinds that exist only plain is left
-  pub kind-plain : (w : ℕ) → w ≡ wordAt s 0 → (w % 256 ≡ international → ⊥) → plain ≡ kindIn s
+  pub kind-old : (w : ℕ) → w ≡ wordAt s 0 → fastInternational < w % 256 → old ≡ kindIn s
   unfolding kindIn pick
-  kind-plain w q n = go (has kinds (tagByte s)) refl
+  kind-old w q h = go (has kinds (tagByte s)) refl
     where
-      go : (b : Bool) → has kinds (tagByte s) ≡ b → plain ≡ pick b (tagByte s) plain
+      go : (b : Bool) → has kinds (tagByte s) ≡ b → old ≡ pick b (tagByte s) old
       go false e = refl
-      go true e = only (listed kinds (tagByte s) (rw e tt))
-        where
-          only : tagByte s ∈ kinds → plain ≡ tagByte s
-          only (inl z) = sym z
-          only (inr (inl z)) = absurd (n (ap (λ (x : ℕ). x % 256) q ∙ z))
-          only (inr (inr x)) = absurd x
+      go true e = absurd (omega (arith, kind-small (tagByte s) (listed kinds (tagByte s) (rw e tt)), q))
 
   -- ---- the disk of an image
 
@@ -56,7 +66,7 @@ module _ (s : List ℕ) where
   unfolding kindIn pick
   kind-known = go (has kinds (tagByte s)) refl
     where
-      go : (b : Bool) → has kinds (tagByte s) ≡ b → pick b (tagByte s) plain ∈ kinds
+      go : (b : Bool) → has kinds (tagByte s) ≡ b → pick b (tagByte s) old ∈ kinds
       go true e = listed kinds (tagByte s) (rw e tt)
       go false e = inl refl
 
@@ -68,9 +78,7 @@ module _ (s : List ℕ) where
   tag-disk k m t = ap floppy (sym (named (last k m t) (found kinds k m)))
     where
       last : (k : ℕ) → k ∈ kinds → wordAt s 0 ≡ tagOf (floppy k) → tagByte s ≡ k
-      last k (inl e) t = omega (arith, t, e)
-      last k (inr (inl e)) t = omega (arith, t, e)
-      last k (inr (inr x)) t = absurd x
+      last k m t = omega (arith, t, kind-small k m)
 
   -- it has not the tag of the disk that it is taken for if and only if it has that of no kind: 3
   pub no-tag : (wordAt s 0 ≢ tagOf (diskOf s)) ↔ NoTag s

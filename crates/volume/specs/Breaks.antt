@@ -9,8 +9,8 @@ use mathlib.Core.List.{List, [], _∷_}
 use Rattle.answers.specs.Numbers as fault
 use Rattle.reach.specs.References.{At, _∈_}
 use Rattle.volume.specs.declared.disk.Disk.{Disk}
-use Rattle.volume.specs.Disks.{firstKey, rootOf, fileLimit}
-use Rattle.volume.specs.Blocks.{slots, wordOf, sumOf, directory, headerType, dataType, softLink, directoryLink}
+use Rattle.volume.specs.Disks.{isOld, firstKey, rootOf, fileLimit}
+use Rattle.volume.specs.Blocks.{wordOf, sumOf, directory, headerType, dataType, softLink, directoryLink}
 use Rattle.volume.specs.Blocks.{fileLink}
 use Rattle.volume.specs.Names.{nameOf, nameGood, slotOf}
 use Rattle.volume.specs.Files.{sizeOf, blocksOf, keysOf}
@@ -82,11 +82,11 @@ pub data EntryBreaks (d : Disk) (s : List ℕ) (k t i v : ℕ) : Type 0 where
 
 -- ---- a file, by its header h: 14
 
--- its size, w2 and w126, and w4 of an empty file
+-- its size, w2 and w126, and on the old file system w4 of an empty file
 pub record HeaderSound (d : Disk) (s : List ℕ) (h : ℕ) : Type 0 where
   pub size : sizeOf s h ≤ fileLimit d
   pub lists : KeyCount s h (blocksOf d s h)
-  pub empty : blocksOf d s h ≡ 0 → wordOf s h 4 ≡ 0
+  pub empty : isOld d ≡ true → blocksOf d s h ≡ 0 → wordOf s h 4 ≡ 0
 
 pub data HeaderBreaks (d : Disk) (s : List ℕ) (h v : ℕ) : Type 0 where
   header-14 : (HeaderSound d s h → ⊥) → v ≡ fault.fileLayout → HeaderBreaks d s h v
@@ -105,7 +105,7 @@ pub data ListBreaks (s : List ℕ) (k h n v : ℕ) : Type 0 where
   list-10 : sumOf s k ≡ 0 → ListKind s k → (ListBlock s h k → ⊥) → v ≡ fault.wrongTies → ListBreaks s k h n v
   list-14 : sumOf s k ≡ 0 → ListBlock s h k → (KeyCount s k n → ⊥) → v ≡ fault.fileLayout → ListBreaks s k h n v
 
--- ---- data block n of the file h, block k; `named` is the w4 of the block before it: 7, 8, 15
+-- ---- data block n of the file h, block k, on the old file system; `named` is the w4 of the block before it: 7, 8, 15
 
 -- data block i, counted from 0, is block k, and c is the data block before it; the header for the first
 pub record IsData (d : Disk) (s : List ℕ) (h i k c : ℕ) : Type 0 where
@@ -117,6 +117,11 @@ pub record DataTies (d : Disk) (s : List ℕ) (k h n named : ℕ) : Type 0 where
   pub block : DataBlock d s h n k
   pub here : named ≡ k
   pub last : n ≡ blocksOf d s h → wordOf s k 4 ≡ 0
+
+-- all of it
+pub record DataSound (d : Disk) (s : List ℕ) (k h n named : ℕ) : Type 0 where
+  pub sum : sumOf s k ≡ 0
+  pub ties : DataTies d s k h n named
 
 pub data DataBreaks (d : Disk) (s : List ℕ) (k h n named v : ℕ) : Type 0 where
   data-7 : sumOf s k ≢ 0 → v ≡ fault.blockSum → DataBreaks d s k h n named v

@@ -16,15 +16,32 @@ use Rattle.volume.specs.Blocks.{blockBytes, dataRoom}
 -- ---- kinds, each by the last byte of its boot tag
 
 -- the old file system
-abbrev pub plain : ℕ
-plain = 0
+abbrev pub old : ℕ
+old = 0
 
--- the old file system, where letters with accents are folded as well
-abbrev pub international : ℕ
-international = 2
+-- the Fast File System
+abbrev pub fast : ℕ
+fast = 1
+
+-- the same two, with letters with accents folded as well
+abbrev pub oldInternational : ℕ
+oldInternational = 2
+
+abbrev pub fastInternational : ℕ
+fastInternational = 3
 
 abbrev pub kinds : List ℕ
-kinds = plain ∷ international ∷ []
+kinds = old ∷ fast ∷ oldInternational ∷ fastInternational ∷ []
+
+-- ---- what a kind decides: two things, each by itself
+
+-- a disk of the old file system: its data blocks have words of their own, before the bytes of the file
+unfoldable pub isOld : Disk → Bool
+isOld d = has (old ∷ oldInternational ∷ []) (d .kind)
+
+-- letters with accents are folded
+unfoldable pub foldsAccents : Disk → Bool
+foldsAccents d = has (oldInternational ∷ fastInternational ∷ []) (d .kind)
 
 -- ---- a disk's numbers
 
@@ -72,13 +89,13 @@ bitSpan d = d .blocks - firstKey
 abbrev pub chainLimit : Disk → ℕ
 chainLimit d = d .blocks - 4
 
--- how many bytes of a file a data block holds
+-- how many bytes of a file a data block holds: all of its bytes, but for words of its own
 unfoldable pub dataBytes : Disk → ℕ
-dataBytes d = dataRoom
+dataBytes d = pick (isOld d) dataRoom blockBytes
 
 -- the byte of a data block at which they begin
 unfoldable pub dataStart : Disk → ℕ
-dataStart d = blockBytes - dataRoom
+dataStart d = blockBytes - dataBytes d
 
 -- a file has at most a data block for each block but the boot blocks, the root, the bitmap block and its header
 abbrev pub fileLimit : Disk → ℕ
@@ -90,9 +107,9 @@ fileLimit d = (d .blocks - 5) * dataBytes d
 abbrev pub tagByte : List ℕ → ℕ
 tagByte s = wordAt s 0 % 256
 
--- the kind that it names. Where it names none, plain is taken: that kind has another tag, so the image is refused by 3.
+-- the kind that it names. Where it names none, `old` is taken: that kind has another tag, so the image is refused by 3.
 unfoldable pub kindIn : List ℕ → ℕ
-kindIn s = pick (has kinds (tagByte s)) (tagByte s) plain
+kindIn s = pick (has kinds (tagByte s)) (tagByte s) old
 
 -- what every call that is lent an image takes it for
 abbrev pub diskOf : List ℕ → Disk

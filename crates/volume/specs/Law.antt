@@ -4,19 +4,19 @@
 use Prim.Native.Nat.{ℕ, zero, suc, _+_, _-_, _*_, _≤_, _<_}
 use mathlib.Core.Path.{_≡_}
 use mathlib.Core.Logic.{_≢_, _⊎_, _↔_}
-use mathlib.Core.Bool.{true, false}
+use mathlib.Core.Bool.{Bool, true, false}
 use mathlib.Core.List.{List, [], _∷_, _++_, map}
 use lib.ListN.{length}
 use Rattle.words.specs.Word.{wordAt}
 use Rattle.reach.specs.References.{At, _∈_, Reached, Owned}
 use Rattle.volume.specs.declared.disk.Disk.{Disk}
-use Rattle.volume.specs.Disks.{kinds, floppy, firstKey, imageBytes, tagOf, rootOf, fileLimit}
+use Rattle.volume.specs.Disks.{kinds, isOld, floppy, firstKey, imageBytes, tagOf, rootOf, fileLimit}
 use Rattle.volume.specs.Blocks.{slots, wordOf, sumOf, slotWord, directory, headerType, listType, dataType}
 use Rattle.volume.specs.Blocks.{rootKind, directoryKind, fileKind}
 use Rattle.volume.specs.Names.{folded, slotOf, nameOf, nameGood}
 use Rattle.volume.specs.Files.{heldOf, keysHere, sizeOf, blocksOf, listsOf, keysOf}
 use Rattle.volume.specs.Bitmap.{isFree}
-use Rattle.volume.specs.References.{Ref, to, entry, references}
+use Rattle.volume.specs.References.{Kind, root, bitmap, list, datum, Ref, to, entry, references}
 
 -- ---- the root, block r
 
@@ -91,7 +91,7 @@ pub record ListBlock (s : List ℕ) (h b : ℕ) : Type 0 where
   pub own : wordOf s b 1 ≡ b
   pub parent : wordOf s b 125 ≡ h
 
--- data block n of the file, counted from 1
+-- data block n of the file, counted from 1, on a disk whose data blocks have words of their own
 pub record DataBlock (d : Disk) (s : List ℕ) (h n k : ℕ) : Type 0 where
   pub type : wordOf s k 0 ≡ dataType
   pub parent : wordOf s k 1 ≡ h
@@ -103,17 +103,26 @@ pub record File (d : Disk) (s : List ℕ) (h : ℕ) : Type 0 where
   -- the header and the list blocks, one by one
   pub counts : (i b : ℕ) → At i b (h ∷ listsOf d s h) → KeyCount s b (blocksOf d s h - slots * i)
   pub lists : (b : ℕ) → b ∈ listsOf d s h → ListBlock s h b
-  pub blocks : (i k : ℕ) → At i k (keysOf d s h) → DataBlock d s h (suc i) k
-  -- w4 of the header and of each data block is the key of the data block that follows, and 0 in the last
-  pub following : map (λ k. wordOf s k 4) (h ∷ keysOf d s h) ≡ keysOf d s h ++ (0 ∷ [])
+  -- on the Fast File System nothing more is asked; on the old one, the words of the data blocks,
+  pub blocks : isOld d ≡ true → (i k : ℕ) → At i k (keysOf d s h) → DataBlock d s h (suc i) k
+  -- and w4 of the header and of each data block is the key of the data block that follows, and 0 in the last
+  pub following : isOld d ≡ true → map (λ k. wordOf s k 4) (h ∷ keysOf d s h) ≡ keysOf d s h ++ (0 ∷ [])
 
 -- ---- the tree: everything but w78 and the bits
+
+-- whose words add up to 0, by the kind that the reference asks for: of data blocks only those of the old file system
+abbrev pub summed : Disk → Kind → Bool
+summed d root = true
+summed d bitmap = true
+summed d entry = true
+summed d list = true
+summed d datum = isOld d
 
 pub record Tree (d : Disk) (s : List ℕ) : Type 0 where
   pub long : length s ≡ imageBytes d
   pub tag : wordAt s 0 ≡ tagOf d
   pub keys : (r : Ref) → Reached (references d s) r → (firstKey ≤ r .key) × (r .key < d .blocks)
-  pub sums : (r : Ref) → Reached (references d s) r → sumOf s (r .key) ≡ 0
+  pub sums : (r : Ref) → Reached (references d s) r → summed d (r .kind) ≡ true → sumOf s (r .key) ≡ 0
   pub top : Root s (rootOf d)
   pub entries : (k : ℕ) → Reached (references d s) (to entry k) → Entry s k
   pub holds : Directory d s (rootOf d)

@@ -7,7 +7,7 @@ use lib.Dec.{leb, eqb}
 use lib.ListN.{length, getD}
 use lib.Seq.{slice}
 use Rattle.volume.specs.declared.disk.Disk.{Disk}
-use Rattle.volume.specs.Disks.{international}
+use Rattle.volume.specs.Disks.{foldsAccents}
 use Rattle.volume.specs.Blocks.{blockBytes, slots}
 use Rattle.answers.specs.Tests.{pick}
 
@@ -25,7 +25,7 @@ foldInternational b = pick (accented b) (b - 0x20) (foldPlain b)
 
 -- a byte folded as its disk folds it
 unfoldable pub foldOf : Disk → ℕ → ℕ
-foldOf d b = pick (eqb (d .kind) international) (foldInternational b) (foldPlain b)
+foldOf d b = pick (foldsAccents d) (foldInternational b) (foldPlain b)
 
 abbrev pub folded : Disk → List ℕ → List ℕ
 folded d name = map (foldOf d) name

@@ -8,7 +8,7 @@ use lib.Dec.{leb, eqb}
 use Rattle.volume.specs.declared.disk.Disk.{Disk}
 use Rattle.answers.specs.Numbers as fault
 use Rattle.answers.specs.Tests.{pick, must, never, tests}
-use Rattle.volume.specs.Disks.{rootOf, fileLimit}
+use Rattle.volume.specs.Disks.{isOld, rootOf, fileLimit}
 use Rattle.volume.specs.Blocks.{slots, wordOf, sumOf, directory, headerType, listType, dataType, rootKind}
 use Rattle.volume.specs.Blocks.{fileKind, softLink, directoryLink, fileLink}
 use Rattle.volume.specs.Names.{nameOf, nameGood, slotOf}
@@ -100,9 +100,12 @@ countRules s k n =
 
 -- ---- a file's own tests, of its header k
 
--- an empty file has no first data block
+-- an empty file of the old file system names no first data block
+abbrev pub emptyRule : Disk → List ℕ → ℕ → ℕ → ℕ
+emptyRule d s k n = pick (isOld d) (pick (eqb n 0) (must (eqb (wordOf s k 4) 0) fault.fileLayout) 0) 0
+
 abbrev pub emptyRules : Disk → List ℕ → ℕ → ℕ → List ℕ
-emptyRules d s k n = pick (eqb n 0) (must (eqb (wordOf s k 4) 0) fault.fileLayout) 0 ∷ []
+emptyRules d s k n = emptyRule d s k n ∷ []
 
 unfoldable pub fileFault : Disk → List ℕ → ℕ → ℕ
 fileFault d s k =
@@ -124,7 +127,8 @@ listWords s k h =
 unfoldable pub listFault : List ℕ → ℕ → ℕ → ℕ → ℕ
 listFault s k h n = tests (listWords s k h ++ countRules s k n)
 
--- ---- data block n of the file h, of z bytes; `named` is the w4 of the block before it
+-- ---- data block n of the file h, of z bytes; `named` is the w4 of the block before it. Only the old file system has
+-- tests of it.
 
 abbrev pub dataWords : Disk → List ℕ → ℕ → ℕ → ℕ → ℕ → List ℕ
 dataWords d s k h z n =
@@ -141,5 +145,8 @@ dataLinks d s k z n named =
     ∷ pick (eqb n (dataBlocks d z)) (must (eqb (wordOf s k 4) 0) fault.dataLayout) 0
     ∷ []
 
+abbrev pub dataRules : Disk → List ℕ → ℕ → ℕ → ℕ → ℕ → ℕ → List ℕ
+dataRules d s k h z n named = dataWords d s k h z n ++ dataLinks d s k z n named
+
 unfoldable pub dataFault : Disk → List ℕ → ℕ → ℕ → ℕ → ℕ → ℕ → ℕ
-dataFault d s k h z n named = tests (dataWords d s k h z n ++ dataLinks d s k z n named)
+dataFault d s k h z n named = pick (isOld d) (tests (dataRules d s k h z n named)) 0

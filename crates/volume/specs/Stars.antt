@@ -3,6 +3,8 @@ use Prim.Native.Nat.{ℕ}
 use mathlib.Core.Path.{_≡_}
 use mathlib.Core.List.{List, [], _∷_, map}
 use Rattle.volume.specs.declared.disk.Disk.{Disk}
+use Rattle.answers.specs.Tests.{pick}
+use Rattle.volume.specs.Disks.{isOld}
 use Rattle.volume.specs.Names.{slotOf}
 use Rattle.volume.specs.Files.{dataBlocks, keysHere, listBlocks, lastKeys}
 use Rattle.volume.specs.Bitmap.{bitWord, bitNumber}
@@ -28,9 +30,19 @@ pub record Case : Type 0 where
 abbrev pub case : Star → List ℕ → Case
 case q a = record { of = q; is = a }
 
+-- sizes of 0, 1, 2, 72 and 73 data blocks: those of 1 and of 72 are full
+abbrev pub sizes : ℕ → ℕ → ℕ → ℕ → List Case
+sizes one two many more =
+    case (size 0) (0 ∷ 0 ∷ 0 ∷ 0 ∷ [])
+    ∷ case (size one) (1 ∷ 1 ∷ 0 ∷ 1 ∷ [])
+    ∷ case (size two) (2 ∷ 2 ∷ 0 ∷ 2 ∷ [])
+    ∷ case (size many) (72 ∷ 72 ∷ 0 ∷ 72 ∷ [])
+    ∷ case (size more) (73 ∷ 72 ∷ 1 ∷ 1 ∷ [])
+    ∷ []
+
 -- "a", "A", "c", "s", "MARY"; blocks; sizes
-abbrev pub stars : List Case
-stars =
+abbrev pub stars : Disk → List Case
+stars d =
     case (slot (97 ∷ [])) (6 ∷ [])
     ∷ case (slot (65 ∷ [])) (6 ∷ [])
     ∷ case (slot (99 ∷ [])) (8 ∷ [])
@@ -39,12 +51,7 @@ stars =
     ∷ case (bit 2) (1 ∷ 0 ∷ [])
     ∷ case (bit 880) (28 ∷ 14 ∷ [])
     ∷ case (bit 1759) (55 ∷ 29 ∷ [])
-    ∷ case (size 0) (0 ∷ 0 ∷ 0 ∷ 0 ∷ [])
-    ∷ case (size 488) (1 ∷ 1 ∷ 0 ∷ 1 ∷ [])
-    ∷ case (size 489) (2 ∷ 2 ∷ 0 ∷ 2 ∷ [])
-    ∷ case (size 35136) (72 ∷ 72 ∷ 0 ∷ 72 ∷ [])
-    ∷ case (size 35137) (73 ∷ 72 ∷ 1 ∷ 1 ∷ [])
-    ∷ []
+    ∷ pick (isOld d) (sizes 488 489 35136 35137) (sizes 512 513 36864 36865)
 
 -- every case has its answer
 abbrev pub Hold : Disk → List Case → Type 0

@@ -15,10 +15,8 @@ impl Block {
     // Hash slots of a directory, and data keys of a header or a list block.
     pub const SLOTS: usize = 72;
 
-    // Bytes of a file in a data block, and the byte at which they begin.
+    // Bytes of a file in a data block that has words of its own, as on the old file system; they are its last bytes.
     pub const DATA: usize = 488;
-
-    pub const DATA_START: usize = Block::BYTES - Block::DATA;
 
     // The words that have a meaning, by their numbers.
     pub const TYPE: usize = 0;

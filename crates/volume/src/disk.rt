@@ -5,8 +5,9 @@ ghost use Prim.Native.Nat.{_+_, _-_, _*_, _/_, _<_, _≤_};
 ghost use lib.ListN.{length};
 ghost use lib.Dec.{eqb};
 ghost use Rattle.words.specs.Word.{wordAt};
-ghost use Rattle.volume.specs.Disks.{Sized, mostBlocks, floppy, imageBytes, claimBytes, tagOf, rootOf, inRange};
-ghost use Rattle.volume.specs.Disks.{bitSpan, chainLimit, dataBytes, fileLimit, kindIn, diskOf};
+ghost use Rattle.volume.specs.Disks.{Sized, mostBlocks, isOld, foldsAccents, floppy, imageBytes, claimBytes};
+ghost use Rattle.volume.specs.Disks.{tagOf, rootOf, inRange, bitSpan, chainLimit, dataBytes, dataStart};
+ghost use Rattle.volume.specs.Disks.{fileLimit, kindIn, diskOf};
 ghost use Rattle.volume.specs.Files.{dataBlocks, heldOf};
 
 // The number of its blocks, and the last byte of its boot tag.
@@ -15,25 +16,31 @@ pub struct Disk {
     pub kind: u8,
 }
 
-// The kind that an image's first word names by its last byte, and the plain one where it names none.
+// The kind that an image's first word names by its last byte, and the old file system where it names none.
 fn kind_in(image: &[u8]) -> u8
     ensures { λ r. ⌜ r ≡ kindIn (now (image .entry)) ⌝ }
 {
     if image.len() < 4 {
-        return Disk::PLAIN;
+        return Disk::OLD;
     }
-    if words::word(image, 0) % 256 == Disk::INTERNATIONAL as u32 {
-        return Disk::INTERNATIONAL;
+    let last = words::word(image, 0) % 256;
+    if last <= Disk::FAST_INTERNATIONAL as u32 {
+        return last as u8;
     }
-    Disk::PLAIN
+    Disk::OLD
 }
 
 impl Disk {
     // The old file system.
-    pub const PLAIN: u8 = 0;
+    pub const OLD: u8 = 0;
 
-    // The same, where letters with accents are folded as well.
-    pub const INTERNATIONAL: u8 = 2;
+    // The Fast File System.
+    pub const FAST: u8 = 1;
+
+    // The same two, with letters with accents folded as well; there are no further kinds.
+    pub const OLD_INTERNATIONAL: u8 = 2;
+
+    pub const FAST_INTERNATIONAL: u8 = 3;
 
     // The two boot blocks have no key.
     pub const FIRST_KEY: u32 = 2;
@@ -48,12 +55,32 @@ impl Disk {
         }
     }
 
-    // The disk that an image is taken for, by the last byte of its first word; a plain one where that is of no kind. An
+    // The disk that an image is taken for, by the last byte of its first word; of kind 00 where that is of no kind. An
     // image with the tag of no kind does not have the tag of that disk.
     pub fn of(image: &[u8]) -> Disk
         ensures { λ r. ⌜ r ≡ diskOf (now (image .entry)) ⌝ }
     {
         Disk::floppy(kind_in(image))
+    }
+
+    // Whether it is of the old file system, whose data blocks have words of their own.
+    pub fn is_old(self) -> bool
+        ensures { λ r. ⌜ r ≡ isOld self ⌝ }
+    {
+        if self.kind == Disk::OLD {
+            return true;
+        }
+        self.kind == Disk::OLD_INTERNATIONAL
+    }
+
+    // Whether letters with accents are folded.
+    pub fn folds_accents(self) -> bool
+        ensures { λ r. ⌜ r ≡ foldsAccents self ⌝ }
+    {
+        if self.kind == Disk::OLD_INTERNATIONAL {
+            return true;
+        }
+        self.kind == Disk::FAST_INTERNATIONAL
     }
 
     // How long its image is.
@@ -112,7 +139,17 @@ impl Disk {
     pub fn data_bytes(self) -> u32
         ensures { λ r. ⌜ (r ≡ dataBytes self) × ((1 ≤ r) × (r ≤ 512)) ⌝ }
     {
-        Block::DATA as u32
+        if self.is_old() {
+            return Block::DATA as u32;
+        }
+        Block::BYTES as u32
+    }
+
+    // The byte of a data block at which they begin.
+    pub fn data_start(self) -> u32
+        ensures { λ r. ⌜ r ≡ dataStart self ⌝ }
+    {
+        Block::BYTES as u32 - self.data_bytes()
     }
 
     // The most bytes that a file has.
@@ -137,13 +174,13 @@ impl Disk {
         requires { ⌜ (1 ≤ n) × (n ≤ mostBlocks) ⌝ }
         ensures { λ r. ⌜ r ≡ heldOf self size n ⌝ }
     {
-        let bytes = self.data_bytes();
-        let before = (n - 1) * bytes;
+        let full = self.data_bytes();
+        let before = (n - 1) * full;
         if size < before {
             return 0;
         }
-        if bytes <= size - before {
-            return bytes;
+        if full <= size - before {
+            return full;
         }
         size - before
     }

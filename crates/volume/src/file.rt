@@ -8,10 +8,10 @@ ghost use mathlib.Core.Path.{_≡_};
 ghost use Prim.Native.Nat.{_≤_, _<_};
 ghost use Rattle.answers.specs.Tests.{tests};
 ghost use Rattle.volume.specs.Disks.{Sized, mostBlocks, fileLimit};
-ghost use Rattle.volume.specs.Blocks.{slots, Holds, keyWord};
+ghost use Rattle.volume.specs.Blocks.{slots, Holds, wordOf, keyWord};
 ghost use Rattle.volume.specs.Files.{keysHere, listBlocks, lastKeys};
 ghost use Rattle.volume.specs.Rules.{countRules, emptyRules, fileFault, listWords, listFault, dataWords};
-ghost use Rattle.volume.specs.Rules.{dataLinks, dataFault};
+ghost use Rattle.volume.specs.Rules.{dataLinks, dataRules, dataFault};
 
 const SLOTS: u32 = Block::SLOTS as u32;
 
@@ -68,16 +68,19 @@ fn count_fault(image: &[u8], key: u32, n: u32) -> u32
     0
 }
 
-// An empty file has no first data block.
+// An empty file of the old file system names no first data block.
 fn empty_fault(disk: Disk, image: &[u8], key: u32, n: u32) -> u32
     requires { ⌜ Holds (now image) key ⌝ }
     ensures { λ r. ⌜ r ≡ tests (emptyRules disk (now (image .entry)) key n) ⌝ }
 {
-    if n != 0 {
+    if disk.is_old() {
+        if n != 0 {
+            return 0;
+        }
+        if word_of(image, key, Block::FIRST_DATA) != 0 {
+            return Fault::FILE_LAYOUT;
+        }
         return 0;
-    }
-    if word_of(image, key, Block::FIRST_DATA) != 0 {
-        return Fault::FILE_LAYOUT;
     }
     0
 }
@@ -174,8 +177,8 @@ fn data_links_fault(disk: Disk, image: &[u8], key: u32, size: u32, n: u32, named
     0
 }
 
-// Data block n of a file of `size` bytes; `named` is the key that the block before it names.
-pub fn data_fault(
+// The words of data block n of a file of `size` bytes; `named` is the key that the block before it names.
+fn data_rules_fault(
     disk: Disk,
     image: &[u8],
     key: u32,
@@ -185,11 +188,34 @@ pub fn data_fault(
     named: u32,
 ) -> u32
     requires { ⌜ Sized disk × (size ≤ fileLimit disk) × (Holds (now image) key × ((1 ≤ n) × (n ≤ mostBlocks))) ⌝ }
-    ensures { λ r. ⌜ r ≡ dataFault disk (now (image .entry)) key header size n named ⌝ }
+    ensures { λ r. ⌜ r ≡ tests (dataRules disk (now (image .entry)) key header size n named) ⌝ }
 {
     let f = data_words_fault(disk, image, key, header, size, n);
     if f != 0 {
         return f;
     }
     data_links_fault(disk, image, key, size, n, named)
+}
+
+// Data block n of a file of `size` bytes; `last` is the data block before it, or the header. On the Fast File System
+// nothing is tested, and neither block is looked at.
+pub fn data_fault(
+    disk: Disk,
+    image: &[u8],
+    key: u32,
+    header: u32,
+    size: u32,
+    n: u32,
+    last: u32,
+) -> u32
+    requires { ⌜ Sized disk × (size ≤ fileLimit disk) × Holds (now image) key × Holds (now image) last × (1 ≤ n)
+        × (n ≤ mostBlocks) ⌝ }
+    ensures { λ r. ⌜ r ≡ dataFault disk (now (image .entry)) key header size n (wordOf (now (image .entry)) last 4) ⌝ }
+{
+    let has_words = disk.is_old();
+    if has_words {
+        let named = word_of(image, last, Block::FOLLOWING);
+        return data_rules_fault(disk, image, key, header, size, n, named);
+    }
+    0
 }

@@ -58,7 +58,7 @@ pub fn fold(disk: Disk, b: u8) -> u8
     if b < 0x80 {
         return fold_plain(b);
     }
-    if disk.kind == Disk::INTERNATIONAL {
+    if disk.folds_accents() {
         return fold_international(b);
     }
     fold_plain(b)

@@ -54,7 +54,7 @@ module _ (d : Disk) (s : List ℕ) where
           → map (bare d) (contents d s k u) ≡ pick u (slotRefs s k 0 slots) (keyRefs s k)
       go true h = slots-bare d s k 0 slots
       go false h =
-          let q = file-passed d s k (hung-passed d s k t i p e .2 h) .1 .count in
+          let q = file-passed d s k (hung-passed d s k t i p e .2 h) .lists .count in
           nodes-bare k k 0 k (keysHere (blocksOf d s k - 0)) (omega arith)
   refs-bare (list k h m c) e = nodes-bare h k m c (keysHere (blocksOf d s h - m)) (list-passed s k h _ e .2 .count)
   refs-bare (datum k h n c) e = refl

@@ -3,17 +3,18 @@
 use Prim.Native.Nat.{ℕ, suc, _-_}
 use mathlib.Core.Path.{_≡_, refl, sym, ap, _∙_, subst}
 use mathlib.Core.Logic.{_⊎_, inl, inr}
+use mathlib.Core.Bool.{true}
 use mathlib.Core.List.{List, [], _∷_, _++_}
-use native.Mathlib.Nat.{sub-zero}
 use native.Mathlib.Omega.{arith}
 use borrow.Author.Tests.{ne-eqb}
 use Rattle.answers.proofs.Clashes.{impossible}
 use Rattle.reach.specs.References.{At, _∈_, Reached}
 use Rattle.reach.proofs.Lists.{at-in, at-one, at-map}
 use Rattle.volume.specs.declared.disk.Disk.{Disk}
+use Rattle.volume.specs.Disks.{isOld}
 use Rattle.volume.specs.Blocks.{wordOf}
 use Rattle.volume.specs.Names.{nameGood}
-use Rattle.volume.specs.Files.{blocksOf, listBlocks, listsOf, keysOf}
+use Rattle.volume.specs.Files.{blocksOf, listsOf, keysOf}
 use Rattle.volume.specs.References.{Kind, Ref, to, references}
 use Rattle.volume.specs.Law.{OneBitmap, Entry, File, Tree, Valid, RootFixed}
 use Rattle.volume.specs.Breaks.{Link, HeaderSound, DataTies}
@@ -26,24 +27,24 @@ use Rattle.walk.specs.Refusals.{number-14-list, number-15, number-16}
 use Rattle.walk.proofs.Lists.{at-left, at-end}
 use Rattle.walk.proofs.Passes.{InTree, hung-passed}
 use Rattle.walk.proofs.Accepts.{node-reached}
-use Rattle.walk.proofs.Spreads.{spread-first, file-spreads}
+use Rattle.walk.proofs.Spreads.{file-header}
 use Rattle.walk.proofs.Lawful.{held-by, tree-passes}
 
 module _ (d : Disk) (s : List ℕ) (v : Tree d s) where
   -- ---- w0 and w127
 
-  node-kind : (n : Node) → InTree d s n → KindRight s (bare d n .key) (bare d n .kind)
+  node-kind : (n : Node) → InTree d s n → KindRight d s (bare d n .key) (bare d n .kind)
   unfolding faultOf
   node-kind root h = h .1 .kind
   node-kind (bitmap k) h = tt
   node-kind (entry k t i p) h = inl (entry-passed d s k t i (hung-passed d s k t i p h .0) .entry .kind)
   node-kind (list k b m c) h = list-passed s k b (blocksOf d s b - m) h .1 .kind
-  node-kind (datum k b n c) h = data-passed d s k b n (wordOf s c 4) h .1 .type
+  node-kind (datum k b n c) h = λ o. data-passed d s k b n (wordOf s c 4) h o .ties .block .type
 
-  kind-right : (a : Kind) (k : ℕ) → Reached (references d s) (to a k) → KindRight s k a
+  kind-right : (a : Kind) (k : ℕ) → Reached (references d s) (to a k) → KindRight d s k a
   kind-right a k r =
       let w = node-reached d s (tree-passes d s v) r in
-      subst (λ (x : Ref). KindRight s (x .key) (x .kind)) (sym (w .2))
+      subst (λ (x : Ref). KindRight d s (x .key) (x .kind)) (sym (w .2))
       (node-kind (w .0) (tree-passes d s v (w .0) (w .1) .1))
 
   no-link : (k : ℕ) → Entry s k → Link s k → ⊥
@@ -65,26 +66,21 @@ module _ (d : Disk) (s : List ℕ) (v : Tree d s) where
   file h f = v .files h (f .reached) (ne-eqb (wordOf s h 127) 2 (λ e. omega (arith, e, f .kind)))
 
   header : (h : ℕ) → FileAt d s h → HeaderSound d s h
-  header h f =
-      let w = file-spreads d s h .0 (file h f) in
-      record {
-        size = w .0;
-        lists = rw sub-zero at (spread-first d s h (listBlocks (blocksOf d s h)) h 0 h (w .2) .0);
-        empty = w .1;
-      }
+  header h f = file-header d s h (file h f)
 
-  module _ (h i c k : ℕ) (f : FileAt d s h) (here : At i k (keysOf d s h)) (last : At i c (h ∷ keysOf d s h)) where
+  module _ (h i c k : ℕ) (o : isOld d ≡ true) (f : FileAt d s h) (here : At i k (keysOf d s h))
+      (last : At i c (h ∷ keysOf d s h)) where
     -- what stands at a position among the w4 words
     follows : (j x y : ℕ) → At j x (h ∷ keysOf d s h) → At j y (keysOf d s h ++ (0 ∷ [])) → wordOf s x 4 ≡ y
     follows j x y a b =
         at-one j (keysOf d s h ++ (0 ∷ []))
-        (subst (At j (wordOf s x 4)) (file h f .following) (at-map (λ k. wordOf s k 4) j x (h ∷ keysOf d s h) a))
+        (subst (At j (wordOf s x 4)) (file h f .following o) (at-map (λ k. wordOf s k 4) j x (h ∷ keysOf d s h) a))
         b
 
     ties : DataTies d s k h (suc i) (wordOf s c 4)
     ties =
         record {
-          block = file h f .blocks i k here;
+          block = file h f .blocks o i k here;
           here = follows i c k last (at-left k i (keysOf d s h) (0 ∷ []) here);
           last =
               λ e. follows (suc i) k 0 here
@@ -102,7 +98,7 @@ module _ (d : Disk) (s : List ℕ) (v : Tree d s) where
   cause-breaks u n k (number-6 (p, inr (o, w)) q) =
       w (v .owned .once (p .from) (o .from) (p .to) (o .to) (p .nth) (o .nth) (p .reached) (o .reached) (p .stands)
       (o .stands) (p .keyed ∙ sym (o .keyed)))
-  cause-breaks u n k (number-7 a r h q) = h (v .sums (to a k) r)
+  cause-breaks u n k (number-7 a r o h q) = h (v .sums (to a k) r o)
   cause-breaks u n k (number-8 a r h q) = h (kind-right a k r)
   cause-breaks u n k (number-9 r l q) = no-link k (v .entries k r) l
   cause-breaks u n k (number-10 t i g x h q) =
@@ -119,6 +115,6 @@ module _ (d : Disk) (s : List ℕ) (v : Tree d s) where
   cause-breaks u n k (number-13 t i l g g′ o w e q) = w (held-by d s v t (g .holder) .names i i l k g′ (g .hangs) e)
   cause-breaks u n k (number-14 f h q) = h (header k f)
   cause-breaks u n k (number-14-list b i f a h q) = h (file b f .counts (suc i) k a)
-  cause-breaks u n k (number-15 b i c f a h q) = h (ties b i c k f (a .here) (a .before))
+  cause-breaks u n k (number-15 b i c o f a h q) = h (ties b i c k o f (a .here) (a .before))
   cause-breaks u n k (number-16 e (inl h) q) = h u
   cause-breaks u n k (number-16 e (inr h) q) = h (subst (OneBitmap s) (sym e) (v .top .rest))

@@ -16,7 +16,7 @@ use Rattle.reach.proofs.Lists.{at-map, in-at, in-either}
 use Rattle.reach.proofs.Refuses.{why}
 use Rattle.reach.proofs.Pruned.{pruned-refs, pruned-at, pruned-same}
 use Rattle.volume.specs.declared.disk.Disk.{Disk}
-use Rattle.volume.specs.Disks.{rootOf}
+use Rattle.volume.specs.Disks.{isOld, rootOf}
 use Rattle.volume.specs.Blocks.{slots, wordOf, slotWord, directory}
 use Rattle.volume.specs.Files.{keysHere, blocksOf, listsOf}
 use Rattle.volume.specs.References.{Kind, to, references}
@@ -54,12 +54,12 @@ module _ (d : Disk) (s : List ℕ) where
   -- the node is met, and it breaks a rule of its kind
   node-says : (n : Node) (v : ℕ) → Reached (references d s) (bare d n) → Stood d s n → Alone n → NodeBreaks d s n v
       → Cause d s v (keyOf d n)
-  node-says root v r c o (inl (root-7 a e)) = number-7 Kind.root r a e
+  node-says root v r c o (inl (root-7 a e)) = number-7 Kind.root r refl a e
   node-says root v r c o (inl (root-8 a b e)) = number-8 Kind.root r b e
   node-says root v r c o (inl (root-4 a b f e)) = number-4 refl f e
   node-says root v r c o (inl (root-11 a b f g e)) = number-11 (inl refl) g e
   node-says root v r c o (inr (a, map-16 b e)) = number-16 refl b e
-  node-says (bitmap k) v r c o (bitmap-7 a e) = number-7 Kind.bitmap r a e
+  node-says (bitmap k) v r c o (bitmap-7 a e) = number-7 Kind.bitmap r refl a e
   node-says (entry k t i p) v r c o b = go b
     where
       hangs : Hangs s t i k
@@ -69,7 +69,7 @@ module _ (d : Disk) (s : List ℕ) where
       hung = record { reached = r; holder = c .0; hangs = hangs }
 
       go : NodeBreaks d s (entry k t i p) v → Cause d s v k
-      go (inl (entry-7 a e)) = number-7 Kind.entry r a e
+      go (inl (entry-7 a e)) = number-7 Kind.entry r refl a e
       go (inl (entry-8 a x y e)) = number-8 Kind.entry r neither e
         where
           neither : EntryKind s k ⊎ Link s k → ⊥
@@ -98,7 +98,7 @@ module _ (d : Disk) (s : List ℕ) where
       at = tail-at d s h k m x n (c .1 .1) (c .2)
 
       go : ListBreaks s k h (blocksOf d s h - m) v → Cause d s v k
-      go (list-7 a e) = number-7 Kind.list r a e
+      go (list-7 a e) = number-7 Kind.list r refl a e
       go (list-8 a y e) = number-8 Kind.list r y e
       go (list-10 a y z e) = number-10-list h n (c .0) at y z e
       go (list-14 a y z e) =
@@ -108,11 +108,11 @@ module _ (d : Disk) (s : List ℕ) where
       f : InFile d s h n k x
       f = c .1
 
-      go : DataBreaks d s k h n (wordOf s x 4) v → Cause d s v k
-      go (data-7 a e) = number-7 Kind.datum r a e
-      go (data-8 a y e) = number-8 Kind.datum r y e
-      go (data-15 a y z e) =
-          number-15 h (f .index) x (c .0) (f .is) (subst (λ w. DataTies d s k h w (wordOf s x 4) → ⊥) (f .number) z) e
+      go : (isOld d ≡ true) × DataBreaks d s k h n (wordOf s x 4) v → Cause d s v k
+      go (o, data-7 a e) = number-7 Kind.datum r o a e
+      go (o, data-8 a y e) = number-8 Kind.datum r (λ w. y (w o)) e
+      go (o, data-15 a y z e) =
+          number-15 h (f .index) x o (c .0) (f .is) (subst (λ w. DataTies d s k h w (wordOf s x 4) → ⊥) (f .number) z) e
 
   -- two references among nodes that pass are two references among blocks
   bare-referral : (k : ℕ) → Referral (pruned (graph d s) .references) k → Referral (references d s) k
@@ -243,7 +243,7 @@ module _ (d : Disk) (s : List ℕ) where
   not-six (entry k t i p) (inr (inl (a, w, e))) = omega arith
   not-six (entry k t i p) (inr (inr (a, w, q, b))) = unlisted headerRefusals 6 6 tt (header-number b) refl
   not-six (list k h m c) b = unlisted listRefusals 6 6 tt (list-number b) refl
-  not-six (datum k h n c) b = unlisted dataRefusals 6 6 tt (data-number b) refl
+  not-six (datum k h n c) b = unlisted dataRefusals 6 6 tt (data-number (b .1)) refl
 
   taken-twice : (k : ℕ) → walkOf d s ≡ refused 6 k → Twice (references d s) k
   unfolding walkOf

@@ -19,7 +19,7 @@ use Rattle.walk.specs.Nodes.{listLink, keyBlockNodes, contents, leadsTo}
 use Rattle.walk.proofs.Nodes.{in-linked, in-slots, in-keys}
 use Rattle.walk.proofs.Chains.{chain-next}
 use Rattle.walk.proofs.Spreads.{Follows, Spread, here, spread-first, file-spreads}
-use Rattle.walk.proofs.KeyRuns.{DataSound, run-nodes}
+use Rattle.walk.proofs.KeyRuns.{NodeFollows, run-nodes}
 use Rattle.walk.proofs.Positions.{Holder}
 
 module _ (d : Disk) (s : List ℕ) where
@@ -56,7 +56,7 @@ module _ (d : Disk) (s : List ℕ) where
         go (inl a) =
             let w = in-keys s h b m c 0 n x a in
             subst Coherent (sym (w .3))
-            (subst (DataSound d s) (w .3) (run-nodes d s h b m c .0 (spread-first d s h q b m c p .1) x a))
+            (subst (NodeFollows d s) (w .3) (run-nodes d s h b m c .0 (spread-first d s h q b m c p .1) x a))
         go (inr a) =
             let r = in-linked (wordOf s b 126) (λ k. list k h (m + n) (before s b c n)) x a in
             subst Coherent (sym (r .1)) (next-coherent q refl p (r .0))

@@ -5,7 +5,6 @@ use mathlib.Core.Path.{_≡_, refl, sym, ap, _∙_, subst}
 use mathlib.Core.Logic.{_≢_, inl, inr}
 use mathlib.Core.Bool.{true, false}
 use mathlib.Core.List.{List}
-use native.Mathlib.Nat.{sub-zero}
 use native.Mathlib.Omega.{arith}
 use Rattle.reach.specs.References.{At, Reached, top, ref}
 use Rattle.reach.proofs.Lists.{at-in, at-map}
@@ -23,7 +22,7 @@ use Rattle.walk.proofs.Nodes.{NodeReached}
 use Rattle.walk.proofs.Passes.{InTree, key-passes, hung-passes}
 use Rattle.walk.proofs.Accepts.{TreePasses, key-bare, refs-bare}
 use Rattle.walk.proofs.Chains.{chain-some, twin-none}
-use Rattle.walk.proofs.Spreads.{spread-first, file-spreads}
+use Rattle.walk.proofs.Spreads.{spread-first, file-header}
 use Rattle.walk.proofs.Positions.{Holder, chain-apart}
 use Rattle.walk.proofs.Coherent.{Coherent, leads-coherent}
 
@@ -65,13 +64,7 @@ module _ (d : Disk) (s : List ℕ) (v : Tree d s) where
         chain-apart d s t i (c .0) (c .1) (v .owned) q p l some (f ∙ sym (c .2))
 
     file-lawful : directory s k ≡ false → fileFault d s k ≡ 0
-    file-lawful e =
-        let f = file-spreads d s k .0 (v .files k r e) in
-        file-passes d s k (
-          f .0,
-          rw sub-zero at (spread-first d s k (listBlocks (blocksOf d s k)) k 0 k (f .2) .0),
-          f .1,
-        )
+    file-lawful e = file-passes d s k (file-header d s k (v .files k r e))
 
     entry-lawful : faultOf d s (entry k t i p) ≡ 0
     unfolding faultOf
@@ -79,7 +72,7 @@ module _ (d : Disk) (s : List ℕ) (v : Tree d s) where
         let h = held-by t (c .0) in
         let entry-sound : EntrySound d s k t i =
         record {
-          sum = v .sums (to Kind.entry k) r;
+          sum = v .sums (to Kind.entry k) r refl;
           entry = v .entries k r;
           parent = h .parent i k hangs;
           link = λ e. v .directories k r e .0;
@@ -95,18 +88,18 @@ module _ (d : Disk) (s : List ℕ) (v : Tree d s) where
 
   fault-lawful : (n : Node) → BlockReached n → Coherent d s n → InTree d s n
   unfolding faultOf
-  fault-lawful root r c = (v .sums (bare d root) r, v .top)
-  fault-lawful (bitmap k) r c = bitmap-passed s k .1 (v .sums (bare d (bitmap k)) r)
+  fault-lawful root r c = (v .sums (bare d root) r refl, v .top)
+  fault-lawful (bitmap k) r c = bitmap-passed s k .1 (v .sums (bare d (bitmap k)) r refl)
   fault-lawful (entry k t i p) r c = entry-lawful k t i p r c
   fault-lawful (list k h m b) r c =
       list-passes s k h (blocksOf d s h - m) (
-        v .sums (bare d (list k h m b)) r,
+        v .sums (bare d (list k h m b)) r refl,
         c .0,
         spread-first d s h (listBlocks (blocksOf d s h - m)) k m b
             (c .1) .0,
       )
   fault-lawful (datum k h n b) r c =
-      data-passes d s k h n (wordOf s b 4) (v .sums (bare d (datum k h n b)) r, c .0, (c .1, c .2))
+      data-passes d s k h n (wordOf s b 4) (λ o. record { sum = v .sums (bare d (datum k h n b)) r o; ties = c o })
 
   coherent : {n : Node} → NodeReached d s n → BlockReached n × Coherent d s n
   coherent (top e) = (top (ap (bare d) e), subst (Coherent d s) (sym e) tt)

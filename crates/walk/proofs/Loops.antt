@@ -49,10 +49,10 @@ module _ (d : Disk) (s : List ℕ) (b : KeyBlock) (v : InFile d s b) where
 
   -- ---- the tests of what it leads to
 
-  pub datum-is : (k n c w f : ℕ) → w ≡ wordOf s c 4 → f ≡ dataFault d s k (b .header) (b .size) n w
+  pub datum-is : (k n c f : ℕ) → f ≡ dataFault d s k (b .header) (b .size) n (wordOf s c 4)
       → f ≡ faultOf d s (datum k (b .header) n c)
   unfolding faultOf
-  datum-is k n c w f e g = rw (← e, ← v .size) g
+  datum-is k n c f g = rw (← v .size) g
 
   pub list-is : (n f : ℕ) → n ≡ dataBlocks d (b .size) → f ≡ listFault s (b .key) (b .header) (n - b .done)
       → f ≡ faultOf d s (listNode b)
@@ -133,9 +133,9 @@ header-ready d s h b g l e =
     let y : blocksOf d s h - 0 ≡ blocksOf d s h = omega arith in
     let p = file-passed d s h e in
     rw g record {
-      file = record { size = refl; limit = p .0; header = l; last = l; done = omega arith };
+      file = record { size = refl; limit = p .size; header = l; last = l; done = omega arith };
       key = l;
-      counts = rw y (p .1);
+      counts = rw y (p .lists);
     }
 
 module _ (d : Disk) (s : List ℕ) (b : KeyBlock) where

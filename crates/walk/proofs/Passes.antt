@@ -13,12 +13,13 @@ use Rattle.answers.proofs.Tests.{pick-false}
 use Rattle.volume.specs.declared.disk.Disk.{Disk}
 use Rattle.volume.specs.Disks.{firstKey, inRange, rootOf}
 use Rattle.volume.specs.Blocks.{slotWord, wordOf, sumOf, directory}
-use Rattle.volume.specs.Law.{Root, Valid, Entry}
+use Rattle.volume.specs.Law.{Root, Valid, Entry, summed}
 use Rattle.volume.specs.Rules.{rootFault, mapFault, entryFault, fileFault}
 use Rattle.volume.proofs.Sizes.{range-is}
 use Rattle.volume.proofs.Passes.{_&_, root-passed, root-passes, map-passes, bitmap-passed, entry-passed, list-passed}
 use Rattle.volume.proofs.Passes.{data-passed}
-use Rattle.walk.specs.Nodes.{Node, root, bitmap, entry, list, datum, keyOf, twin, keyFault, hangsFault, faultOf}
+use Rattle.walk.specs.Nodes.{Node, root, bitmap, entry, list, datum, keyOf, bare, twin, keyFault, hangsFault}
+use Rattle.walk.specs.Nodes.{faultOf}
 
 module _ (d : Disk) where
   pub key-passed : (k : ℕ) → keyFault d k ≡ 0 → (firstKey ≤ k) × (k < d .blocks)
@@ -90,11 +91,11 @@ module _ (d : Disk) where
     passes-valid v (list k h m c) e = e
     passes-valid v (datum k h n c) e = e
 
-    -- whatever is tested has the sum 0
-    pub sum-passed : (n : Node) → InTree n → sumOf s (keyOf d n) ≡ 0
+    -- whatever has words and is tested has the sum 0
+    pub sum-passed : (n : Node) → InTree n → summed d (bare d n .kind) ≡ true → sumOf s (keyOf d n) ≡ 0
     unfolding faultOf
-    sum-passed root e = e .0
-    sum-passed (bitmap k) e = bitmap-passed s k .0 e
-    sum-passed (entry k t i p) e = entry-passed d s k t i (hung-passed k t i p e .0) .sum
-    sum-passed (list k h m c) e = list-passed s k h _ e .0
-    sum-passed (datum k h n c) e = data-passed d s k h n _ e .0
+    sum-passed root e o = e .0
+    sum-passed (bitmap k) e o = bitmap-passed s k .0 e
+    sum-passed (entry k t i p) e o = entry-passed d s k t i (hung-passed k t i p e .0) .sum
+    sum-passed (list k h m c) e o = list-passed s k h _ e .0
+    sum-passed (datum k h n c) e o = data-passed d s k h n _ e o .sum

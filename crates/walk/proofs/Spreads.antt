@@ -3,16 +3,18 @@
 use Prim.Native.Nat.{ℕ, zero, suc, _+_, _-_, _*_, _≤_}
 use mathlib.Core.Path.{_≡_, refl, sym, ap, ap₂, _∙_}
 use mathlib.Core.Logic.{inl, inr, _↔_}
+use mathlib.Core.Bool.{true}
 use mathlib.Core.List.{List, [], _∷_, _++_, map, head-eq-of-cons-eq, tail-eq-of-cons-eq}
-use native.Mathlib.Nat.{zero-add}
+use native.Mathlib.Nat.{zero-add, sub-zero}
 use native.Mathlib.Omega.{arith}
 use lib.ListN.{length}
 use Rattle.reach.specs.References.{At, _∈_}
 use Rattle.volume.specs.declared.disk.Disk.{Disk}
-use Rattle.volume.specs.Disks.{fileLimit}
+use Rattle.volume.specs.Disks.{isOld, fileLimit}
 use Rattle.volume.specs.Blocks.{slots, wordOf}
 use Rattle.volume.specs.Files.{keysHere, listBlocks, keysDown, listsFrom, keysFrom, sizeOf, blocksOf}
 use Rattle.volume.specs.Law.{KeyCount, ListBlock, DataBlock, File}
+use Rattle.volume.specs.Breaks.{HeaderSound, DataTies}
 use Rattle.volume.proofs.Keys.{down-long, keys-long}
 use Rattle.walk.specs.Nodes.{before}
 
@@ -33,9 +35,9 @@ module _ (d : Disk) (s : List ℕ) (h : ℕ) where
   abbrev N : ℕ
   N = blocksOf d s h
 
-  -- data block n, which follows c
+  -- data block n, which follows c: of the Fast File System nothing is asked
   abbrev pub Follows : ℕ → ℕ → ℕ → Type 0
-  Follows n c k = DataBlock d s h n k × (wordOf s c 4 ≡ k) × (n ≡ blocksOf d s h → wordOf s k 4 ≡ 0)
+  Follows n c k = isOld d ≡ true → DataTies d s k h n (wordOf s c 4)
 
   -- m data blocks, the last of them c (or the header), and then these
   abbrev pub Run : ℕ → ℕ → List ℕ → Type 0
@@ -51,36 +53,36 @@ module _ (d : Disk) (s : List ℕ) (h : ℕ) where
 
   -- the law's two rules of data blocks, for those after the first m, of which c is the last
   abbrev Numbered : ℕ → List ℕ → Type 0
-  Numbered m ks = (i k n : ℕ) → n ≡ suc (m + i) → At i k ks → DataBlock d s h n k
+  Numbered m ks = isOld d ≡ true → (i k n : ℕ) → n ≡ suc (m + i) → At i k ks → DataBlock d s h n k
 
   abbrev Linked : ℕ → List ℕ → Type 0
-  Linked c ks = map (λ k. wordOf s k 4) (c ∷ ks) ≡ ks ++ (0 ∷ [])
+  Linked c ks = isOld d ≡ true → map (λ k. wordOf s k 4) (c ∷ ks) ≡ ks ++ (0 ∷ [])
 
-  linked-end : (c : ℕ) (ks : List ℕ) → length ks ≡ 0 → Linked c ks → wordOf s c 4 ≡ 0
-  linked-end c [] e l = head-eq-of-cons-eq l
-  linked-end c (x ∷ ks) e l = absurd (omega (arith, e))
+  linked-end : (c : ℕ) (ks : List ℕ) → length ks ≡ 0 → Linked c ks → isOld d ≡ true → wordOf s c 4 ≡ 0
+  linked-end c [] e l o = head-eq-of-cons-eq (l o)
+  linked-end c (x ∷ ks) e l o = absurd (omega (arith, e))
 
   law-run : (m c : ℕ) (ks : List ℕ) → m + length ks ≡ N → Numbered m ks → Linked c ks → Run m c ks
   law-run m c [] e b l = tt
   law-run m c (k ∷ ks) e b l = (
-    (
-      b 0 k (suc m) (omega arith) refl,
-      head-eq-of-cons-eq l,
-      λ z. linked-end k ks (omega arith) (tail-eq-of-cons-eq l),
-    ),
-    law-run (suc m) k ks (omega arith) (λ i x n z a. b (suc i) x n (omega arith) a) (tail-eq-of-cons-eq l),
+    (λ o. record {
+      block = b o 0 k (suc m) (omega arith) refl;
+      here = head-eq-of-cons-eq (l o);
+      last = λ z. linked-end k ks (omega arith) (λ o. tail-eq-of-cons-eq (l o)) o;
+    }),
+    law-run (suc m) k ks (omega arith) (λ o i x n z a. b o (suc i) x n (omega arith) a) (λ o. tail-eq-of-cons-eq (l o)),
   )
 
-  run-law : (m c : ℕ) (ks : List ℕ) → m + length ks ≡ N → (m ≡ N → wordOf s c 4 ≡ 0) → Run m c ks
+  run-law : (m c : ℕ) (ks : List ℕ) → m + length ks ≡ N → (isOld d ≡ true → m ≡ N → wordOf s c 4 ≡ 0) → Run m c ks
       → Numbered m ks × Linked c ks
-  run-law m c [] e z r = ((λ i k n q a. absurd a), ap (λ x. x ∷ []) (z (omega arith)))
+  run-law m c [] e z r = ((λ o i k n q a. absurd a), λ o. ap (λ x. x ∷ []) (z o (omega arith)))
   run-law m c (k ∷ ks) e z r =
-      let t = run-law (suc m) k ks (omega arith) (r .0 .2) (r .1) in
-      (blocks (t .0), ap₂ (λ x l. x ∷ l) (r .0 .1) (t .1))
+      let t = run-law (suc m) k ks (omega arith) (λ o. r .0 o .last) (r .1) in
+      (blocks (t .0), λ o. ap₂ (λ x l. x ∷ l) (r .0 o .here) (t .1 o))
     where
       blocks : Numbered (suc m) ks → Numbered m (k ∷ ks)
-      blocks b zero x n q a = let f : n ≡ suc m = omega arith in rw (f, a) (r .0 .0)
-      blocks b (suc i) x n q a = b i x n (omega arith) a
+      blocks b o zero x n q a = let f : n ≡ suc m = omega arith in rw (f, a) (r .0 o .block)
+      blocks b o (suc i) x n q a = b o i x n (omega arith) a
 
   -- ---- a block that lists keys, and the q list blocks after it
 
@@ -160,7 +162,7 @@ module _ (d : Disk) (s : List ℕ) (h : ℕ) where
   -- the header's own rules, and the rest
   abbrev pub Spreads : Type 0
   Spreads =
-      (sizeOf s h ≤ fileLimit d) × (blocksOf d s h ≡ 0 → wordOf s h 4 ≡ 0)
+      (sizeOf s h ≤ fileLimit d) × (isOld d ≡ true → blocksOf d s h ≡ 0 → wordOf s h 4 ≡ 0)
       × Spread (listBlocks (blocksOf d s h)) h 0 h
 
   pub file-spreads : File d s h ↔ Spreads
@@ -169,20 +171,30 @@ module _ (d : Disk) (s : List ℕ) (h : ℕ) where
       spread : File d s h → Spreads
       spread f = (
         f .size,
-        (λ e. linked-end h (keys (listBlocks N) h N) (omega (arith, whole)) (f .following)),
+        (λ o e. linked-end h (keys (listBlocks N) h N) (omega (arith, whole)) (f .following) o),
         law-spread (listBlocks N) h 0 h N (omega arith) (λ i x n e a. rw e (f .counts i x a)) (f .lists)
             (law-run 0 h (keys (listBlocks N) h N) whole
-            (λ i k n e a. let g : n ≡ suc i = omega arith in rw g (f .blocks i k a)) (f .following)),
+            (λ o i k n e a. let g : n ≡ suc i = omega arith in rw g (f .blocks o i k a)) (f .following)),
       )
 
       file : Spreads → File d s h
       file p =
           let w = spread-law (listBlocks N) h 0 h N (omega arith) (p .2) in
-          let u = run-law 0 h (keys (listBlocks N) h N) whole (λ q. p .1 (sym q)) (w .2) in
+          let u = run-law 0 h (keys (listBlocks N) h N) whole (λ o q. p .1 o (sym q)) (w .2) in
           record {
             size = p .0;
             counts = λ i b a. w .0 i b (N - slots * i) refl a;
             lists = w .1;
-            blocks = λ i k a. u .0 i k (suc i) (omega arith) a;
+            blocks = λ o i k a. u .0 o i k (suc i) (omega arith) a;
             following = u .1;
           }
+
+  -- the header's own rules
+  pub file-header : File d s h → HeaderSound d s h
+  file-header f =
+      let p = file-spreads .0 f in
+      record {
+        size = p .0;
+        lists = rw sub-zero at (spread-first (listBlocks N) h 0 h (p .2) .0);
+        empty = p .1;
+      }

@@ -211,7 +211,7 @@ module _ (d : Disk) (s : List ℕ) where
           contents-stood k r (directory s k) refl
           (λ q. let h = hung-passed d s k t i p e in (
             file-kind d s k (entry-passed d s k t i (h .0) .entry) q,
-            file-passed d s k (h .2 q) .1,
+            file-passed d s k (h .2 q) .lists,
           )) x a
       go (inr a) =
           let w = in-linked (wordOf s k 124) (λ k. entry k t i (suc p)) x a in

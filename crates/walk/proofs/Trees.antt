@@ -14,8 +14,8 @@ use Rattle.volume.specs.declared.disk.Disk.{Disk}
 use Rattle.volume.specs.Disks.{firstKey, imageBytes, tagOf, rootOf}
 use Rattle.volume.specs.Blocks.{wordOf, sumOf, directory}
 use Rattle.volume.specs.Files.{keysDown, listBlocks, blocksOf}
-use Rattle.volume.specs.References.{Kind, to, references}
-use Rattle.volume.specs.Law.{KeyCount, Directory, File, Tree}
+use Rattle.volume.specs.References.{Kind, Ref, to, references}
+use Rattle.volume.specs.Law.{KeyCount, Directory, File, Tree, summed}
 use Rattle.volume.proofs.Passes.{EntrySound, entry-passed, file-passed, list-passed, data-passed}
 use Rattle.walk.specs.Nodes.{Node, root, bitmap, entry, list, datum, keyOf, bare, before, keyNodes, listLink}
 use Rattle.walk.specs.Nodes.{keyBlockNodes, contents, leadsTo, faultOf}
@@ -23,20 +23,19 @@ use Rattle.walk.proofs.Nodes.{NodeReached, linked-in}
 use Rattle.walk.proofs.Passes.{Hung, key-passed, hung-passed, sum-passed}
 use Rattle.walk.proofs.Accepts.{TreePasses, node-reached, node-key}
 use Rattle.walk.proofs.Spreads.{Run, Spread, here, file-spreads}
-use Rattle.walk.proofs.KeyRuns.{DataSound, run-nodes}
+use Rattle.walk.proofs.KeyRuns.{NodeFollows, run-nodes}
 use Rattle.walk.proofs.Directories.{leads, contents-reached, root-opened, directory-law}
 
 module _ (d : Disk) (s : List ℕ) (fine : TreePasses d s) where
   -- ---- a file
 
-  sound : (n : Node) → NodeReached d s n → DataSound d s n
+  sound : (n : Node) → NodeReached d s n → NodeFollows d s n
   unfolding faultOf
   sound root r = tt
   sound (bitmap k) r = tt
   sound (entry k t i p) r = tt
   sound (list k h m c) r = tt
-  sound (datum k h n c) r =
-      let p = data-passed d s k h n (wordOf s c 4) (fine (datum k h n c) r .1) in (p .1, p .2 .0, p .2 .1)
+  sound (datum k h n c) r = λ o. data-passed d s k h n (wordOf s c 4) (fine (datum k h n c) r .1) o .ties
 
   module _ (h b m c : ℕ) (r : (x : Node) → x ∈ keyBlockNodes d s h b m c → NodeReached d s x) where
     abbrev n : ℕ
@@ -112,10 +111,10 @@ module _ (d : Disk) (s : List ℕ) (fine : TreePasses d s) where
         let f = file-passed d s k (hung .2 e) in
         let z : blocksOf d s k ≡ blocksOf d s k - 0 = omega arith in
         file-spreads d s k .1 (
-          f .0,
-          f .2,
+          f .size,
+          f .empty,
           spread-reached k (listBlocks (blocksOf d s k)) k 0 k (ap listBlocks z)
-              (content false e) (subst (KeyCount s k) z (f .1)),
+              (content false e) (subst (KeyCount s k) z (f .lists)),
         )
 
   -- ---- the theorem
@@ -129,8 +128,8 @@ module _ (d : Disk) (s : List ℕ) (fine : TreePasses d s) where
             λ r h. let n = node-reached d s fine h in subst (λ k. (firstKey ≤ k) × (k < d .blocks))
             (node-key d s fine h) (key-passed d (keyOf d (n .0)) (fine (n .0) (n .1) .0));
         sums =
-            λ r h. let n = node-reached d s fine h in subst (λ k. sumOf s k ≡ 0) (node-key d s fine h)
-            (sum-passed d s (n .0) (fine (n .0) (n .1) .1));
+            λ r h o. let n = node-reached d s fine h in subst (λ k. sumOf s k ≡ 0) (node-key d s fine h)
+            (sum-passed d s (n .0) (fine (n .0) (n .1) .1) (subst (λ (x : Ref). summed d (x .kind) ≡ true) (n .2) o));
         top = fine root (top refl) .1 .1;
         entries = λ k h. entry-sound k h .entry;
         holds = directory-law d s (rootOf d) (root-opened d s) fine;

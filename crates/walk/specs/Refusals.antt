@@ -10,13 +10,13 @@ use Rattle.answers.specs.Numbers as fault
 use Rattle.reach.specs.References.{At, _∈_, Reached}
 use Rattle.reach.specs.Law.{Twice}
 use Rattle.volume.specs.declared.disk.Disk.{Disk}
-use Rattle.volume.specs.Disks.{rootOf}
+use Rattle.volume.specs.Disks.{isOld, rootOf}
 use Rattle.volume.specs.Blocks.{slots, wordOf, sumOf, slotWord, directory, dataType, fileKind}
 use Rattle.volume.specs.Names.{nameOf, nameGood, folded, slotOf}
 use Rattle.volume.specs.Files.{blocksOf, listsOf}
 use Rattle.volume.specs.References.{Kind, to, references}
 use Rattle.volume.specs.Law.{OneBitmap, Valid, chainKey, Hangs, KeyCount, ListBlock}
-use Rattle.volume.specs.Law.{RootKind, RootFixed, EntryKind, ListKind}
+use Rattle.volume.specs.Law.{RootKind, RootFixed, EntryKind, ListKind, summed}
 use Rattle.volume.specs.Breaks.{Inside, RootSound, RootBreaks, MapBreaks, BitmapBreaks, Link, EntryTies, EntrySound}
 use Rattle.volume.specs.Breaks.{EntryBreaks, HeaderSound, HeaderBreaks, ListBreaks, IsData, DataTies, DataBreaks}
 use Rattle.walk.specs.Nodes.{Node, root, bitmap, entry, list, datum, keyOf, leadsTo}
@@ -36,7 +36,7 @@ NodeBreaks d s (entry k t i p) v =
     ⊎ (EntrySound d s k t i × Doubled d s k (slotWord s t i) p × (v ≡ fault.doubleName))
     ⊎ (EntrySound d s k t i × (Doubled d s k (slotWord s t i) p → ⊥) × (directory s k ≡ false) × HeaderBreaks d s k v)
 NodeBreaks d s (list k h m c) v = ListBreaks s k h (blocksOf d s h - m) v
-NodeBreaks d s (datum k h n c) v = DataBreaks d s k h n (wordOf s c 4) v
+NodeBreaks d s (datum k h n c) v = (isOld d ≡ true) × DataBreaks d s k h n (wordOf s c 4) v
 
 -- of a node that comes after those seen: its key lies outside the volume, or it is a block's that was seen, or it
 -- breaks a rule of its kind
@@ -78,13 +78,14 @@ pub record FileAt (d : Disk) (s : List ℕ) (h : ℕ) : Type 0 where
   pub reached : Reached (references d s) (to Kind.entry h)
   pub kind : wordOf s h 127 ≡ fileKind
 
--- w0 and w127 are those of the kind that a reference asks for; an entry may be a link, which 9 is for
-abbrev pub KindRight : List ℕ → ℕ → Kind → Type 0
-KindRight s k Kind.root = RootKind s k
-KindRight s k Kind.bitmap = Unit {0}
-KindRight s k Kind.entry = EntryKind s k ⊎ Link s k
-KindRight s k Kind.list = ListKind s k
-KindRight s k Kind.datum = wordOf s k 0 ≡ dataType
+-- w0 and w127 are those of the kind that a reference asks for; an entry may be a link, which 9 is for, and a data block
+-- of the Fast File System anything
+abbrev pub KindRight : Disk → List ℕ → ℕ → Kind → Type 0
+KindRight d s k Kind.root = RootKind s k
+KindRight d s k Kind.bitmap = Unit {0}
+KindRight d s k Kind.entry = EntryKind s k ⊎ Link s k
+KindRight d s k Kind.list = ListKind s k
+KindRight d s k Kind.datum = isOld d ≡ true → wordOf s k 0 ≡ dataType
 
 -- one case for each number; the field of the law that it breaks stands above it
 pub data Cause (d : Disk) (s : List ℕ) (v k : ℕ) : Type 0 where
@@ -95,9 +96,10 @@ pub data Cause (d : Disk) (s : List ℕ) (v k : ℕ) : Type 0 where
   -- `Tree.owned`: two references lead to block k, or one does and it is the root
   number-6 : Twice (references d s) k → v ≡ fault.claimedTwice → Cause d s v k
   -- `Tree.sums`
-  number-7 : (a : Kind) → Reached (references d s) (to a k) → sumOf s k ≢ 0 → v ≡ fault.blockSum → Cause d s v k
+  number-7 : (a : Kind) → Reached (references d s) (to a k) → summed d a ≡ true → sumOf s k ≢ 0 → v ≡ fault.blockSum
+      → Cause d s v k
   -- `type` and `kind` of `Root`, `Entry` and `ListBlock`, `type` of `DataBlock`
-  number-8 : (a : Kind) → Reached (references d s) (to a k) → (KindRight s k a → ⊥) → v ≡ fault.blockType
+  number-8 : (a : Kind) → Reached (references d s) (to a k) → (KindRight d s k a → ⊥) → v ≡ fault.blockType
       → Cause d s v k
   -- `Entry.kind`: it is a link
   number-9 : Reached (references d s) (to Kind.entry k) → Link s k → v ≡ fault.link → Cause d s v k
@@ -114,13 +116,14 @@ pub data Cause (d : Disk) (s : List ℕ) (v k : ℕ) : Type 0 where
   -- `Directory.names`: another entry, earlier on the chain of that directory, has the same folded name
   number-13 : (t i l : ℕ) (h : Hung d s t i k) (g : Hangs s t i l) → g .position < h .hangs .position → l ≢ k
       → folded d (nameOf s l) ≡ folded d (nameOf s k) → v ≡ fault.doubleName → Cause d s v k
-  -- `File.size`, `File.counts` or, of an empty file, `File.following`; of list block i of a file `File.counts`
+  -- `File.size`, `File.counts` or, of an empty file of the old file system, `File.following`; of list block i of a file
+  -- `File.counts`
   number-14 : FileAt d s k → (HeaderSound d s k → ⊥) → v ≡ fault.fileLayout → Cause d s v k
   number-14-list : (h i : ℕ) → FileAt d s h → At i k (listsOf d s h)
       → (KeyCount s k (blocksOf d s h - slots * suc i) → ⊥) → v ≡ fault.fileLayout → Cause d s v k
-  -- `File.blocks` or `File.following`, of data block i of a file, counted from 0; c is the data block before it, or
-  -- the header
-  number-15 : (h i c : ℕ) → FileAt d s h → IsData d s h i k c → (DataTies d s k h (suc i) (wordOf s c 4) → ⊥)
-      → v ≡ fault.dataLayout → Cause d s v k
+  -- `File.blocks` or `File.following`, on the old file system, of data block i of a file, counted from 0; c is the data
+  -- block before it, or the header
+  number-15 : (h i c : ℕ) → isOld d ≡ true → FileAt d s h → IsData d s h i k c
+      → (DataTies d s k h (suc i) (wordOf s c 4) → ⊥) → v ≡ fault.dataLayout → Cause d s v k
   -- `Volume.valid` or `Root.rest`
   number-16 : k ≡ rootOf d → (Valid d s → ⊥) ⊎ (OneBitmap s k → ⊥) → v ≡ fault.bitmapWords → Cause d s v k

@@ -69,15 +69,7 @@ pub fn data_tests(disk: Disk, image: &[u8], b: KeyBlock, key: u32, n: u32, last:
         × (last < disk .blocks) × (1 ≤ n) × (n ≤ blocksOf disk (now image) (b .header)) ⌝ }
     ensures { λ r. ⌜ r ≡ faultOf disk (now (image .entry)) (datum key (b .header) n last) ⌝ }
 {
-    data_fault(
-        disk,
-        image,
-        key,
-        b.header,
-        b.size,
-        n,
-        word_of(image, last, Block::FOLLOWING),
-    )
+    data_fault(disk, image, key, b.header, b.size, n, last)
 }
 
 // The tests of a list block.

@@ -4,6 +4,9 @@ use borrow.Author.Needs.{needs}
 use Rattle.volume.proofs.file.empty_fault.Statement.{statement}
 use Rattle.volume.proofs.file.empty_fault.Tie as tie
 
+is-old-requires : tie.Need-is-old-requires
+is-old-requires c κs = search needs
+
 returns : tie.Need-returns
 returns c = search faults depth 12
 
@@ -16,5 +19,9 @@ returns-2 c = search faults depth 12
 returns-3 : tie.Need-returns-3
 returns-3 c = search faults depth 12
 
+returns-4 : tie.Need-returns-4
+returns-4 c = search faults depth 12
+
 pub empty-fault-spec : {M : Type 1} → statement M
-empty-fault-spec = tie.close (tie.spec returns word-of-requires returns-2 returns-3)
+empty-fault-spec =
+    tie.close (tie.spec is-old-requires returns word-of-requires returns-2 returns-3 returns-4)

@@ -1,6 +1,6 @@
 -- `volume::name::fold` meets its contract. Assumes nothing.
-use borrow.Author.Needs.{needs}
 use Rattle.volume.proofs.Names.{fold-ascii, fold-accents, fold-other}
+use borrow.Author.Needs.{needs}
 use Rattle.volume.proofs.name.fold.Statement.{statement}
 use Rattle.volume.proofs.name.fold.Tie as tie
 
@@ -9,6 +9,9 @@ fold-plain-requires c κs = search needs
 
 returns : tie.Need-returns
 returns c = search fold-ascii depth 7
+
+folds-accents-requires : tie.Need-folds-accents-requires
+folds-accents-requires c κs = search needs
 
 fold-international-requires : tie.Need-fold-international-requires
 fold-international-requires c κs = search needs
@@ -25,4 +28,11 @@ returns-3 c = search fold-other depth 7
 pub fold-spec : {M : Type 1} → statement M
 fold-spec =
     tie.close
-    (tie.spec fold-plain-requires returns fold-international-requires returns-2 fold-plain-requires-2 returns-3)
+    (tie.spec
+    fold-plain-requires
+    returns
+    folds-accents-requires
+    fold-international-requires
+    returns-2
+    fold-plain-requires-2
+    returns-3)

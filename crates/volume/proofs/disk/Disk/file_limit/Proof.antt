@@ -1,6 +1,6 @@
 -- `volume::disk::Disk::file_limit` meets its contract. Assumes nothing.
 use native.Mathlib.Omega.{arith}
-use Rattle.volume.proofs.Sizes.{limit-most}
+use Rattle.volume.proofs.Sizes.{limit-fits}
 use borrow.Author.Needs.{needs}
 use Rattle.volume.proofs.disk.Disk.file_limit.Statement.{statement}
 use Rattle.volume.proofs.disk.Disk.file_limit.Tie as tie
@@ -13,8 +13,11 @@ data-bytes-requires c κs = search needs
 
 mul-result : tie.Need-mul-result
 mul-result c =
-    rw (c .data-bytes .ensures .0)
-    (omega (arith, limit-most (c .before .before .args .self) (c .before .before .pre)))
+    omega (
+      arith,
+      limit-fits (c .data-bytes .result) (c .data-bytes .ensures .1 .1) (c .before .before .args .self)
+          (c .before .before .pre),
+    )
 
 returns : tie.Need-returns
 returns c = rw (c .data-bytes .ensures .0)

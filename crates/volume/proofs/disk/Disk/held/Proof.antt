@@ -1,6 +1,6 @@
 -- `volume::disk::Disk::held` meets its contract. Assumes nothing.
 use native.Mathlib.Omega.{arith}
-use Rattle.volume.proofs.Sizes.{before-most, held-none, held-full, held-rest}
+use Rattle.volume.proofs.Sizes.{before-fits, held-none, held-full, held-rest}
 use borrow.Author.Needs.{needs}
 use Rattle.volume.proofs.disk.Disk.held.Statement.{statement}
 use Rattle.volume.proofs.disk.Disk.held.Tie as tie
@@ -13,8 +13,10 @@ sub-before c = search needs
 
 mul-before : tie.Need-mul-before
 mul-before c =
-    rw (c .data-bytes .ensures .0)
-    (omega (arith, before-most (c .before .args .self) (c .before .args .n) (omega arith)))
+    omega (
+      arith,
+      before-fits (c .data-bytes .result) (c .data-bytes .ensures .1 .1) (c .before .args .n) (omega arith),
+    )
 
 returns : tie.Need-returns
 returns c = search held-none
