@@ -1,5 +1,6 @@
-/* Jufferdeeg: audits the image of an 880 KB floppy of the old file system, plain or international, finds and reads
- * its files, checks a program file, loads it into memory and moves a loaded program to other addresses.
+/* Jufferdeeg: audits the image of an 880 KB floppy of the old file system or of the Fast File System, plain or
+ * international, finds and reads its files, checks a program file, loads it into memory and moves a loaded program to
+ * other addresses.
  *
  * `./make-archive` proves the library and makes target/native/libjufferdeeg.a for this processor, x86-64 or
  * aarch64. It needs memcpy and memset of a C library, and nothing else from outside.
@@ -37,7 +38,7 @@ extern "C" {
  * the path, counted from 0; the byte of a word of the program file; an entry of the bases, counted from 0. */
 #define JUFFERDEEG_IMAGE_LENGTH 1     /* [0] the image is not 901,120 bytes long */
 #define JUFFERDEEG_CLAIM_AREA 2       /* [0] the claim area is short */
-#define JUFFERDEEG_BOOT_TAG 3         /* [0] the boot tag is not 44 4F 53 00 or 44 4F 53 02 */
+#define JUFFERDEEG_BOOT_TAG 3         /* [0] the boot tag is not 44 4F 53 and 00, 01, 02 or 03 */
 #define JUFFERDEEG_ROOT_WORDS 4       /* [880] a word of the root that has one value only is wrong */
 #define JUFFERDEEG_BAD_KEY 5          /* [key] it is not in 2 to 1,759 */
 #define JUFFERDEEG_CLAIMED_TWICE 6    /* [key] audit: it is claimed already; find, read: its chain is too long */
@@ -82,11 +83,13 @@ size_t jufferdeeg_reason(uint32_t number, uint8_t *output, size_t output_bytes);
 
 /* ---- volumes
  *
- * The last byte of the boot tag is the kind of the disk, and every call takes it from the image: 00 is plain, 02 is
- * international. Kinds differ in which names are equal. On a plain disk upper and lower case of a to z are the same;
- * on an international one so are bytes C0 to DE and the bytes 20 hex above them, the letters with accents of
- * ISO 8859-1. D7 and F7, which are no letters, are two different bytes on both. A name or a path is just its bytes:
- * text in another encoding, such as UTF-8, is for the caller to convert. */
+ * The last byte of the boot tag is the kind of the disk, and every call takes it from the image: 00 is the old file
+ * system, 01 the Fast File System, 02 and 03 the same two with international names. On the Fast File System a data
+ * block holds 512 bytes of its file; on the old one it holds 488 after words of its own, which are tested. Which names
+ * are equal: on disks of kind 00 and 01 upper and lower case of a to z are the same; on those of 02 and 03 so are bytes
+ * C0 to DE and the bytes 20 hex above them, the letters with accents of ISO 8859-1. D7 and F7, which are no letters,
+ * are two different bytes on all. A name or a path is just its bytes: text in another encoding, such as UTF-8, is for
+ * the caller to convert. */
 
 /* The length of an image, and of the shortest claim area. */
 #define JUFFERDEEG_IMAGE_BYTES 901120

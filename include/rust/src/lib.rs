@@ -1,5 +1,5 @@
-//! Audits images of 880 KB floppies of the old file system, plain or international, finds and reads their files,
-//! checks program files, loads them into memory and moves loaded programs to other addresses.
+//! Audits images of 880 KB floppies of the old file system or of the Fast File System, plain or international, finds
+//! and reads their files, checks program files, loads them into memory and moves loaded programs to other addresses.
 //!
 //! These are the calls of `include/jufferdeeg.h` as safe functions: a slice is just what they ask for. Whatever its
 //! bytes, every call ends and stays inside what it is lent. The header says what each call is lent, what it leaves and
@@ -58,7 +58,7 @@ pub mod fault {
     pub const IMAGE_LENGTH: u32 = 1;
     /// `[0]` the claim area is short.
     pub const CLAIM_AREA: u32 = 2;
-    /// `[0]` the boot tag is not 44 4F 53 00 or 44 4F 53 02.
+    /// `[0]` the boot tag is not 44 4F 53 and 00, 01, 02 or 03.
     pub const BOOT_TAG: u32 = 3;
     /// `[880]` a word of the root that has one value only is wrong.
     pub const ROOT_WORDS: u32 = 4;
@@ -256,8 +256,8 @@ pub fn audit(image: &[u8], claim: &mut [u8]) -> AuditNumbers {
 ///
 /// A path is components with one `/` between two of them, none before the first or after the last, and has at most 255
 /// bytes. A component has 1 to 30 bytes, none of them `/` or `:`. The empty path has no component: it is the root.
-/// Upper and lower case of a to z are the same, and on an international disk, whose boot tag ends with 02, those of the
-/// letters with accents of ISO 8859-1 too. A path is just its bytes: text in UTF-8 is for the caller to convert.
+/// Upper and lower case of a to z are the same, and on an international disk, whose boot tag ends with 02 or 03, those
+/// of the letters with accents of ISO 8859-1 too. A path is just its bytes: text in UTF-8 is for the caller to convert.
 pub fn find(image: &[u8], path: &[u8]) -> FindNumbers {
     unsafe { c::jufferdeeg_find(image.as_ptr(), image.len(), path.as_ptr(), path.len()) }
 }
