@@ -214,7 +214,9 @@ mod tests {
 
     #[test]
     fn the_empty_volume() {
-        for (bitmap, kind) in [2, 3, 879, 881, 1759].into_iter().flat_map(|key| [(key, 0), (key, 2)]) {
+        for (bitmap, kind) in
+            [2, 3, 879, 881, 1759].into_iter().flat_map(|key| (0..4).map(move |kind| (key, kind)))
+        {
             let (answer, claim) = audited(&of_kind(&empty(bitmap), kind), 1760);
             assert_eq!(answer, Ok(Report { used: 2, free: 1756, ..Report::default() }), "bitmap {bitmap}");
             let claimed: Vec<usize> = (0..1760).filter(|&key| claim[key] != 0).collect();
@@ -229,7 +231,7 @@ mod tests {
     fn lengths_and_tag_are_asked_in_order_and_first() {
         let good = empty(881);
         let mut untagged = good.clone();
-        untagged[3] = 1;
+        untagged[3] = 4;
         at(&mut untagged, 880)[0] = 1;
         let longer = [&untagged[..], &[0]].concat();
         let long = [&good[..], &[0]].concat();
@@ -243,18 +245,20 @@ mod tests {
             (&good, 1759, 2),
             (&good, 0, 2),
             (&untagged, 1760, 3),
-            (&of_kind(&untagged, 3), 1760, 3),
-            (&of_kind(&untagged, 4), 1760, 3),
+            (&of_kind(&untagged, 5), 1760, 3),
+            (&of_kind(&untagged, 0x80), 1760, 3),
             (&of_kind(&untagged, 0xFF), 1760, 3),
-            // these two are kinds, and the root is next
+            // these are kinds, and the root is next
             (&of_kind(&untagged, 0), 1759, 2),
+            (&of_kind(&untagged, 1), 1759, 2),
             (&of_kind(&untagged, 2), 1759, 2),
+            (&of_kind(&untagged, 3), 1759, 2),
         ] {
             let (answer, claim) = audited(image, claim);
             assert_eq!(answer, Err(Refusal::at(number, 0)), "{} bytes", image.len());
             assert!(claim.iter().all(|&byte| byte == 0), "{} bytes", image.len());
         }
-        for kind in [0, 2] {
+        for kind in 0..4 {
             assert_eq!(audited(&of_kind(&untagged, kind), 1760).0, Err(Refusal::at(7, 880)), "{kind}");
         }
     }
@@ -307,8 +311,31 @@ mod tests {
             mend(at(&mut image, key), if key == 3 { 0 } else { 5 });
         }
         let report = Report { directories: 2, files: 1, list_blocks: 0, data_blocks: 1, used: 6, free: 1752 };
-        assert_eq!(audited(&image, 1760).0, Ok(report));
+        assert_eq!(
+            (0..4).map(|kind| audited(&of_kind(&image, kind), 1760).0).collect::<Vec<_>>(),
+            [Ok(report); 4]
+        );
+
+        // of the data block and of w4 the Fast File System asks nothing, wherever they are wrong
+        at(&mut image, 6).fill(0xF6);
+        put(at(&mut image, 5), 4, 0xFFFF_FFFF);
+        mend(at(&mut image, 5), 5);
+        for (kind, due) in
+            [(0, Err(Refusal::at(7, 6))), (1, Ok(report)), (2, Err(Refusal::at(7, 6))), (3, Ok(report))]
+        {
+            assert_eq!(audited(&of_kind(&image, kind), 1760).0, due, "{kind}");
+        }
+        // its key is asked for all the same
+        for (key, number) in [(0, 5), (1, 5), (1760, 5), (4, 6), (5, 6), (880, 6), (3, 6)] {
+            put(at(&mut image, 5), 77, key);
+            mend(at(&mut image, 5), 5);
+            for kind in [1, 3] {
+                let due = Err(Refusal::at(number, key as usize));
+                assert_eq!(audited(&of_kind(&image, kind), 1760).0, due, "{key}");
+            }
+        }
     }
+
     /// A volume with an empty file of this name in this slot of the root.
     fn with_file(kind: u8, name: &[u8], slot: usize) -> Vec<u8> {
         let mut image = of_kind(&empty(3), kind);
@@ -331,7 +358,7 @@ mod tests {
         let report = Report { files: 1, used: 3, free: 1755, ..Report::default() };
         for (name, plain, international) in [(&b"\xE0"[..], 21, 61), (b"M\xE9t\xE9o", 3, 67), (b"\xFF", 52, 52)] {
             for slot in 0..72 {
-                for (kind, right) in [(0, plain), (2, international)] {
+                for (kind, right) in (0..).zip([plain, plain, international, international]) {
                     let due = if slot == right { Ok(report) } else { Err(Refusal::at(12, 4)) };
                     assert_eq!(audited(&with_file(kind, name, slot), 1760).0, due, "{name:?} in {slot}");
                 }

@@ -80,14 +80,14 @@ pub fn size(block: &[u8]) -> u32 {
     word(block, 81)
 }
 
-/// What a file header says about its size and its blocks.
+/// What a file header says about its size and its blocks. Where data blocks have no words, w4 may be anything.
 pub fn file(disk: &Disk, block: &[u8]) -> u32 {
     let size = size(block);
     let keys = data_blocks(disk, size);
     let fits = size <= disk.file_limit();
     let listed = word(block, 2) == header_keys(disk, size);
     let goes_on = (word(block, 126) != 0) == (keys_left(keys) > 0);
-    let starts = keys > 0 || word(block, 4) == 0;
+    let starts = keys > 0 || word(block, 4) == 0 || !disk.has_data_words();
     first_broken([(fits && listed && goes_on && starts, 14)])
 }
 
@@ -130,8 +130,11 @@ pub struct DataAt {
     pub named: u32,
 }
 
-/// A data block.
+/// A data block. One without words of its own has nothing to be tested.
 pub fn data(disk: &Disk, block: &[u8], at: DataAt) -> u32 {
+    if !disk.has_data_words() {
+        return 0;
+    }
     let w = |index| word(block, index);
     let is_last = at.number == data_blocks(disk, at.size);
     let words = w(1) == at.header && w(2) == at.number && w(3) == held(disk, at.size, at.number);
@@ -148,6 +151,7 @@ pub fn bitmap(block: &[u8]) -> u32 {
 mod tests {
     use super::*;
     use crate::names::put_name;
+    use crate::rng::Rng;
     use crate::words::{mend, put, BLOCK_BYTES, BLOCK_WORDS};
 
     const DISK: Disk = Disk::PLAIN;
@@ -417,33 +421,77 @@ mod tests {
             for slot in 0..TABLE {
                 let at = EntryAt { slot, ..ENTRY_AT };
                 let due = |right: u32| if slot == right { 0 } else { 12 };
-                assert_eq!(entry(&Disk::PLAIN, &block, at), due(plain), "{name:?} in {slot}");
-                assert_eq!(entry(&Disk::INTERNATIONAL, &block, at), due(international), "{name:?} in {slot}");
+                let found = Disk::FLOPPIES.map(|disk| entry(&disk, &block, at));
+                let wanted = [plain, plain, international, international].map(due);
+                assert_eq!(found, wanted, "{name:?} in {slot}");
             }
         }
     }
 
+    /// Sizes on both sides of each place where something changes, in either file system.
     #[test]
     fn file_sizes_decide_w2_and_w126() {
-        let limit = DISK.file_limit();
-        for (size, w2, more) in [
-            (0, 0, false),
-            (1, 1, false),
-            (488, 1, false),
-            (489, 2, false),
-            (35_136, 72, false),
-            (35_137, 72, true),
-            (limit, 72, true),
+        for (disk, full, table, limit) in [
+            (Disk::PLAIN, 488, 35_136, 856_440),
+            (Disk::FAST, 512, 36_864, 898_560),
+            (Disk::INTERNATIONAL, 488, 35_136, 856_440),
+            (Disk::FAST_INTERNATIONAL, 512, 36_864, 898_560),
         ] {
-            let (right, wrong) = if more { (1, 0) } else { (0, 1) };
-            assert_eq!(file(&DISK, &good_file(size, w2, right)), 0, "{size}");
-            assert_eq!(file(&DISK, &good_file(size, w2, wrong)), 14, "{size}");
-            assert_eq!(file(&DISK, &good_file(size, w2 + 1, right)), 14, "{size}");
-            let fewer = good_file(size, w2.wrapping_sub(1), right);
-            assert_eq!(file(&DISK, &fewer), 14, "{size}");
+            for (size, w2, more) in [
+                (0, 0, false),
+                (1, 1, false),
+                (full, 1, false),
+                (full + 1, 2, false),
+                (table - full, 71, false),
+                (table - full + 1, 72, false),
+                (table, 72, false),
+                (table + 1, 72, true),
+                (limit, 72, true),
+            ] {
+                let (right, wrong) = if more { (1, 0) } else { (0, 1) };
+                assert_eq!(file(&disk, &good_file(size, w2, right)), 0, "{size}");
+                assert_eq!(file(&disk, &good_file(size, w2, wrong)), 14, "{size}");
+                assert_eq!(file(&disk, &good_file(size, w2 + 1, right)), 14, "{size}");
+                let fewer = good_file(size, w2.wrapping_sub(1), right);
+                assert_eq!(file(&disk, &fewer), 14, "{size}");
+            }
+            assert_eq!(file(&disk, &good_file(limit + 1, 72, 1)), 14);
+            assert_eq!(file(&disk, &good_file(u32::MAX, 72, 1)), 14);
         }
-        assert_eq!(file(&DISK, &good_file(limit + 1, 72, 1)), 14);
-        assert_eq!(file(&DISK, &good_file(u32::MAX, 72, 1)), 14);
+        // the count of the one file system is none of the other
+        for (size, old, fast) in [(512, 2, 1), (489, 2, 1), (1_024, 3, 2), (35_136, 72, 69)] {
+            for (disk, right, wrong) in [(Disk::PLAIN, old, fast), (Disk::FAST, fast, old)] {
+                let [right, wrong] = [right, wrong].map(|w2| file(&disk, &good_file(size, w2, 0)));
+                assert_eq!([right, wrong], [0, 14], "{size}");
+            }
+        }
+        assert_eq!(Disk::FLOPPIES.map(|disk| file(&disk, &good_file(856_441, 72, 1))), [14, 0, 14, 0]);
+        assert_eq!(Disk::FLOPPIES.map(|disk| file(&disk, &good_file(36_864, 72, 0))), [14, 0, 14, 0]);
+        assert_eq!(Disk::FLOPPIES.map(|disk| file(&disk, &good_file(36_864, 72, 1))), [0, 14, 0, 14]);
+    }
+
+    /// The Fast File System asks for w4 in no header.
+    #[test]
+    fn no_fast_file_is_asked_for_w4() {
+        for disk in [Disk::FAST, Disk::FAST_INTERNATIONAL] {
+            for (size, w2) in [(0, 0), (1_000, 2)] {
+                hold_words(
+                    &good_file(size, w2, 0),
+                    |block| file(&disk, block),
+                    |index| match index {
+                        2 | 81 | 126 => 14,
+                        _ => 0,
+                    },
+                );
+            }
+            // not even that of an empty file
+            for w4 in [0, 1, 900, 1_760, u32::MAX] {
+                let mut empty = good_file(0, 0, 0);
+                put(&mut empty, 4, w4);
+                assert_eq!(file(&disk, &empty), 0, "{w4}");
+                assert_eq!(file(&DISK, &empty), if w4 == 0 { 0 } else { 14 }, "{w4}");
+            }
+        }
     }
 
     #[test]
@@ -537,6 +585,27 @@ mod tests {
             1..=4 => 15,
             _ => 0,
         });
+    }
+
+    /// A block of the Fast File System passes with any words and any sum, wherever it stands in its file.
+    #[test]
+    fn fast_data_blocks_have_no_rules() {
+        let mut rng = Rng::new(20);
+        for disk in [Disk::FAST, Disk::FAST_INTERNATIONAL] {
+            for good in [good_last(), good_middle(), good_root(), good_list(72, 0), good_file(0, 0, 0)] {
+                for at in
+                    [LAST_AT, MIDDLE_AT, DataAt { named: 0, ..LAST_AT }, DataAt { number: 1, size: 1, ..LAST_AT }]
+                {
+                    assert_eq!(data(&disk, &good, at), 0, "{at:?}");
+                    for index in 0..BLOCK_WORDS {
+                        let mut block = good.clone();
+                        put(&mut block, index, rng.draw() as u32);
+                        assert_eq!(data(&disk, &block, at), 0, "{at:?}, w{index}");
+                    }
+                }
+            }
+            assert_eq!([0, 0xF6, 0xFF].map(|fill| data(&disk, &[fill; BLOCK_BYTES], LAST_AT)), [0; 3]);
+        }
     }
 
     #[test]

@@ -75,7 +75,7 @@ pub fn examine(blocks: u32, image: &[u8]) -> Finding {
     let references = view.references();
     let mut check = Check { view, references: &references, faults: Vec::new() };
     let reached = check.ownership();
-    check.sums(&reached);
+    check.sums();
     check.root();
     references.iter().filter(|one| view.is_key(one.key)).for_each(|one| check.kind(one.key, one.asked));
     check.names();
@@ -239,10 +239,14 @@ impl Check<'_> {
         holders.into_keys().filter(|&key| self.view.is_key(key)).chain([root]).collect()
     }
 
-    fn sums(&mut self, reached: &BTreeSet<u32>) {
-        for &key in reached {
-            self.note(sum(self.view.block(key)) == 0, 7, key);
-        }
+    /// The sum of the root and of every block that a reference takes for one with words; where data blocks have none,
+    /// that is all but these.
+    fn sums(&mut self) {
+        let view = self.view;
+        let is_worded = |one: &&Reference| !matches!(one.asked, Asked::Data { .. }) || view.disk.has_data_words();
+        let worded = self.references.iter().filter(is_worded).map(|one| one.key).filter(|&key| view.is_key(key));
+        let keys: BTreeSet<u32> = worded.chain([view.disk.root()]).collect();
+        keys.into_iter().for_each(|key| self.note(sum(view.block(key)) == 0, 7, key));
     }
 
     fn root(&mut self) {
@@ -262,7 +266,7 @@ impl Check<'_> {
         let own = |word, value| view.word(key, word) == value;
         match asked {
             Asked::Bitmap => {}
-            Asked::Data { .. } => self.note(own(0, 8), 8, key),
+            Asked::Data { .. } => self.note(own(0, 8) || !view.disk.has_data_words(), 8, key),
             Asked::List { header } => {
                 self.note(own(0, 16) && view.is_file(key), 8, key);
                 self.note(own(1, key) && own(125, header), 10, key);
@@ -306,15 +310,14 @@ impl Check<'_> {
         self.taken_for(|asked| matches!(asked, Asked::Entry { .. }), |key| self.view.is_file(key))
     }
 
-    /// A file as a whole: its tables together list as many keys as its size asks for, and the way from w4 to w4
-    /// goes through the same keys to a 0.
+    /// A file as a whole: its tables together list as many keys as its size asks for. Where data blocks have words, the
+    /// way from w4 to w4 goes through the same keys to a 0.
     fn file(&mut self, header: u32) {
         let view = self.view;
         let (table, full) = (TABLE as usize, view.disk.data_bytes() as usize);
         let size = view.word(header, 81) as usize;
         let count = size.div_ceil(full);
         self.note(size <= view.disk.file_limit() as usize, 14, header);
-        self.note(count > 0 || view.word(header, 4) == 0, 14, header);
 
         let tables = view.tables(header);
         for (index, &key) in tables.iter().enumerate() {
@@ -323,6 +326,10 @@ impl Check<'_> {
             self.note(listed && (view.word(key, 126) != 0) == (to_come > table), 14, key);
         }
 
+        if !view.disk.has_data_words() {
+            return;
+        }
+        self.note(count > 0 || view.word(header, 4) == 0, 14, header);
         let keys: Vec<u32> = tables.iter().flat_map(|&key| view.listed(key)).collect();
         let next = |&key: &u32| if view.is_key(key) { view.word(key, 4) } else { 0 };
         let way: Vec<u32> = [view.word(header, 4)].into_iter().chain(keys.iter().map(next)).collect();
@@ -371,9 +378,14 @@ mod tests {
 
     /// A file of 200 data blocks in a directory, and one more file, on a disk of any kind.
     fn volume(rng: &mut Rng) -> Volume {
-        let mut plan = Plan::new(&rng.pick(&Disk::FLOPPIES));
+        let disk = rng.pick(&Disk::FLOPPIES);
+        volume_on(rng, &disk)
+    }
+
+    fn volume_on(rng: &mut Rng, disk: &Disk) -> Volume {
+        let mut plan = Plan::new(disk);
         let within = Some(plan.add(rng, None, Some(3), Kind::Directory));
-        plan.add(rng, within, None, Kind::File(200 * 488));
+        plan.add(rng, within, None, Kind::File(200 * disk.data_bytes()));
         plan.add(rng, None, Some(3), Kind::File(1));
         let style = any_style(rng);
         Volume::new(rng, &plan, style)
@@ -395,7 +407,7 @@ mod tests {
     #[test]
     fn a_volume_is_what_it_was_planned_to_be() {
         let mut rng = Rng::new(100);
-        for disk in [Disk::FLOPPIES; 15].concat() {
+        for disk in [Disk::FLOPPIES; 10].concat() {
             let plan = mixed(&mut rng, &disk, 150);
             let style = any_style(&mut rng);
             let volume = Volume::new(&mut rng, &plan, style);
@@ -410,42 +422,70 @@ mod tests {
     #[test]
     fn every_fault_is_noted_and_no_other() {
         let mut rng = Rng::new(101);
-        let volume = volume(&mut rng);
+        for disk in Disk::FLOPPIES {
+            hold_faults(&volume_on(&mut rng, &disk));
+        }
+    }
+
+    fn hold_faults(volume: &Volume) {
         let (root, bitmap) = (volume.disk.root(), volume.bitmap);
         let find = |wanted: fn(Part) -> bool| volume.order.iter().find(|met| wanted(met.part)).unwrap().key;
         let directory = find(|part| matches!(part, Part::Directory(_)));
         let header = find(|part| matches!(part, Part::File(1)));
         let last = find(|part| matches!(part, Part::Data(1, 199)));
         let list = find(|part| matches!(part, Part::List(1, 1)));
+        // these are asked of data blocks with words alone
+        let of_data = [8, 15].map(|number| if volume.disk.has_data_words() { Some(number) } else { None });
+        let of_data = |number: u32, place: u32| (of_data.contains(&Some(number))).then_some((number, place));
+        let first = find(|part| matches!(part, Part::Data(1, 0)));
+        let data_faults = [
+            (header, vec![(4, 1)], vec![of_data(15, first)]),
+            (last, vec![(3, 487)], vec![of_data(15, last)]),
+            (last, vec![(4, last)], vec![of_data(15, last)]),
+            (last, vec![(0, 0), (2, 0)], vec![of_data(8, last), of_data(15, last)]),
+        ];
+        for (key, words, wanted) in data_faults {
+            let found = faults(&changed(volume, key, &words));
+            let wanted = wanted.into_iter().flatten().map(|(number, place)| (number, place as usize));
+            assert_eq!(found, wanted.collect::<Vec<_>>(), "block {key}, {words:?}");
+        }
         for (key, words, wanted) in [
             (root, &[(3, 71)][..], &[(4, root)][..]),
             (root, &[(80, 1), (1, 1)], &[(4, root), (16, root)]),
             (directory, &[(0, 3)], &[(8, directory)]),
             (directory, &[(127, 1), (0, 1)], &[(8, directory)]),
             (directory, &[(125, 2), (126, 1)], &[(10, directory), (10, directory)]),
-            (header, &[(4, 1)], &[(15, find(|part| matches!(part, Part::Data(1, 0))))]),
             (list, &[(1, 0)], &[(10, list)]),
             (list, &[(0, 2), (125, 2)], &[(8, list), (10, list)]),
-            (last, &[(3, 487)], &[(15, last)]),
-            (last, &[(4, last)], &[(15, last)]),
-            (last, &[(0, 0), (2, 0)], &[(8, last), (15, last)]),
             (bitmap, &[], &[]),
         ] {
-            let mut found = faults(&changed(&volume, key, words));
+            let mut found = faults(&changed(volume, key, words));
             // what hangs on a directory of no type is lost with it
             found.retain(|&(number, _)| number != 17 || key != directory);
             let wanted: Vec<_> = wanted.iter().map(|&(number, place)| (number, place as usize)).collect();
             assert_eq!(found, wanted, "block {key}, {words:?}");
         }
         assert_eq!(faults(&volume.image[1..]), [(1, 0)]);
-        for (place, byte) in [(0, 0), (3, 1), (3, 3), (3, 4), (3, 0xFF)] {
+        for (place, byte) in [(0, 0), (3, 4), (3, 5), (3, 0x80), (3, 0xFF)] {
             let mut untagged = volume.image.clone();
             untagged[place] = byte;
             assert_eq!(faults(&untagged), [(3, 0)]);
         }
         let mut unsummed = volume.image.clone();
         unsummed[last as usize * BLOCK_BYTES + 20] ^= 1;
-        assert_eq!(faults(&unsummed), [(7, last as usize)]);
+        assert_eq!(faults(&unsummed).contains(&(7, last as usize)), volume.disk.has_data_words());
+        assert_eq!(faults(&unsummed).len(), usize::from(volume.disk.has_data_words()));
+        // a block that is data, and something else besides, has the sum of that
+        let taken = changed(volume, header, &[(77, list), (76, last)]);
+        let both =
+            |image: &[u8]| faults(image).into_iter().filter(|&(_, place)| [list, last].contains(&(place as u32)));
+        assert!(
+            both(&taken).any(|fault| fault == (6, list as usize))
+                && both(&taken).any(|fault| fault == (6, last as usize))
+        );
+        let mut unsummed = taken.clone();
+        unsummed[list as usize * BLOCK_BYTES + 20] ^= 1;
+        assert!(both(&unsummed).any(|fault| fault == (7, list as usize)));
     }
 
     /// A loop of links is a finite set of references like any other.

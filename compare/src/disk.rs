@@ -33,17 +33,20 @@ impl Disk {
     /// The floppy in the old file system, where only the 26 letters have two cases.
     pub const PLAIN: Disk = Disk { blocks: FLOPPY, kind: 0 };
 
-    /// The same for names with accents, where letters with accents have two cases as well.
+    /// The same in the Fast File System, whose data blocks have no words of their own.
+    pub const FAST: Disk = Disk { blocks: FLOPPY, kind: 1 };
+
+    /// The floppy in the old file system for names with accents: letters with accents have two cases as well.
     pub const INTERNATIONAL: Disk = Disk { blocks: FLOPPY, kind: 2 };
 
-    /// The floppies of all kinds.
-    pub const FLOPPIES: [Disk; 2] = [Disk::PLAIN, Disk::INTERNATIONAL];
+    /// The floppy in the Fast File System for names with accents.
+    pub const FAST_INTERNATIONAL: Disk = Disk { blocks: FLOPPY, kind: 3 };
+
+    /// The floppies of all kinds, by their kind.
+    pub const FLOPPIES: [Disk; 4] = [Disk::PLAIN, Disk::FAST, Disk::INTERNATIONAL, Disk::FAST_INTERNATIONAL];
 
     /// The first block that belongs to the volume; those below it are for booting and have no bit.
     pub const FIRST_KEY: u32 = 2;
-
-    /// Where the data of a data block begin, in bytes; six words about them stand before.
-    pub const DATA_START: usize = 24;
 
     /// The disk of so many blocks that an image is of, by its boot tag; `None` if that is the tag of no kind.
     pub fn of(blocks: u32, image: &[u8]) -> Option<Disk> {
@@ -57,9 +60,30 @@ impl Disk {
         all.filter(move |&disk| disk != self)
     }
 
+    /// The disk in the old file system that folds names as this one does.
+    pub const fn old(self) -> Disk {
+        let old = if self.is_international() { Disk::INTERNATIONAL } else { Disk::PLAIN };
+        Disk { blocks: self.blocks, ..old }
+    }
+
     /// Whether letters with accents have two cases.
     pub const fn is_international(&self) -> bool {
-        self.kind == Disk::INTERNATIONAL.kind
+        self.kind == Disk::INTERNATIONAL.kind || self.kind == Disk::FAST_INTERNATIONAL.kind
+    }
+
+    /// Whether a data block has words of its own, among them its sum, and whether w4 of a header is asked for. In the
+    /// Fast File System it is bytes of its file and nothing else.
+    pub const fn has_data_words(&self) -> bool {
+        !(self.kind == Disk::FAST.kind || self.kind == Disk::FAST_INTERNATIONAL.kind)
+    }
+
+    /// Where the bytes of a file begin in a data block; if it has words of its own, six stand before.
+    pub const fn data_start(&self) -> usize {
+        if self.has_data_words() {
+            24
+        } else {
+            0
+        }
     }
 
     /// The key of its root block, in the middle.
@@ -79,7 +103,7 @@ impl Disk {
 
     /// How many bytes of a file one data block takes.
     pub const fn data_bytes(&self) -> u32 {
-        (BLOCK_BYTES - Self::DATA_START) as u32
+        (BLOCK_BYTES - self.data_start()) as u32
     }
 
     /// The largest size that a file header may state: every block that root, bitmap block and the header itself
@@ -107,22 +131,23 @@ mod tests {
     #[test]
     fn every_number_follows_the_block_count() {
         let disk = Disk { blocks: 100, kind: 7 };
+        let fast = Disk { blocks: 100, kind: 3 };
         assert_eq!(image_length(disk.blocks), 51_200);
         assert_eq!(claim_length(disk.blocks), 100);
         assert_eq!(disk.root(), 50);
         assert_eq!(disk.keys(), 2..100);
         assert_eq!(disk.chain_limit(), 96);
-        assert_eq!(disk.file_limit(), 95 * 488);
+        assert_eq!([disk.file_limit(), fast.file_limit()], [95 * 488, 95 * 512]);
         assert_eq!(disk.boot_tag(), [0x44, 0x4F, 0x53, 7]);
         assert_eq!(disk.bitmap_span(), 98);
     }
 
-    /// All tags that are the letters DOS and one byte, and all that differ from one of the two in one bit.
+    /// All tags that are the letters DOS and one byte, and all that differ from one of them in one bit of a letter.
     #[test]
     fn the_boot_tag_says_the_kind() {
         for blocks in [100, FLOPPY] {
             for kind in 0..=255 {
-                let wanted = [0, 2].contains(&kind).then_some(Disk { blocks, kind });
+                let wanted = (kind < 4).then_some(Disk { blocks, kind });
                 assert_eq!(Disk::of(blocks, &[0x44, 0x4F, 0x53, kind, 1, 2, 3]), wanted, "{kind}");
                 for (place, bit) in (0..3).flat_map(|place| (0..8).map(move |bit| (place, bit))) {
                     let mut tag = [0x44, 0x4F, 0x53, kind];
@@ -136,10 +161,17 @@ mod tests {
         }
     }
 
+    /// Which kinds fold accents, which have words in their data blocks, and what follows from that.
     #[test]
-    fn one_kind_is_international() {
-        assert_eq!(Disk::FLOPPIES.map(|disk| (disk.kind, disk.is_international())), [(0, false), (2, true)]);
+    fn what_each_kind_is() {
+        let found = Disk::FLOPPIES.map(|disk| (disk.kind, disk.is_international(), disk.has_data_words()));
+        assert_eq!(found, [(0, false, true), (1, false, false), (2, true, true), (3, true, false)]);
+        let found = Disk::FLOPPIES.map(|disk| (disk.data_start(), disk.data_bytes(), disk.file_limit()));
+        let [old, fast] = [(24, 488, 856_440), (0, 512, 898_560)];
+        assert_eq!(found, [old, fast, old, fast]);
         let small = Disk { blocks: 9, kind: 2 };
-        assert!(small.others().eq([Disk { blocks: 9, kind: 0 }]));
+        assert!(small.others().eq([0, 1, 3].map(|kind| Disk { blocks: 9, kind })));
+        let old = [0, 1, 2, 3].map(|kind| Disk { blocks: 9, kind }.old());
+        assert_eq!(old, [0, 0, 2, 2].map(|kind| Disk { blocks: 9, kind }));
     }
 }

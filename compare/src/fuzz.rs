@@ -7,19 +7,21 @@ use std::collections::{BTreeMap, BTreeSet};
 use std::rc::Rc;
 
 use crate::bad_programs::{bad_bases, scratch as scratch_program, short_room, CAUSES};
-use crate::bad_volumes::{apply, causes, harmless, retagged, scratch, wrong_lengths, Cause, Harm, Patch};
+use crate::bad_volumes::{apply, causes, harmless, scratch, wrong_lengths, Cause, Harm, Patch};
 use crate::calls::{Calls, Opinion};
 use crate::disk::{image_length, Disk, FLOPPY};
 use crate::driver::Request;
+use crate::kinds::retagged;
 use crate::model::{load_body, move_body, read_request, Model, AUDIT, FILE, FIND, IMAGE, LOAD, MOVE, PATCH};
 use crate::native::Exports;
 use crate::paths::{bad_forms, telling_offsets, telling_rooms, Paths};
 use crate::programs::{file, good_bases, good_program, Room};
 use crate::rng::Rng;
+use crate::sizes::largest_file;
 use crate::volumes::{
-    alike, any_style, chain, empty, files, full, mixed, nested, shuffle, Kind, Part, Volume, TELLING_SIZES,
+    alike, any_style, chain, empty, files, full, mixed, nested, shuffle, telling_sizes, Kind, Part, Volume,
 };
-use crate::words::BLOCK_BYTES;
+use crate::words::{BLOCK_BYTES, TABLE};
 
 /// What is asked of an image.
 #[derive(Clone, Debug, PartialEq, Eq)]
@@ -181,15 +183,16 @@ pub fn differ(case: &Case, one: &mut Answerer, other: &mut Answerer) -> bool {
 fn any_volume(rng: &mut Rng) -> Volume {
     let disk = &rng.pick(&Disk::FLOPPIES);
     let few = 1 + rng.below(60) as u32;
+    let full_block = disk.data_bytes();
     let plan = match rng.below(40) {
         0 => empty(disk),
         1..4 => nested(rng, disk, few),
         4..8 => chain(rng, disk, few),
-        8..10 => files(rng, disk, &TELLING_SIZES),
-        10..13 => files(rng, disk, &[105_409, 70_272, 1]),
+        8..10 => files(rng, disk, &telling_sizes(disk)),
+        10..13 => files(rng, disk, &[3 * TABLE * full_block + 1, 2 * TABLE * full_block, 1]),
         13 => nested(rng, disk, disk.chain_limit()),
         14 => chain(rng, disk, disk.chain_limit()),
-        15 => files(rng, disk, &[844_728]),
+        15 => files(rng, disk, &[largest_file(disk)]),
         16..18 => full(rng, disk),
         18..22 => alike(rng, disk, few, if disk.is_international() { 0 } else { few / 8 }),
         _ => {
@@ -201,9 +204,13 @@ fn any_volume(rng: &mut Rng) -> Volume {
     Volume::new(rng, &plan, style)
 }
 
-/// Some harms of which it is known what they are, mended or not, alone or two of them.
+/// Some harms of which it is known what they are, mended or not, alone or two of them; or a change that is harm in
+/// another file system.
 fn aimed(rng: &mut Rng, volume: &Volume) -> Vec<Patch> {
     let all: Vec<&Cause> = causes().collect();
+    if let Some(patches) = rng.pick(&all).allowed(rng, volume) {
+        return patches;
+    }
     let [one, two] = [(); 2].map(|()| rng.pick(&all).harm(rng, volume));
     let harm = match (one, two, rng.below(3)) {
         (Some(one), Some(two), 0) => one.with(&two),
@@ -292,7 +299,8 @@ fn concerned(rng: &mut Rng, paths: &Paths, patches: &[Patch], others: &[Vec<u8>]
 
 /// A read of a path on such a disk, small more often than large.
 fn any_read(rng: &mut Rng, disk: &Disk, path: &[u8]) -> Asked {
-    let size = rng.pick(&[0, 1, 488, 489, 1_000, 35_137, 70_273]);
+    let [none, one, _, full, more, table, over] = telling_sizes(disk);
+    let size = rng.pick(&[none, one, full, more, 1_000, over, 2 * table + 1]);
     let offset = rng.pick(&telling_offsets(disk, size));
     let room = rng.pick(&telling_rooms(disk, size.saturating_sub(offset) as usize)) as u32;
     let room = if room > 2_000 && rng.below(6) > 0 { rng.below(2_000) as u32 } else { room };
@@ -445,7 +453,7 @@ mod tests {
     #[test]
     fn a_round_follows_from_its_seed_and_has_everything() {
         let (mut sum, mut asked) = (Tally::new(), BTreeMap::new());
-        for seed in 0..6 {
+        for seed in 0..16 {
             let cases = round(seed);
             let tally = compare(&cases, &mut due, &mut due).expect("the model agrees with itself");
             tally.into_iter().for_each(|(kind, times)| *sum.entry(kind).or_default() += times);
@@ -458,12 +466,12 @@ mod tests {
             let refused: usize = sum.range((call, 1)..(call + 1, 0)).map(|(_, times)| times).sum();
             assert!(accepted > 30 && refused > 30, "{call}: {accepted} accepted, {refused} refused");
         }
-        // of each kind; of each, but by a patch of the other; and of each, but by a patch of none
-        for (kinds, least) in [([0, 0], 200), ([2, 2], 200), ([0, 2], 10), ([2, 0], 10)] {
-            let times = asked.get(&kinds.map(Some)).copied().unwrap_or(0);
-            assert!(times >= least, "{kinds:?} {times} times: {asked:?}");
+        // of each kind; of each, but by a patch of another; and of each, but by a patch of none
+        for (drawn, now) in (0..4).flat_map(|drawn| (0..4).map(move |now| (drawn, now))) {
+            let times = asked.get(&[Some(drawn), Some(now)]).copied().unwrap_or(0);
+            assert!(times >= if drawn == now { 200 } else { 5 }, "{drawn} {now} {times} times: {asked:?}");
         }
-        assert!([0, 2].iter().all(|&kind| asked.contains_key(&[Some(kind), None])), "{asked:?}");
+        assert!((0..4).all(|kind| asked.contains_key(&[Some(kind), None])), "{asked:?}");
     }
 
     /// A wrong answerer: the model, but for one kind of line.
@@ -482,7 +490,7 @@ mod tests {
     }
 
     fn caught_from(mut wrong: &mut Answerer) -> Case {
-        let found = (100..160).find_map(|seed| {
+        let found = (200..260).find_map(|seed| {
             let cases = round(seed);
             let difference = compare(&cases, &mut due, &mut wrong).err()?;
             Some(cases[difference.case].clone())
@@ -499,10 +507,11 @@ mod tests {
 
     #[test]
     fn slips_of_audits_are_caught_and_made_small() {
-        // a link that passes for a wrong type: the tag, the root, the bitmap block and the entry are needed
+        // a link that passes for a wrong type: the tag, the root, the bitmap block and the entry are needed, and the
+        // directories above it
         let case = caught(|_, line| line.strip_prefix("refused 9 ").map(|rest| format!("refused 8 {rest}")));
         let (words, blocks) = image_size(&case);
-        assert!(words <= 2 && blocks <= 4, "{}", told(&case));
+        assert!(words <= 2 && blocks <= 8, "{}", told(&case));
         let case = caught(|number, line| (number == AUDIT && line.starts_with("refused 17 ")).then(String::new));
         let (words, blocks) = image_size(&case);
         assert!(words <= 2 && blocks <= 3, "{}", told(&case));
@@ -520,31 +529,49 @@ mod tests {
         assert_eq!((offset, room), (0, 0));
     }
 
-    /// The lines that are due if the tag of an international disk were that of a plain one.
-    fn without_accents(requests: &[Request]) -> Vec<String> {
-        let plain = |(number, body): &Request| {
+    /// The lines that are due if each kind in a tag were another: those of kinds 0 to 3.
+    fn with_kinds(others: [u8; 4]) -> impl Fn(&[Request]) -> Vec<String> {
+        let changed = move |(number, body): &Request| {
             let mut body = body.clone();
             let place = match *number {
                 IMAGE => Some(3),
                 PATCH => 3_usize.checked_sub(word(&body, 0) as usize).map(|within| 4 + within),
                 _ => None,
             };
-            if let Some(kind) = place.and_then(|place| body.get_mut(place)).filter(|kind| **kind == 2) {
-                *kind = 0;
+            if let Some(kind) = place.and_then(|place| body.get_mut(place)) {
+                *kind = others.get(usize::from(*kind)).copied().unwrap_or(*kind);
             }
             (*number, body)
         };
-        due(&requests.iter().map(plain).collect::<Vec<Request>>())
+        move |requests| due(&requests.iter().map(changed).collect::<Vec<Request>>())
     }
 
     /// A reader that knows no accents is caught at an entry with one.
     #[test]
     fn slips_of_folding_are_caught_and_made_small() {
-        let case = caught_from(&mut without_accents);
+        let case = caught_from(&mut with_kinds([0, 1, 0, 1]));
         let (words, blocks) = image_size(&case);
         // the tag, the root and the entry, for an audit the bitmap block too; at most the tag and a name are patched
         assert!(words <= 4 && blocks <= 4, "{}", told(&case));
-        assert_eq!(kinds(&case).map(|kinds| kinds[1]), Some(Some(2)), "{}", told(&case));
+        let kind = kinds(&case).and_then(|kinds| kinds[1]);
+        assert!([Some(2), Some(3)].contains(&kind), "{}", told(&case));
+    }
+
+    /// A reader that has one file system for the other is caught at a file, and so is one that knows one of them only.
+    #[test]
+    fn slips_of_the_file_system_are_caught_and_made_small() {
+        for (others, caught_at) in [([0, 0, 2, 2], [1, 3]), ([1, 1, 3, 3], [0, 2])] {
+            let case = caught_from(&mut with_kinds(others));
+            let (words, blocks) = image_size(&case);
+            // the tag, the root, the header and a table, and the directories above
+            assert!(words <= 4 && blocks <= 12, "{}", told(&case));
+            let kind = kinds(&case).and_then(|kinds| kinds[1]);
+            assert!(caught_at.map(Some).contains(&kind), "{}", told(&case));
+        }
+        let case = caught_from(&mut with_kinds([0, 4, 2, 4]));
+        // the root is enough
+        assert!(image_size(&case).1 <= 2, "{}", told(&case));
+        assert!([Some(1), Some(3)].contains(&kinds(&case).and_then(|kinds| kinds[1])), "{}", told(&case));
     }
 
     #[test]

@@ -26,6 +26,7 @@
 //! - [`bad_programs`]: what can be wrong with them, each with the refusal due for it;
 //! - [`volumes`]: good volumes to audit, drawn at random, with what each of their blocks is;
 //! - [`bad_volumes`]: what can be wrong with them, each with the refusal due for it;
+//! - [`kinds`]: the bytes of a volume under the tag of another kind of disk, with the answers due for them;
 //! - [`paths`]: paths to look for on good volumes, each with the answer due;
 //! - [`calls`]: the calls of the library, whoever makes them;
 //! - [`areas`]: areas to lend, with guards around them;
@@ -51,6 +52,7 @@ pub mod declared;
 pub mod disk;
 pub mod driver;
 pub mod fuzz;
+pub mod kinds;
 pub mod loader;
 pub mod lookup;
 pub mod model;

@@ -264,7 +264,12 @@ mod tests {
         let wrong_slot = Err(Refusal::at(12, key(&volume, b"\xE0") as usize));
         assert_eq!(asked(&image, b"\xC0"), wrong_slot);
         assert_eq!(asked(&image, b"\xE0"), Err(Refusal::at(19, 0)));
-        for kind in [1, 3, 4, 0x80, 0xFF] {
+        // the file system is no matter
+        image[3] = 1;
+        assert_eq!([asked(&image, b"\xC0"), asked(&image, b"\xE0")], [wrong_slot, Err(Refusal::at(19, 0))]);
+        image[3] = 3;
+        assert_eq!([&b"\xE0"[..], b"\xC0"].map(|path| asked(&image, path)), [Ok(7); 2]);
+        for kind in [4, 5, 6, 7, 0x80, 0xFF] {
             image[3] = kind;
             assert_eq!([&b""[..], b"\xE0", b"x"].map(|path| asked(&image, path)), [Err(Refusal::at(3, 0)); 3]);
             assert_eq!(asked(&image, b"x/"), Err(Refusal::at(18, 1)));

@@ -7,6 +7,7 @@ use std::collections::{BTreeMap, BTreeSet};
 
 use crate::blocks::{DIRECTORY, FILE};
 use crate::disk::Disk;
+use crate::kinds::first_misfit_of_file;
 use crate::lookup::{Found, LONGEST_PATH};
 use crate::names::{fold, hash, same, slot, LONGEST};
 use crate::program::Refusal;
@@ -106,12 +107,20 @@ impl<'a> Paths<'a> {
 
     /// The bytes of a file.
     pub fn contents(&self, number: usize) -> Vec<u8> {
+        self.contents_on(&self.volume.disk, number).expect("a good file")
+    }
+
+    /// The bytes that a file has if the tag is that of another disk, or what a read of it is due for.
+    pub fn contents_on(&self, disk: &Disk, number: usize) -> Result<Vec<u8>, Refusal> {
         let entry = &self.volume.entries[number];
         let part = |(&key, number)| {
-            let bytes = held(&self.volume.disk, entry.size(), number) as usize;
-            self.volume.block(key)[Disk::DATA_START..][..bytes].iter().copied()
+            let bytes = held(disk, entry.size(), number) as usize;
+            self.volume.block(key)[disk.data_start()..][..bytes].iter().copied()
         };
-        entry.data.iter().zip(1..).flat_map(part).collect()
+        match first_misfit_of_file(self.volume, disk, number) {
+            Some(refusal) => Err(refusal),
+            None => Ok(entry.data.iter().zip(1..).flat_map(part).collect()),
+        }
     }
 
     /// The entries in a directory.
@@ -308,6 +317,8 @@ mod tests {
     use crate::disk::FLOPPY;
     use crate::lookup::find;
     use crate::names::valid;
+    use crate::reading::read;
+    use crate::sizes::largest_file;
     use crate::volumes::{any_style, mixed};
 
     const DISK: Disk = Disk::PLAIN;
@@ -350,7 +361,7 @@ mod tests {
     fn every_question_is_answered_as_is_due() {
         let mut rng = Rng::new(111);
         let mut met = BTreeMap::new();
-        for disk in [Disk::FLOPPIES; 10].concat() {
+        for disk in [Disk::FLOPPIES; 6].concat() {
             let volume = volume(&mut rng, &disk);
             let paths = Paths::new(&volume);
             let mut questions = vec![paths.root()];
@@ -369,37 +380,82 @@ mod tests {
                 *met.entry((disk.kind, *what)).or_insert(0) += 1;
             }
         }
-        let rare: Vec<_> = met.iter().filter(|(_, &times)| times < 10).collect();
-        assert!(rare.is_empty() && met.len() == 2 * 17, "{rare:?} of {met:?}");
+        let rare: Vec<_> = met.iter().filter(|(_, &times)| times < 6).collect();
+        assert!(rare.is_empty() && met.len() == 4 * 17, "{rare:?} of {met:?}");
     }
 
-    /// The same bytes under the tag of the other kind: some paths still lead somewhere, on some there is an entry that
-    /// hangs wrongly, and some lead nowhere.
+    /// The same bytes under the tags of all other kinds. Where these fold otherwise, some paths still lead somewhere,
+    /// on some there is an entry that hangs wrongly, and some lead nowhere; else all lead where they did.
     #[test]
     fn paths_on_a_disk_of_another_kind() {
         let mut rng = Rng::new(114);
         let mut met = BTreeMap::new();
-        for disk in [Disk::FLOPPIES; 10].concat() {
+        for disk in [Disk::FLOPPIES; 8].concat() {
             let volume = volume(&mut rng, &disk);
             let paths = Paths::new(&volume);
-            let Some(other) = disk.others().next() else { continue };
-            let mut image = volume.image.clone();
-            image[..4].copy_from_slice(&other.boot_tag());
-            for number in (0..volume.entries.len()).filter(|&number| paths.is_within_reach(number)) {
-                let components = paths.components(Some(number));
-                let again: Vec<_> = components.iter().map(|name| recased(&mut rng, &other, name)).collect();
-                for (components, kind) in [(&components, &disk), (&components, &other), (&again, &other)] {
-                    let due = paths.on(kind, components);
-                    let image = if *kind == disk { &volume.image } else { &image };
-                    assert_eq!(find(FLOPPY, image, &components.join(&b'/')), due, "{components:?}");
-                    let number = due.map_or_else(|refusal| refusal.number, |_| 0);
-                    *met.entry((disk.kind, kind.kind, number)).or_insert(0) += 1;
+            for kind in disk.others().chain([disk]) {
+                let mut image = volume.image.clone();
+                image[..4].copy_from_slice(&kind.boot_tag());
+                for number in (0..volume.entries.len()).filter(|&number| paths.is_within_reach(number)) {
+                    let components = paths.components(Some(number));
+                    let again: Vec<_> = components.iter().map(|name| recased(&mut rng, &kind, name)).collect();
+                    for components in [&components, &again] {
+                        let due = paths.on(&kind, components);
+                        assert_eq!(find(FLOPPY, &image, &components.join(&b'/')), due, "{components:?}");
+                        let number = due.map_or_else(|refusal| refusal.number, |_| 0);
+                        *met.entry((disk.is_international(), kind.is_international(), number)).or_insert(0) += 1;
+                    }
                 }
             }
         }
-        let changed = [0, 12, 19].map(|number| [(0, 2, number), (2, 0, number)]).concat();
+        let changed = [0, 12, 19].map(|number| [(false, true, number), (true, false, number)]).concat();
         let often = |answer| met.get(&answer).is_some_and(|&times| times > 20);
-        assert!([(0, 0, 0), (2, 2, 0)].into_iter().chain(changed).all(often), "{met:?}");
+        assert!([(false, false, 0), (true, true, 0)].into_iter().chain(changed).all(often), "{met:?}");
+        assert!(met.keys().all(|(from, to, number)| from != to || *number == 0), "{met:?}");
+    }
+
+    /// Files read under every tag: what is due is known from the volume, and a read says the same. In another file
+    /// system some have the same number of blocks and other bytes, and some are refused.
+    #[test]
+    fn files_on_a_disk_of_another_kind() {
+        let mut rng = Rng::new(115);
+        let mut met: BTreeMap<(bool, bool), BTreeMap<u32, u32>> = BTreeMap::new();
+        for disk in [Disk::FLOPPIES; 20].concat() {
+            let volume = volume(&mut rng, &disk);
+            let paths = Paths::new(&volume);
+            for kind in disk.others().chain([disk]) {
+                let mut image = volume.image.clone();
+                image[..4].copy_from_slice(&kind.boot_tag());
+                let is_file = |&number: &usize| matches!(volume.entries[number].kind, Kind::File(_));
+                for number in (0..volume.entries.len()).filter(is_file) {
+                    let components = paths.components(Some(number));
+                    let Ok(found) = paths.on(&kind, &components) else { continue };
+                    let path = components.join(&b'/');
+                    if path.len() > LONGEST_PATH || found.key != volume.entries[number].key {
+                        continue;
+                    }
+                    let due = paths.contents_on(&kind, number);
+                    let mut output = vec![0xAA; found.size as usize + 5];
+                    let count = read(FLOPPY, &image, &path, 0, &mut output);
+                    assert_eq!(count, due.as_ref().map(Vec::len).map_err(|refusal| *refusal), "{path:?}");
+                    let bytes = due.as_deref().unwrap_or(&[]);
+                    assert!(
+                        output[..bytes.len()] == *bytes && output[bytes.len()..].iter().all(|&byte| byte == 0xAA)
+                    );
+                    let number = due.map_or_else(|refusal| refusal.number, |_| 0);
+                    let rules = (disk.has_data_words(), kind.has_data_words());
+                    *met.entry(rules).or_default().entry(number).or_default() += 1;
+                }
+            }
+        }
+        let numbers = [
+            ((false, false), vec![0]),
+            ((false, true), vec![0, 7, 8, 14, 15]),
+            ((true, false), vec![0, 14]),
+            ((true, true), vec![0]),
+        ];
+        assert!(met.iter().map(|(rules, met)| (*rules, met.keys().copied().collect())).eq(numbers), "{met:?}");
+        assert!(met.values().flat_map(|met| met.values()).all(|&times| times >= 10), "{met:?}");
     }
 
     #[test]
@@ -440,19 +496,23 @@ mod tests {
 
     #[test]
     fn offsets_and_rooms_at_both_sides_of_every_end() {
-        let offsets = telling_offsets(&DISK, 35_137);
-        for wanted in [0, 1, 487, 488, 489, 35_135, 35_136, 35_137, 35_138, 70_271, u32::MAX] {
-            assert!(offsets.contains(&wanted), "{wanted}");
-        }
-        assert!(telling_offsets(&DISK, 0).contains(&1));
-        for size in [0, 1, 487, 488, 35_137, 844_728] {
-            let (far, size) = (far_offsets(&DISK, size), size as usize);
-            assert!(far.iter().all(|&offset| offset > u32::MAX as usize));
-            assert!(far.contains(&(1 << 32)) && far.contains(&usize::MAX), "{size}");
-            assert!(size == 0 || far.iter().any(|&offset| (offset as u32 as usize) < size), "{size}");
-            assert!(far.iter().any(|&offset| offset.wrapping_add(size + 1) < offset), "{size}");
+        for (disk, full, table) in [(DISK, 488, 35_136), (Disk::FAST, 512, 36_864)] {
+            let offsets = telling_offsets(&disk, table + 1);
+            for end in [full, table, table + 1] {
+                assert!([end - 1, end, end + 1].iter().all(|offset| offsets.contains(offset)), "{end}");
+            }
+            assert!([0, 1, 2 * table - 1, u32::MAX].iter().all(|offset| offsets.contains(offset)));
+            assert!(telling_offsets(&disk, 0).contains(&1));
+            for size in [0, 1, full - 1, full, table + 1, largest_file(&disk)] {
+                let (far, size) = (far_offsets(&disk, size), size as usize);
+                assert!(far.iter().all(|&offset| offset > u32::MAX as usize));
+                assert!(far.contains(&(1 << 32)) && far.contains(&usize::MAX), "{size}");
+                assert!(size == 0 || far.iter().any(|&offset| (offset as u32 as usize) < size), "{size}");
+                assert!(far.iter().any(|&offset| offset.wrapping_add(size + 1) < offset), "{size}");
+            }
         }
         assert_eq!(telling_rooms(&DISK, 1_000), [0, 1, 2, 487, 488, 489, 999, 1_000, 1_001, 1_300]);
         assert_eq!(telling_rooms(&DISK, 0), [0, 1, 2, 300, 487, 488, 489]);
+        assert_eq!(telling_rooms(&Disk::FAST, 0), [0, 1, 2, 300, 511, 512, 513]);
     }
 }

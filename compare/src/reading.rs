@@ -43,7 +43,7 @@ fn contents(disk: &Disk, image: &[u8], header: u32) -> Result<Vec<u8>, Refusal> 
         named = word(block, 4);
     }
     ended?;
-    let part = |(&key, number)| &block(image, key)[Disk::DATA_START..][..held(disk, size, number) as usize];
+    let part = |(&key, number)| &block(image, key)[disk.data_start()..][..held(disk, size, number) as usize];
     Ok(keys.iter().zip(1..).flat_map(part).copied().collect())
 }
 
@@ -72,16 +72,16 @@ mod tests {
     use crate::audit::audit;
     use crate::disk::FLOPPY;
     use crate::rng::Rng;
-    use crate::volumes::{any_style, Entry, Kind, Plan, Volume, TELLING_SIZES};
+    use crate::volumes::{any_style, telling_sizes, Entry, Filling, Kind, Order, Plan, Style, Volume};
     use crate::words::{mend, put, BLOCK_BYTES};
 
     /// A file with one list, one with three full lists, an empty one, and a directory with a file, on a disk of this
     /// kind.
     fn volume_on(disk: &Disk) -> Volume {
-        let mut rng = Rng::new(130);
+        let (mut rng, full) = (Rng::new(130), disk.data_bytes());
         let mut plan = Plan::new(disk);
-        plan.add_named(None, b"one", Kind::File(74 * 488 + 1));
-        plan.add_named(None, b"three", Kind::File(4 * 72 * 488));
+        plan.add_named(None, b"one", Kind::File(74 * full + 1));
+        plan.add_named(None, b"three", Kind::File(4 * 72 * full));
         plan.add_named(None, b"empty", Kind::File(0));
         let within = Some(plan.add_named(None, b"Mary", Kind::Directory));
         plan.add_named(within, b"box", Kind::File(1_000));
@@ -143,6 +143,53 @@ mod tests {
         assert_eq!(&output[..8], b"end1last");
     }
 
+    /// The same in the Fast File System: 516 bytes, of which 512 are in the first block. Nothing in a block is but
+    /// bytes, no sum is mended, and the header names no data block.
+    #[test]
+    fn a_fast_file_made_by_hand() {
+        let mut image = vec![0; 901_120];
+        image[..4].copy_from_slice(b"DOS\x01");
+        let root = [(0, 2), (3, 72), (12, 4), (108, 0x0141_0000), (127, 1)];
+        let directory = [(0, 2), (1, 4), (14, 5), (108, 0x0141_0000), (125, 880), (127, 2)];
+        let header = [(0, 2), (1, 5), (2, 2), (4, 0xDEAD_BEEF), (76, 7), (77, 9), (81, 516), (108, 0x0143_0000)];
+        let header = [&header[..], &[(125, 4), (127, 0xFFFF_FFFD)]].concat();
+        for (key, words) in [(880, &root[..]), (4, &directory), (5, &header)] {
+            image = changed(&image, key, words);
+        }
+        image[9 * 512..][..8].copy_from_slice(b"first512");
+        image[9 * 512 + 508..][..4].copy_from_slice(b"end1");
+        image[7 * 512..][..8].copy_from_slice(b"lastNOPE");
+        for (kind, path) in [(1, b"A/c"), (3, b"a/C")] {
+            image[3] = kind;
+            let mut output = [0xAA; 520];
+            assert_eq!(read(FLOPPY, &image, path, 0, &mut output), Ok(516));
+            assert_eq!((&output[..8], &output[8..508]), (&b"first512"[..], &[0; 500][..]));
+            assert_eq!(&output[508..], b"end1last\xAA\xAA\xAA\xAA");
+            for (offset, room, bytes) in [
+                (0, 0, &b""[..]),
+                (0, 1, b"f"),
+                (507, 3, b"\0en"),
+                (511, 1, b"1"),
+                (511, 2, b"1l"),
+                (512, 9, b"last"),
+                (513, 2, b"as"),
+                (515, 9, b"t"),
+                (516, 9, b""),
+                (517, 9, b""),
+            ] {
+                let mut output = vec![0xAA; room];
+                assert_eq!(read(FLOPPY, &image, path, offset, &mut output), Ok(bytes.len()), "{offset}");
+                assert_eq!(&output[..bytes.len()], bytes, "{offset}");
+                assert!(output[bytes.len()..].iter().all(|&byte| byte == 0xAA), "{offset}");
+            }
+        }
+        // the old file system has two blocks for it too, and asks for sums
+        for kind in [0, 2] {
+            image[3] = kind;
+            hold_refused(&image, b"A/c", 7, 9);
+        }
+    }
+
     /// What a read from this offset on makes of an output of this length.
     fn got(volume: &Volume, path: &[u8], offset: usize, room: usize) -> (usize, Vec<u8>) {
         let mut output = vec![0xAA; room];
@@ -153,16 +200,20 @@ mod tests {
     #[test]
     fn pieces_make_the_whole() {
         let mut rng = Rng::new(131);
-        for size in TELLING_SIZES.into_iter().chain([1_000, 70_273]) {
-            let mut plan = Plan::new(&rng.pick(&Disk::FLOPPIES));
+        let all = Disk::FLOPPIES.into_iter().flat_map(|disk| {
+            let sizes = telling_sizes(&disk).into_iter().chain([1_000, 2 * 72 * disk.data_bytes() + 1]);
+            sizes.map(move |size| (disk, size))
+        });
+        for (disk, size) in all {
+            let mut plan = Plan::new(&disk);
             plan.add_named(None, b"file", Kind::File(size));
             let style = any_style(&mut rng);
             let volume = Volume::new(&mut rng, &plan, style);
             let (count, whole) = got(&volume, b"file", 0, size as usize + 10);
             assert_eq!((count, &whole[count..]), (size as usize, &[0xAA; 10][..]));
-            for piece in [1, 3, 487, 488, 489, 976, 5_000, 35_136, 35_137] {
+            for piece in [1, 487, 488, 489, 511, 512, 513, 1_024, 5_000, 35_136, 36_864, 36_865] {
                 // small pieces of a large file would take long
-                let starts = (0..=count).step_by(piece).take(100);
+                let starts = (0..=count).step_by(piece).take(60);
                 for start in starts {
                     let (part, output) = got(&volume, b"file", start, piece);
                     let due = &whole[start..count.min(start + piece)];
@@ -200,7 +251,7 @@ mod tests {
         hold_refused(&image, b":", 18, 0);
         hold_refused(&changed(&volume.image, 880, &[(3, 71)]), b"Mary/box", 4, 880);
         image[2] = b'S';
-        for kind in [1, 3, 4, 0xFF] {
+        for kind in [4, 5, 0x80, 0xFF] {
             image[3] = kind;
             hold_refused(&image, b"Mary/box", 3, 0);
         }
@@ -208,31 +259,66 @@ mod tests {
         hold_refused(&changed(&volume.image, key, &[(125, 0)]), b"Mary/box", 10, key);
     }
 
+    /// A word of a block that is changed, and the number and place due for a read of this file.
+    type Broken = (&'static [u8], u32, (usize, u32), u32, u32);
+
     /// Every rule about a file's blocks, broken far after what is asked for too.
     #[test]
     fn every_block_of_the_file_is_tested() {
-        Disk::FLOPPIES.iter().for_each(|disk| hold_blocks(&volume_on(disk)));
+        for disk in &Disk::FLOPPIES {
+            let volume = volume_on(disk);
+            hold_tables(&volume);
+            hold_data(&volume);
+        }
     }
 
-    fn hold_blocks(volume: &Volume) {
-        let [one, three] = [&b"one"[..], b"three"].map(|name| entry(volume, name));
-        let (first, middle, last) = (one.data[0], one.data[40], one.data[74]);
+    /// Each of these is refused so, and with 7 if the sum is not mended.
+    fn hold_broken(volume: &Volume, broken: &[Broken]) {
+        for &(path, key, words, number, place) in broken {
+            hold_refused(&changed(&volume.image, key, &[words]), path, number, place);
+            let mut unsummed = changed(&volume.image, key, &[words]);
+            unsummed[key as usize * BLOCK_BYTES + 23] ^= 1;
+            hold_refused(&unsummed, path, 7, key);
+        }
+    }
+
+    /// What is asked of headers and list blocks in either file system.
+    fn hold_tables(volume: &Volume) {
+        let (disk, full) = (&volume.disk, volume.disk.data_bytes());
+        let [one, three, empty] = [&b"one"[..], b"three", b"empty"].map(|name| entry(volume, name));
         let (header, list) = (one.key, one.lists[0]);
-        for (path, key, words, number, place) in [
-            (&b"one"[..], header, (81, 75 * 488 + 1), 14, list),
-            (b"one", header, (81, 856_441), 14, header),
-            (b"one", header, (2, 71), 14, header),
-            (b"one", header, (126, 0), 14, header),
-            (b"one", header, (126, 1_760), 5, 1_760),
+        hold_broken(
+            volume,
+            &[
+                (b"one", header, (81, 75 * full + 1), 14, list),
+                (b"one", header, (81, disk.file_limit() + 1), 14, header),
+                (b"one", header, (2, 71), 14, header),
+                (b"one", header, (126, 0), 14, header),
+                (b"one", header, (126, 1_760), 5, 1_760),
+                (b"one", header, (77 - 40, 0), 5, 0),
+                (b"one", header, (77 - 40, 1), 5, 1),
+                (b"one", header, (77, 1_760), 5, 1_760),
+                (b"one", list, (0, 2), 8, list),
+                (b"one", list, (1, header), 10, list),
+                (b"one", list, (2, 4), 14, list),
+                (b"one", list, (126, list), 14, list),
+                (b"one", list, (77, 1), 5, 1),
+                (b"three", three.lists[0], (126, 0), 14, three.lists[0]),
+                (b"three", three.lists[1], (126, three.lists[1]), 14, three.lists[1]),
+                (b"empty", empty.key, (2, 1), 14, empty.key),
+                (b"empty", empty.key, (81, 1), 14, empty.key),
+            ],
+        );
+    }
+
+    /// What is asked of data blocks and of w4: in the Fast File System nothing, and the bytes are what they are.
+    fn hold_data(volume: &Volume) {
+        let [one, empty] = [&b"one"[..], b"empty"].map(|name| entry(volume, name));
+        let (first, middle, last, header) = (one.data[0], one.data[40], one.data[74], one.key);
+        let broken: [Broken; 12] = [
             (b"one", header, (4, 0), 15, first),
-            (b"one", header, (77 - 40, 0), 5, 0),
             (b"one", header, (77 - 40, 880), 8, 880),
             (b"one", header, (77 - 40, last), 15, last),
-            (b"one", list, (0, 2), 8, list),
-            (b"one", list, (1, header), 10, list),
-            (b"one", list, (2, 4), 14, list),
-            (b"one", list, (126, list), 14, list),
-            (b"one", list, (77, 1), 5, 1),
             (b"one", middle, (0, 16), 8, middle),
             (b"one", middle, (1, 0), 15, middle),
             (b"one", middle, (2, 40), 15, middle),
@@ -240,16 +326,35 @@ mod tests {
             (b"one", middle, (4, middle), 15, one.data[41]),
             (b"one", last, (3, 2), 15, last),
             (b"one", last, (4, last), 15, last),
-            (b"three", three.lists[0], (126, 0), 14, three.lists[0]),
-            (b"three", three.lists[1], (126, three.lists[1]), 14, three.lists[1]),
-            (b"empty", entry(volume, b"empty").key, (4, 5), 14, entry(volume, b"empty").key),
-            (b"empty", entry(volume, b"empty").key, (2, 1), 14, entry(volume, b"empty").key),
-        ] {
-            hold_refused(&changed(&volume.image, key, &[words]), path, number, place);
-            let mut unsummed = changed(&volume.image, key, &[words]);
-            unsummed[key as usize * BLOCK_BYTES + 23] ^= 1;
-            hold_refused(&unsummed, path, 7, key);
+            (b"empty", empty.key, (4, 5), 14, empty.key),
+            (b"one", last, (0, 9), 8, last),
+        ];
+        if volume.disk.has_data_words() {
+            return hold_broken(volume, &broken);
         }
+        for (path, key, words, ..) in broken {
+            let image = changed(&volume.image, key, &[words]);
+            let bytes: Vec<u8> = listed(&image, entry(volume, path));
+            let mut output = vec![0xAA; 40_000];
+            assert_eq!(read(FLOPPY, &image, path, 0, &mut output), Ok(bytes.len()), "{key} {words:?}");
+            assert!(output[..bytes.len()] == bytes && output[bytes.len()..].iter().all(|&byte| byte == 0xAA));
+            if one.data.contains(&key) {
+                let mut unsummed = image;
+                unsummed[key as usize * BLOCK_BYTES + 23] ^= 1;
+                assert_eq!(read(FLOPPY, &unsummed, path, 0, &mut output), Ok(bytes.len()), "{key} {words:?}");
+            }
+        }
+    }
+
+    /// The bytes of a file in the Fast File System with at most one list block, by the keys that its tables list: whole
+    /// blocks end to end, cut at its size.
+    fn listed(image: &[u8], file: &Entry) -> Vec<u8> {
+        let block = |key: u32| &image[key as usize * BLOCK_BYTES..][..BLOCK_BYTES];
+        let keys = (0..file.data.len()).map(|index| match index {
+            0..72 => word(block(file.key), 77 - index),
+            _ => word(block(file.lists[0]), 77 + 72 - index),
+        });
+        keys.flat_map(|key| block(key).to_vec()).take(file.size() as usize).collect()
     }
 
     /// The data of a table come before the next table, whatever is wrong with that.
@@ -274,14 +379,71 @@ mod tests {
         hold_refused(&changed(&image, file.key, &[(2, 0)]), b"three", 14, file.key);
     }
 
-    /// A list met twice is no fault in itself; its data have other numbers than are due.
+    /// The same where only the keys of data are asked for.
+    #[test]
+    fn tables_and_keys_in_turn() {
+        let volume = volume_on(&Disk::FAST);
+        let file = entry(&volume, b"three");
+        let [first, second, third] = [0, 1, 2].map(|index| file.lists[index]);
+        // the word of each key, a key that no block has, and what is due for it; of lists the own key
+        let harms = [
+            (file.key, 6, 1_760, (5, 1_760)),
+            (first, 1, 0, (10, first)),
+            (first, 77, 1, (5, 1)),
+            (first, 6, 1_761, (5, 1_761)),
+            (second, 1, 0, (10, second)),
+            (second, 77 - 6, 0, (5, 0)),
+            (third, 1, 0, (10, third)),
+            (third, 6, u32::MAX, (5, u32::MAX)),
+        ];
+        let mut image = volume.image.clone();
+        for &(key, index, value, (number, place)) in harms.iter().rev() {
+            image = changed(&image, key, &[(index, value)]);
+            hold_refused(&image, b"three", number, place);
+        }
+        hold_refused(&changed(&image, file.key, &[(2, 0)]), b"three", 14, file.key);
+    }
+
+    /// A list met twice is no fault in itself; its data have other numbers than are due. In the Fast File System they
+    /// have none: data and lists may be met twice, and the bytes come twice.
     #[test]
     fn nothing_is_claimed() {
-        let volume = volume();
-        let file = entry(&volume, b"three");
-        let image = changed(&volume.image, file.lists[0], &[(126, file.lists[0])]);
-        hold_refused(&image, b"three", 15, file.data[72]);
-        let answer = audit(FLOPPY, &image, &mut [0; 1_760]);
-        assert_eq!(answer, Err(Refusal::at(6, file.lists[0] as usize)));
+        for disk in &Disk::FLOPPIES {
+            let volume = volume_on(disk);
+            let file = entry(&volume, b"three");
+            let [first, second] = [file.lists[0], file.lists[1]];
+            let image = changed(&volume.image, first, &[(126, first)]);
+            let answer = audit(FLOPPY, &image, &mut [0; 1_760]);
+            assert_eq!(answer, Err(Refusal::at(6, first as usize)));
+            if disk.has_data_words() {
+                hold_refused(&image, b"three", 15, file.data[72]);
+                continue;
+            }
+            // the third list is asked whether it is the last, and the first is not
+            hold_refused(&image, b"three", 14, first);
+            let image = changed(&volume.image, second, &[(77, file.data[0]), (76, 880), (75, volume.bitmap)]);
+            assert_eq!(audit(FLOPPY, &image, &mut [0; 1_760]), Err(Refusal::at(6, file.data[0] as usize)));
+            let mut output = vec![0xAA; 3 * 512];
+            assert_eq!(read(FLOPPY, &image, b"three", 144 * 512, &mut output), Ok(3 * 512));
+            let block = |key: u32| &image[key as usize * BLOCK_BYTES..][..BLOCK_BYTES];
+            assert!(output == [file.data[0], 880, volume.bitmap].map(block).concat());
+        }
+    }
+
+    /// The last byte of the largest file, and what lies around it.
+    #[test]
+    fn the_end_of_the_largest_file() {
+        let mut rng = Rng::new(132);
+        for (disk, size) in Disk::FLOPPIES.iter().zip([844_728, 886_272, 844_728, 886_272]) {
+            let mut plan = Plan::new(disk);
+            plan.add_named(None, b"big", Kind::File(size as u32));
+            let volume = Volume::new(&mut rng, &plan, Style { filling: Filling::Random, order: Order::Shuffled });
+            let last = *entry(&volume, b"big").data.last().expect("a block");
+            let end = &volume.block(last)[BLOCK_BYTES - 2..];
+            assert_eq!(got(&volume, b"big", size - 1, 1), (1, vec![end[1]]));
+            assert_eq!(got(&volume, b"big", size - 2, 3), (2, vec![end[0], end[1], 0xAA]));
+            assert_eq!(got(&volume, b"big", size, 1), (0, vec![0xAA]));
+            assert_eq!(got(&volume, b"big", size + 1, 1), (0, vec![0xAA]));
+        }
     }
 }

@@ -179,11 +179,13 @@ impl Sample {
             Part::Data(number, index) => {
                 let contents = self.contents_of(&volume.entries[number].name);
                 let bytes = contents.chunks(self.disk.data_bytes() as usize).nth(index).expect("a block's bytes");
-                block[Disk::DATA_START..][..bytes.len()].copy_from_slice(bytes);
+                block[self.disk.data_start()..][..bytes.len()].copy_from_slice(bytes);
             }
             _ => {}
         }
-        mend(&mut block, if part == Part::Bitmap { 0 } else { 5 });
+        if volume.is_summed(part) {
+            mend(&mut block, if part == Part::Bitmap { 0 } else { 5 });
+        }
         block
     }
 

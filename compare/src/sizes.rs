@@ -47,17 +47,22 @@ pub fn held(disk: &Disk, size: u32, number: u32) -> u32 {
     (end - start) as u32
 }
 
+/// The size of the largest file for which a disk has room, with its header and its list blocks.
+pub fn largest_file(disk: &Disk) -> u32 {
+    let sizes = (0..=disk.file_limit() / disk.data_bytes()).map(|blocks| blocks * disk.data_bytes());
+    let fits = |&size: &u32| 1 + list_blocks(disk, size) + data_blocks(disk, size) <= disk.chain_limit();
+    sizes.filter(fits).last().unwrap_or(0)
+}
+
 #[cfg(test)]
 mod tests {
     use super::*;
 
-    const DISK: Disk = Disk::PLAIN;
-
     /// Sizes around every place where something changes, up to the limit.
-    fn telling_sizes() -> Vec<u32> {
-        let full = DISK.data_bytes();
+    fn telling_sizes(disk: &Disk) -> Vec<u32> {
+        let full = disk.data_bytes();
         let mut sizes = vec![0];
-        for blocks in 1..=DISK.file_limit() / full {
+        for blocks in 1..=disk.file_limit() / full {
             let whole = blocks * full;
             sizes.extend([whole - full + 1, whole - 1, whole]);
         }
@@ -66,31 +71,35 @@ mod tests {
 
     #[test]
     fn the_blocks_together_hold_the_file_and_none_is_empty() {
-        for size in telling_sizes() {
-            let blocks = data_blocks(&DISK, size);
-            let bytes: Vec<u32> = (1..=blocks).map(|n| held(&DISK, size, n)).collect();
-            assert_eq!(bytes.iter().sum::<u32>(), size, "size {size}");
-            if let Some((last, others)) = bytes.split_last() {
-                assert!((1..=488).contains(last), "size {size}");
-                assert!(others.iter().all(|&held| held == 488), "size {size}");
+        for (disk, full) in [(Disk::PLAIN, 488), (Disk::FAST, 512)] {
+            for size in telling_sizes(&disk) {
+                let blocks = data_blocks(&disk, size);
+                let bytes: Vec<u32> = (1..=blocks).map(|n| held(&disk, size, n)).collect();
+                assert_eq!(bytes.iter().sum::<u32>(), size, "size {size}");
+                if let Some((last, others)) = bytes.split_last() {
+                    assert!((1..=full).contains(last), "size {size}");
+                    assert!(others.iter().all(|&held| held == full), "size {size}");
+                }
             }
         }
     }
 
     #[test]
     fn header_and_lists_together_list_every_block_once() {
-        for size in telling_sizes() {
-            let lists = list_blocks(&DISK, size);
-            let listed = match lists {
-                0 => header_keys(&DISK, size),
-                _ => 72 + (lists - 1) * 72 + last_list_keys(&DISK, size),
-            };
-            assert_eq!(listed, data_blocks(&DISK, size), "size {size}");
-            let last = last_list_keys(&DISK, size);
-            assert_eq!(last == 0, lists == 0, "size {size}");
-            assert!(last <= 72, "size {size}");
-            if lists > 0 {
-                assert_eq!(header_keys(&DISK, size), 72, "size {size}");
+        for disk in Disk::FLOPPIES {
+            for size in telling_sizes(&disk) {
+                let lists = list_blocks(&disk, size);
+                let listed = match lists {
+                    0 => header_keys(&disk, size),
+                    _ => 72 + (lists - 1) * 72 + last_list_keys(&disk, size),
+                };
+                assert_eq!(listed, data_blocks(&disk, size), "size {size}");
+                let last = last_list_keys(&disk, size);
+                assert_eq!(last == 0, lists == 0, "size {size}");
+                assert!(last <= 72, "size {size}");
+                if lists > 0 {
+                    assert_eq!(header_keys(&disk, size), 72, "size {size}");
+                }
             }
         }
     }
@@ -104,10 +113,23 @@ mod tests {
 
     #[test]
     fn blocks_that_a_file_lacks_hold_nothing() {
-        assert_eq!(held(&DISK, 0, 1), 0);
-        assert_eq!(held(&DISK, 488, 0), 0);
-        assert_eq!(held(&DISK, 488, 2), 0);
-        assert_eq!(held(&DISK, u32::MAX, u32::MAX), 0);
-        assert_eq!(held(&DISK, 489, 2), 1);
+        for (disk, full) in [(Disk::INTERNATIONAL, 488), (Disk::FAST_INTERNATIONAL, 512)] {
+            assert_eq!(held(&disk, 0, 1), 0);
+            assert_eq!(held(&disk, full, 0), 0);
+            assert_eq!(held(&disk, full, 2), 0);
+            assert_eq!(held(&disk, u32::MAX, u32::MAX), 0);
+            assert_eq!(held(&disk, full + 1, 2), 1);
+        }
+    }
+
+    /// With one byte more, header, lists and data would take a block more than there is.
+    #[test]
+    fn the_largest_file_fills_a_disk() {
+        for disk in Disk::FLOPPIES.into_iter().flat_map(|disk| [disk, Disk { blocks: 300, ..disk }]) {
+            let size = largest_file(&disk);
+            let taken = |size: u32| 1 + list_blocks(&disk, size) + data_blocks(&disk, size);
+            assert_eq!([taken(size), taken(size + 1)].map(|blocks| blocks <= disk.chain_limit()), [true, false]);
+        }
+        assert_eq!(Disk::FLOPPIES.map(|disk| largest_file(&disk)), [844_728, 886_272, 844_728, 886_272]);
     }
 }

@@ -9,19 +9,21 @@ use std::collections::BTreeMap;
 use std::ops::{Deref, DerefMut};
 
 use compare::audit::Report;
-use compare::bad_volumes::{causes, harmless, retagged, scratch, short_claims, wrong_lengths, Cause, Harm, Patch};
+use compare::bad_volumes::{causes, harmless, scratch, short_claims, wrong_lengths, Cause, Harm, Patch};
 use compare::declared::agreed;
 use compare::disk::{claim_length, image_length, Disk, FLOPPY};
 use compare::driver::checksum;
+use compare::kinds::retagged;
 use compare::program::Refusal;
 use compare::rng::Rng;
 use compare::sides::{with_seeds, Who};
+use compare::sizes::largest_file;
 use compare::talk;
 use compare::volumes::{
-    alike, any_style, chain, empty, every_byte, files, full, mixed, nested, shuffle, Kind, Met, Part, Plan,
-    Volume, TELLING_SIZES,
+    alike, any_style, chain, empty, every_byte, files, full, mixed, nested, shuffle, telling_sizes, Filling, Kind,
+    Met, Order, Part, Plan, Style, Volume,
 };
-use compare::words::{put, word, BLOCK_BYTES, BLOCK_WORDS};
+use compare::words::{mend, put, word, BLOCK_BYTES, BLOCK_WORDS, TABLE};
 
 const AUDIT: u32 = 3;
 
@@ -36,9 +38,6 @@ const ENOUGH: usize = claim_length(FLOPPY);
 /// The longest claim area that `probe` lends.
 const CLAIM_ROOM: usize = 4_096;
 
-/// The largest file.
-const LARGEST: u32 = 844_728;
-
 /// The kind of a disk, and the number of a refusal or 0.
 type Answer = (u8, u32);
 
@@ -47,8 +46,10 @@ type Answer = (u8, u32);
 struct Tally {
     /// By the kind that the tag says, or where it says none, by that of the image as it was sent.
     audits: BTreeMap<Answer, usize>,
-    /// Those of a volume under the tag of another kind, by the kind that it was laid out for.
-    retagged: BTreeMap<Answer, usize>,
+    /// Those of a volume under the tag of another kind, by the kind that it was laid out for and by that one.
+    retagged: BTreeMap<(u8, Answer), usize>,
+    /// Changes that are harm in the old file system alone, by the number due there.
+    allowed: BTreeMap<Answer, usize>,
 }
 
 /// A talk about one image, and what was asked in it.
@@ -162,7 +163,7 @@ fn the_empty_volume() {
     talk.run();
 }
 
-/// Every last byte that a tag can have, on a volume of which either kind is right; and the letters before it.
+/// Every last byte that a tag can have, on a volume of which every kind is right; and the letters before it.
 #[test]
 fn every_boot_tag() {
     let mut rng = Rng::new(93);
@@ -172,13 +173,13 @@ fn every_boot_tag() {
     talk.image(&volume.image);
     for kind in 0..=255 {
         talk.about(format!("kind {kind}"));
-        let due = if [0, 2].contains(&kind) { Ok(volume.report()) } else { refused(3) };
+        let due = if kind < 4 { Ok(volume.report()) } else { refused(3) };
         talk.patched(&[(3, vec![kind])], |talk| {
             talk.expect(ENOUGH, due);
             talk.expect(ENOUGH - 1, refused(2));
         });
     }
-    for (kind, place) in [0, 2].into_iter().flat_map(|kind| (0..24).map(move |place| (kind, place))) {
+    for (kind, place) in (0..4).flat_map(|kind| (0..24).map(move |place| (kind, place))) {
         let mut tag = [b'D', b'O', b'S', kind];
         tag[place / 8] ^= 1 << (place % 8);
         talk.about(format!("tag {tag:?}"));
@@ -249,11 +250,12 @@ fn lengths(who: Who, rng: &mut Rng, disk: &Disk) -> Talk {
 
 /// Volumes of moderate size on a disk of this kind, and what they are.
 fn moderate(rng: &mut Rng, disk: &Disk) -> Vec<(String, Volume)> {
+    let table = TABLE * disk.data_bytes();
     let mut plans = vec![
         ("empty".to_string(), empty(disk)),
-        ("telling sizes".to_string(), files(rng, disk, &TELLING_SIZES)),
+        ("telling sizes".to_string(), files(rng, disk, &telling_sizes(disk))),
         // three list blocks, and two of which the last is full
-        ("several lists".to_string(), files(rng, disk, &[105_409, 105_408, 1])),
+        ("several lists".to_string(), files(rng, disk, &[3 * table + 1, 3 * table, 1])),
         ("40 nested".to_string(), nested(rng, disk, 40)),
         ("40 on a chain".to_string(), chain(rng, disk, 40)),
         ("every byte".to_string(), every_byte(rng, disk)),
@@ -262,7 +264,7 @@ fn moderate(rng: &mut Rng, disk: &Disk) -> Vec<(String, Volume)> {
     if !disk.is_international() {
         plans.push(("pairs of names".to_string(), alike(rng, disk, 20, 3)));
     }
-    for blocks in [30, 60, 100, 150, 200, 250, 320] {
+    for blocks in [30, 100, 200, 320] {
         plans.push((format!("mixed, {blocks} blocks"), mixed(rng, disk, blocks)));
     }
     let named = |what: &str| format!("kind {}, {what}", disk.kind);
@@ -275,7 +277,7 @@ fn large(rng: &mut Rng) -> Vec<(String, Volume)> {
     let plans = [
         ("nested throughout", nested(rng, &one, one.chain_limit())),
         ("one chain", chain(rng, &two, two.chain_limit())),
-        ("the largest file", files(rng, &three, &[LARGEST])),
+        ("the largest file", files(rng, &three, &[largest_file(&three)])),
         ("full", full(rng, &four)),
     ];
     plans.iter().map(|(what, plan)| (what.to_string(), laid_out(rng, plan))).collect()
@@ -286,7 +288,7 @@ fn other_kinds(talk: &mut Talk, what: &str, volume: &Volume) {
     for other in volume.disk.others() {
         talk.about(format!("{what}: under the tag of kind {}", other.kind));
         let (patch, due) = retagged(volume, &other);
-        *talk.tally.retagged.entry((volume.disk.kind, number(due))).or_default() += 1;
+        *talk.tally.retagged.entry((volume.disk.kind, (other.kind, number(due)))).or_default() += 1;
         talk.patched(&[patch], |talk| {
             talk.expect(ENOUGH, due);
             talk.expect(ENOUGH - 1, refused(2));
@@ -294,22 +296,110 @@ fn other_kinds(talk: &mut Talk, what: &str, volume: &Volume) {
     }
 }
 
-/// Small volumes of each kind under the tag of the other: good there, or with so many double names.
-fn doubles(who: Who, rng: &mut Rng) -> Talk {
+/// Small volumes of each kind under the tags of all others: good there, or with so many double names, or with a file
+/// that has other blocks or other words there.
+fn tagged_anew(who: Who, rng: &mut Rng) -> Talk {
     let mut talk = Talk::new(who);
     for disk in &Disk::FLOPPIES {
-        for pairs in 0..4 {
-            let pairs = if disk.is_international() { 0 } else { pairs };
-            let plan = alike(rng, disk, 12, pairs);
+        for round in 0..24 {
+            let pairs = if disk.is_international() { 0 } else { round % 4 };
+            // one block in both file systems, or two in the old one; with a list block in one or in both
+            let size = rng.pick(&[1, 488, 488, 489, 512, 513, 900, 976, 35_137, 36_864, 36_865]);
+            let plan = match round % 3 {
+                0 => alike(rng, disk, 4, pairs),
+                1 => files(rng, disk, &[size]),
+                _ => {
+                    let mut plan = empty(disk);
+                    plan.add_named(None, b"file", Kind::File(size));
+                    plan
+                }
+            };
             let volume = laid_out(rng, &plan);
-            let what = format!("kind {}, {pairs} pairs", disk.kind);
+            let what = format!("kind {}, {pairs} pairs or a file of {size}", disk.kind);
             talk.about(&what[..]);
             talk.image(&volume.image);
             talk.expect(ENOUGH, Ok(volume.report()));
             other_kinds(&mut talk, &what, &volume);
         }
+        if !disk.has_data_words() {
+            words_of_data(&mut talk, rng, disk);
+        }
     }
     talk
+}
+
+/// A volume in the Fast File System whose file has all words that the old one asks for, and each of them changed in
+/// turn. Under its own tag nothing is wrong with that, and under an old one this number is due at this block.
+fn words_of_data(talk: &mut Talk, rng: &mut Rng, disk: &Disk) {
+    let mut plan = empty(disk);
+    plan.add_named(None, b"file", Kind::File(600));
+    let volume = Volume::new(rng, &plan, Style { filling: Filling::Old, order: Order::Shuffled });
+    let entry = &volume.entries[0];
+    let [header, first, last] = [entry.key, entry.data[0], entry.data[1]];
+    let harms = [(header, 4, 15, first), (first, 0, 8, first), (first, 4, 15, last), (last, 4, 15, last)];
+    let words = [first, last].into_iter().flat_map(|key| [1, 2, 3].map(|index| (key, index, 15, key)));
+    let sums = [first, last].map(|key| (key, 5 + rng.below(123) as usize, 7, key));
+    talk.about(format!("kind {}, with all words", disk.kind));
+    talk.image(&volume.image);
+    talk.expect(ENOUGH, Ok(volume.report()));
+    other_kinds(talk, &format!("kind {}, with all words", disk.kind), &volume);
+    for (key, index, number, place) in harms.into_iter().chain(words).chain(sums) {
+        let mut block = volume.block(key).to_vec();
+        let changed = word(&block, index) ^ 1 << rng.below(32);
+        put(&mut block, index, changed);
+        if number != 7 {
+            mend(&mut block, 5);
+        }
+        let patch = (key as usize * BLOCK_BYTES, block);
+        for other in disk.others().filter(|other| other.has_data_words()) {
+            talk.about(format!("kind {}, block {key}, w{index}, under the tag of kind {}", disk.kind, other.kind));
+            let due = Err(Refusal::at(number, place as usize));
+            *talk.tally.retagged.entry((disk.kind, (other.kind, number))).or_default() += 1;
+            talk.patched(std::slice::from_ref(&patch), |talk| {
+                talk.expect(ENOUGH, Ok(volume.report()));
+                talk.patched(&[(3, vec![other.kind])], |talk| talk.expect(ENOUGH, due));
+            });
+        }
+    }
+}
+
+/// Sizes on both sides of each place where something changes, each in a file of its own, and the same file with the
+/// size of the other side stated.
+fn sizes(who: Who, rng: &mut Rng, disk: &Disk) -> Talk {
+    let mut talk = Talk::new(who);
+    let (full, limit) = (disk.data_bytes(), disk.file_limit());
+    let table = TABLE * full;
+    for (size, other) in
+        [(0, 1), (1, 0), (full, full + 1), (full + 1, full), (table, table + 1), (table + 1, table)]
+    {
+        let plan = files(rng, disk, &[size]);
+        let volume = laid_out(rng, &plan);
+        let entry = &volume.entries[0];
+        talk.about(format!("kind {}, {size} bytes", disk.kind));
+        talk.image(&volume.image);
+        talk.expect(ENOUGH, Ok(volume.report()));
+        let last = entry.lists.last().copied().unwrap_or(entry.key);
+        // the largest size asks for more keys than the last table lists; one more is asked of none
+        for (stated, place) in [(other, entry.key), (limit, last), (limit + 1, entry.key), (u32::MAX, entry.key)] {
+            talk.about(format!("kind {}, {size} bytes, {stated} stated", disk.kind));
+            let mut block = volume.block(entry.key).to_vec();
+            put(&mut block, 81, stated);
+            mend(&mut block, 5);
+            let patch = (entry.key as usize * BLOCK_BYTES, block);
+            talk.patched(&[patch], |talk| talk.expect(ENOUGH, Err(Refusal::at(14, place as usize))));
+        }
+    }
+    talk
+}
+
+/// Changes that are harm in the old file system alone, which this volume is not in.
+fn allowed(talk: &mut Talk, rng: &mut Rng, what: &str, volume: &Volume) {
+    for cause in causes() {
+        let Some(patches) = cause.allowed(rng, volume) else { continue };
+        talk.about(format!("{what}: {} by {}, if it were asked for", cause.number, cause.what));
+        *talk.tally.allowed.entry((volume.disk.kind, cause.number)).or_default() += 1;
+        talk.patched(&patches, |talk| talk.expect(ENOUGH, Ok(volume.report())));
+    }
 }
 
 /// Some of a volume's harms: of each cause with this chance in a hundred.
@@ -565,18 +655,19 @@ impl Summed<'_> {
 }
 
 /// Sums of blocks of every kind, and most of all of a full data block, of which all words but five are spare. However
-/// the words are added up, several at once or in parts, a slip that loses a word, a byte or a carry is to show.
+/// the words are added up, several at once or in parts, a slip that loses a word, a byte or a carry is to show. In the
+/// Fast File System data blocks have no sum, and are left out.
 #[test]
 fn block_sums() {
     let mut rng = Rng::new(94);
     for disk in &Disk::FLOPPIES {
         let mut talk = Talk::new(Who::Both);
         // one of each kind, and 73 data blocks
-        let mut plan = files(&mut rng, disk, &[35_137]);
+        let mut plan = files(&mut rng, disk, &[TABLE * disk.data_bytes() + 1]);
         plan.add(&mut rng, None, None, Kind::Directory);
         let volume = laid_out(&mut rng, &plan);
         let tried = rng.below(72) as usize;
-        let is_tried = |part| !matches!(part, Part::Data(_, index) if index != tried);
+        let is_tried = |part| volume.is_summed(part) && !matches!(part, Part::Data(_, index) if index != tried);
         for &Met { key, part } in volume.order.iter().filter(|met| is_tried(met.part)) {
             // the exported functions get it at another address
             talk.image(&volume.image);
@@ -586,7 +677,7 @@ fn block_sums() {
             summed.same_sums(&mut rng);
             let any = summed.random(&mut rng);
             summed.bytes("any words", &any, &CHANGES[..1]);
-            // once is enough: the kind of a disk has no part in sums
+            // once is enough: how names fold has no part in sums
             if matches!(part, Part::Data(..)) && !disk.is_international() {
                 let [zeros, full] = [0, u32::MAX].map(|value| summed.filled(|_| value));
                 summed.bytes("any words", &any, &CHANGES[1..]);
@@ -598,7 +689,11 @@ fn block_sums() {
         }
         let audits = &talk.tally.audits;
         println!("kind {}, sums: audits by number: {audits:?}", disk.kind);
-        let least = if disk.is_international() { 3_000 } else { 10_000 };
+        let least = match (disk.has_data_words(), disk.is_international()) {
+            (true, false) => 10_000,
+            (true, true) => 3_000,
+            (false, _) => 1_500,
+        };
         assert!([0, 7].iter().all(|&number| audits[&(disk.kind, number)] >= least), "{audits:?}");
         talk.run();
     }
@@ -607,15 +702,17 @@ fn block_sums() {
 /// All requests of the great comparison, as the seed draws them.
 fn talks(who: Who, seed: u64) -> Vec<Talk> {
     let mut rng = Rng::new(seed);
-    let mut talks = vec![doubles(who, &mut rng)];
+    let mut talks = vec![tagged_anew(who, &mut rng)];
     for disk in &Disk::FLOPPIES {
         talks.push(lengths(who, &mut rng, disk));
+        talks.push(sizes(who, &mut rng, disk));
         let mut talk = Talk::new(who);
         for (what, volume) in moderate(&mut rng, disk) {
-            as_is(&mut talk, &mut rng, &what, &volume, 32);
+            as_is(&mut talk, &mut rng, &what, &volume, 16);
             other_kinds(&mut talk, &what, &volume);
-            harms(&mut talk, &mut rng, &what, &volume, 100);
-            pairs(&mut talk, &mut rng, &what, &volume, 20);
+            harms(&mut talk, &mut rng, &what, &volume, 80);
+            allowed(&mut talk, &mut rng, &what, &volume);
+            pairs(&mut talk, &mut rng, &what, &volume, 10);
         }
         talks.push(talk);
     }
@@ -629,8 +726,27 @@ fn talks(who: Who, seed: u64) -> Vec<Talk> {
     talks
 }
 
+/// The numbers that are due for volumes of one kind under the tag of another.
+fn numbers_of_tags(from: &Disk, to: &Disk) -> Vec<u32> {
+    let mut numbers = vec![0];
+    // a plain volume may have names that an international disk has for one, and none the other way round
+    match (from.is_international(), to.is_international()) {
+        (false, true) => numbers.extend([12, 13]),
+        (true, false) => numbers.extend([12]),
+        _ => {}
+    }
+    // sizes ask for other blocks, and the old file system for words
+    match (from.has_data_words(), to.has_data_words()) {
+        (true, false) => numbers.extend([14]),
+        (false, true) => numbers.extend([7, 8, 14, 15]),
+        _ => {}
+    }
+    numbers.sort();
+    numbers
+}
+
 /// How often each answer is due over all talks.
-fn sum(talks: &[Talk], of: fn(&Tally) -> &BTreeMap<Answer, usize>) -> BTreeMap<Answer, usize> {
+fn sum<K: Copy + Ord>(talks: &[Talk], of: fn(&Tally) -> &BTreeMap<K, usize>) -> BTreeMap<K, usize> {
     let mut sum = BTreeMap::new();
     for (&answer, &times) in talks.iter().flat_map(|talk| of(&talk.tally)) {
         *sum.entry(answer).or_default() += times;
@@ -638,26 +754,40 @@ fn sum(talks: &[Talk], of: fn(&Tally) -> &BTreeMap<Answer, usize>) -> BTreeMap<A
     sum
 }
 
-/// Enough of everything is asked: of each kind at least 2,500 audits, each number at least 20 times.
+/// The answers for disks of one kind, by number.
+fn of_kind(answers: &BTreeMap<Answer, usize>, kind: u8) -> BTreeMap<u32, usize> {
+    answers.range((kind, 0)..=(kind, u32::MAX)).map(|(&(_, number), &times)| (number, times)).collect()
+}
+
+/// Enough of everything is asked: of each kind at least 2,000 audits, each number at least 20 times. Where data blocks
+/// have no words, 15 is never due.
 fn are_enough(talks: &[Talk]) {
     let audits = sum(talks, |tally| &tally.audits);
-    for Disk { kind, .. } in Disk::FLOPPIES {
-        let of_kind: BTreeMap<u32, usize> =
-            audits.range((kind, 0)..=(kind, u32::MAX)).map(|(&(_, number), &times)| (number, times)).collect();
-        let total: usize = of_kind.values().sum();
-        println!("kind {kind}: {total} audits, by number: {of_kind:?}");
-        assert!(total >= 2_500, "{total} audits of kind {kind}");
-        assert!(of_kind.keys().copied().eq(0..18), "other numbers for kind {kind}: {of_kind:?}");
-        assert!(of_kind[&0] >= 200, "{} accepted of kind {kind}", of_kind[&0]);
-        let rare: Vec<_> = of_kind.iter().filter(|(_, &times)| times < 20).collect();
+    for disk in Disk::FLOPPIES {
+        let (kind, by_number) = (disk.kind, of_kind(&audits, disk.kind));
+        let total: usize = by_number.values().sum();
+        println!("kind {kind}: {total} audits, by number: {by_number:?}");
+        assert!(total >= 2_000, "{total} audits of kind {kind}");
+        let wanted = (0..18).filter(|&number| number != 15 || disk.has_data_words());
+        assert!(by_number.keys().copied().eq(wanted), "other numbers for kind {kind}: {by_number:?}");
+        assert!(by_number[&0] >= 150, "{} accepted of kind {kind}", by_number[&0]);
+        let rare: Vec<_> = by_number.iter().filter(|(_, &times)| times < 20).collect();
         assert!(rare.is_empty(), "too few of {rare:?} for kind {kind}");
     }
-    // a plain volume may be good, misplaced or have double names for the other kind; for an international one a plain
-    // disk has no double name
+    let allowed = sum(talks, |tally| &tally.allowed);
+    println!("no harm in the Fast File System, by kind and number due elsewhere: {allowed:?}");
+    let wanted = [1, 3].into_iter().flat_map(|kind| [7, 8, 14, 15].map(|number| (kind, number)));
+    assert!(allowed.keys().copied().eq(wanted), "{allowed:?}");
+    assert!(allowed.values().all(|&times| times >= 5), "{allowed:?}");
+
     let retagged = sum(talks, |tally| &tally.retagged);
-    println!("under the other tag, by kind and number: {retagged:?}");
-    assert!(retagged.keys().copied().eq([(0, 0), (0, 12), (0, 13), (2, 0), (2, 12)]), "{retagged:?}");
-    assert!(retagged.values().all(|&times| times >= 3), "{retagged:?}");
+    println!("under another tag, by kind, that kind and number: {retagged:?}");
+    let pairs = Disk::FLOPPIES.into_iter().flat_map(|from| from.others().map(move |to| (from, to)));
+    let numbers = |(from, to): (Disk, Disk)| {
+        let of = move |number| (from.kind, (to.kind, number));
+        numbers_of_tags(&from, &to).into_iter().map(of)
+    };
+    assert!(retagged.keys().copied().eq(pairs.flat_map(numbers)), "{retagged:?}");
 }
 
 /// The two opinions agree on all that is asked, and with what is known beforehand; no one else is needed for that.

@@ -16,7 +16,7 @@ use std::process::{Command, Stdio};
 use std::sync::atomic::{AtomicU32, Ordering};
 
 use compare::bad_programs::{bad_bases, scratch as scratch_program, BASE_CAUSES, CAUSES};
-use compare::bad_volumes::{apply, retagged, scratch, Patch};
+use compare::bad_volumes::{apply, scratch, Patch};
 use compare::bitmap::place;
 use compare::counter::{
     audited, line, loaded, looked_up, moved, read_out, reset, Said, ACCEPTED, ARGUMENT_ROOM, BASES, FILE_ROOM,
@@ -24,14 +24,19 @@ use compare::counter::{
 };
 use compare::disk::Disk;
 use compare::driver::rattle;
+use compare::kinds::retagged;
 use compare::names::{put_name, slot};
 use compare::paths::{bad_forms, Paths};
 use compare::program::{BOTH, BSS, CHIP, CODE, DATA, END, FAST, HEADER, HUNK_WORDS, RELOCATIONS, SYMBOLS};
 use compare::programs::{bytes, file, good_bases, good_program, long_file, worked_file};
 use compare::rng::Rng;
 use compare::samples::{damaged, international, latin_1, title, titles, FONT, OPTIONS, SETTINGS, SUMMER, TITLE};
-use compare::volumes::{alike, any_style, chain, empty, files, full, mixed, nested, Entry, Kind, Plan, Volume};
-use compare::words::{mend, put, slot_word, word, BLOCK_BYTES};
+use compare::sizes::largest_file;
+use compare::volumes::{
+    alike, any_style, chain, empty, files, full, mixed, nested, telling_sizes, Entry, Filling, Kind, Order, Plan,
+    Style, Volume,
+};
+use compare::words::{mend, put, slot_word, word, BLOCK_BYTES, TABLE};
 
 /// Bases for the title program.
 const BASES_A: [u32; 3] = [0x1_0000, 0x2_0000, 0x3_0000];
@@ -532,7 +537,7 @@ fn accents_on_the_samples() {
     desk.hold_out(&[b"find", &b"international.adf"[..], b"M\xC9T\xC9O"], &due, true);
 }
 
-/// The tags beside those of the two kinds, with the sentence written out.
+/// Every tag of a kind and those beside them, with the sentence written out.
 #[test]
 fn images_of_other_kinds() {
     let of_kind = |kind: u8| {
@@ -540,12 +545,18 @@ fn images_of_other_kinds() {
         image[3] = kind;
         (format!("{kind}.adf"), image)
     };
-    let desk = Desk::new([0, 1, 2, 3, 4, 0xFF].map(of_kind));
-    for kind in [1, 3, 4, 0xFF] {
+    let desk = Desk::new([0, 1, 2, 3, 4, 5, 0x80, 0xFF].map(of_kind));
+    for kind in [4, 5, 0x80, 0xFF] {
         let name = format!("{kind}.adf");
-        let due = "refused 3 at 0 (the image does not begin with the boot tag DOS 0 or DOS 2)";
+        let due = "refused 3 at 0 (the boot tag is not that of a disk of a known kind)";
         desk.hold_out(&["audit", &name], &line(name.as_bytes(), due), false);
         desk.hold_find(&name, &["", TITLE, "a//b"]);
+        desk.hold_read(&name, TITLE.as_bytes());
+        desk.hold_reset(&name, TITLE.as_bytes(), &BASES_A);
+    }
+    for kind in 0..4 {
+        let name = format!("{kind}.adf");
+        desk.hold_find(&name, &["", TITLE, "t", "a//b"]);
         desk.hold_read(&name, TITLE.as_bytes());
         desk.hold_reset(&name, TITLE.as_bytes(), &BASES_A);
     }
@@ -661,15 +672,21 @@ fn resets_with_kinds_of_memory() {
     let program = with_kinds_of_memory();
     let mut both = program.clone();
     put(&mut both, 6, BOTH | 2);
-    let mut plan = empty(&Disk::INTERNATIONAL);
+    for disk in [Disk::INTERNATIONAL, Disk::FAST] {
+        resets_on(&disk, &program, &both);
+    }
+}
+
+fn resets_on(disk: &Disk, program: &[u8], both: &[u8]) {
+    let mut plan = empty(disk);
     plan.add_named(None, b"kinds", Kind::File(program.len() as u32));
     let volume = laid_out(&mut Rng::new(177), &plan);
     let entry = entry(&volume, "kinds");
     let image = |program: &[u8]| {
-        let data = |block: &mut [u8]| block[Disk::DATA_START..][..program.len()].copy_from_slice(program);
+        let data = |block: &mut [u8]| block[disk.data_start()..][..program.len()].copy_from_slice(program);
         changed(&volume, entry.data[0], data)
     };
-    let desk = Desk::new([("kinds.adf", image(&program)), ("both.adf", image(&both))]);
+    let desk = Desk::new([("kinds.adf", image(program)), ("both.adf", image(both))]);
     let bases = [0x1_0000, 0x2_0000, 0x3_0000, 0x4_0000];
     for (name, last, accepted) in [
         ("kinds.adf", "4 hunks, 24 bytes", true),
@@ -738,15 +755,19 @@ fn paths_of_all_sorts_on(disk: &Disk) {
 
 /// Volumes of all sorts, some of each kind.
 fn volumes(rng: &mut Rng) -> Vec<(String, Volume)> {
-    let [plain, international] = &Disk::FLOPPIES;
+    let [plain, fast, international, fast_international] = &Disk::FLOPPIES;
+    let sizes = |disk| [&telling_sizes(disk)[..], &[3 * TABLE * disk.data_bytes() + 1]].concat();
     let plans = [
-        ("empty", empty(international)),
-        ("nested", nested(rng, international, international.chain_limit())),
+        ("empty", empty(fast_international)),
+        ("nested", nested(rng, fast, fast.chain_limit())),
         ("chain", chain(rng, international, 300)),
-        ("largest", files(rng, plain, &[844_728])),
-        ("telling", files(rng, international, &[0, 488, 489, 35_136, 35_137, 105_409])),
+        ("largest", files(rng, plain, &[largest_file(plain)])),
+        ("largest fast", files(rng, fast, &[largest_file(fast)])),
+        ("telling", files(rng, international, &sizes(international))),
+        ("telling fast", files(rng, fast_international, &sizes(fast_international))),
         ("full", full(rng, plain)),
-        ("mixed", mixed(rng, plain, 150)),
+        ("full fast", full(rng, fast_international)),
+        ("mixed", mixed(rng, fast, 150)),
         ("more", mixed(rng, international, 400)),
         ("pairs", alike(rng, plain, 10, 2)),
     ];
@@ -758,7 +779,7 @@ fn audits_of_generated_volumes() {
     let mut rng = Rng::new(171);
     let mut all: Vec<(String, Vec<u8>)> = Vec::new();
     for (name, volume) in volumes(&mut rng) {
-        for number in 0..4 {
+        for number in 0..3 {
             let mut image = volume.image.clone();
             apply(&scratch(&mut rng, &volume), &mut image);
             all.push((format!("{name}{number}"), image));
@@ -803,7 +824,7 @@ fn finds_and_reads_on_generated_volumes() {
         let is_sayable = |path: &[u8]| !path.contains(&0) && path.len() <= 255;
         let files: Vec<usize> = (0..volume.entries.len())
             .filter(|&number| volume.entries[number].size() > 0 && is_sayable(&by_paths.path(number)))
-            .take(7)
+            .take(6)
             .collect();
         for &number in &files {
             let path = by_paths.existing(&mut rng, number).path;
@@ -891,7 +912,7 @@ fn small(disk: &Disk) -> Volume {
     let within = Some(plan.add_named(None, b"Mary", Kind::Directory));
     plan.add_named(None, b"dc", Kind::File(3));
     plan.add_named(within, b"box", Kind::File(1_000));
-    plan.add_named(None, b"one", Kind::File(74 * 488 + 1));
+    plan.add_named(None, b"one", Kind::File(74 * disk.data_bytes() + 1));
     laid_out(&mut Rng::new(176), &plan)
 }
 
@@ -899,11 +920,13 @@ fn entry<'a>(volume: &'a Volume, name: &str) -> &'a Entry {
     volume.entries.iter().find(|entry| entry.name == name.as_bytes()).expect("an entry")
 }
 
-/// The image with a block changed; its sum is mended.
+/// The image with a block changed; its sum is mended, if it has one.
 fn changed(volume: &Volume, key: u32, change: impl Fn(&mut [u8])) -> Vec<u8> {
     let mut block = volume.block(key).to_vec();
     change(&mut block);
-    mend(&mut block, if key == volume.bitmap { 0 } else { 5 });
+    if volume.position(key).is_none_or(|position| volume.is_summed(volume.order[position].part)) {
+        mend(&mut block, if key == volume.bitmap { 0 } else { 5 });
+    }
     let patch: Patch = (key as usize * BLOCK_BYTES, block);
     let mut image = volume.image.clone();
     apply(&[patch], &mut image);
@@ -919,7 +942,7 @@ fn with_word(volume: &Volume, key: u32, index: usize, value: u32) -> Vec<u8> {
 fn common_flaws(volume: &Volume) -> Vec<Flaw> {
     let [mary, cp, dc] = ["Mary", "cp", "dc"].map(|name| entry(volume, name).key);
     let [mut untagged, mut unsummed] = [(); 2].map(|()| volume.image.clone());
-    untagged[3] = 1;
+    untagged[3] = 4;
     unsummed[mary as usize * BLOCK_BYTES + 23] ^= 1;
     let slots = [&b"Mary"[..], b"cp", b"dc", b"hw", b"Mars"].map(|name| slot(&volume.disk, name));
     let hangs = slots[0];
@@ -948,13 +971,16 @@ fn deeper_flaws(volume: &Volume) -> Vec<Flaw> {
     let free = volume.free()[0];
     let (index, bit) = place(free);
     let bits = word(volume.block(volume.bitmap), index);
-    let flaws = [
+    let mut flaws = vec![
         (13, changed(volume, dc, |block| put_name(block, b"CP")), None),
         (14, with_word(volume, one.key, 2, 71), Some(&b"one"[..])),
-        (15, with_word(volume, one.data[73], 2, 73), Some(b"one")),
         (16, with_word(volume, 880, 78, 0), None),
         (17, with_word(volume, volume.bitmap, index, bits ^ 1 << bit), None),
     ];
+    // the words of data blocks, where they have some
+    if volume.disk.has_data_words() {
+        flaws.push((15, with_word(volume, one.data[73], 2, 73), Some(b"one")));
+    }
     let flaw = |(number, image, read)| Flaw { number, image, audit: true, find: None, read };
     flaws.into_iter().map(flaw).collect()
 }
@@ -973,14 +999,54 @@ fn flaws(disk: &Disk) -> Vec<Flaw> {
     all
 }
 
-/// Flaws that lie in accents alone: without the last byte of the tag there is none.
-fn flaws_in_accents() -> Vec<Flaw> {
-    let [plain, international] = &Disk::FLOPPIES;
-    let under = |volume: &Volume, disk: &Disk| {
-        let mut image = volume.image.clone();
-        apply(&[retagged(volume, disk).0], &mut image);
+/// The image of a volume under the tag of a disk of another kind.
+fn under(volume: &Volume, disk: &Disk) -> Vec<u8> {
+    let mut image = volume.image.clone();
+    apply(&[retagged(volume, disk).0], &mut image);
+    image
+}
+
+/// Flaws that lie in the file system alone: without the last byte of the tag there is none.
+fn flaws_in_file_systems() -> Vec<Flaw> {
+    let of = |disk: &Disk, size: u32| {
+        let mut plan = empty(disk);
+        plan.add_named(None, b"file", Kind::File(size));
+        Volume::new(&mut Rng::new(181), &plan, Style { filling: Filling::Old, order: Order::Rising })
+    };
+    let path: Option<&'static [u8]> = Some(b"file");
+    let flaw = |number, image| Flaw { number, image, audit: true, find: None, read: path };
+    let (old, fast) = (of(&Disk::PLAIN, 500), of(&Disk::FAST, 500));
+    // one block in either, with the words of the old file system, and one of them wrong
+    let small = of(&Disk::FAST, 400);
+    let data = small.entries[0].data[0];
+    let with = |index: usize, mended: bool| {
+        let mut block = small.block(data).to_vec();
+        put(&mut block, index, 7);
+        if mended {
+            mend(&mut block, 5);
+        }
+        let mut image = under(&small, &Disk::PLAIN);
+        apply(&[(data as usize * BLOCK_BYTES, block)], &mut image);
         image
     };
+    assert!(audited(&under(&small, &Disk::PLAIN)).1, "as good in the old file system");
+    vec![
+        flaw(14, under(&old, &Disk::FAST)),
+        flaw(14, under(&fast, &Disk::PLAIN)),
+        flaw(7, with(9, false)),
+        flaw(8, with(0, true)),
+        flaw(15, with(3, true)),
+    ]
+}
+
+/// Flaws that lie in accents alone: without the last byte of the tag there is none.
+fn flaws_in_accents() -> Vec<Flaw> {
+    let [old, fast] = [(Disk::PLAIN, Disk::INTERNATIONAL), (Disk::FAST, Disk::FAST_INTERNATIONAL)]
+        .map(|(plain, international)| flaws_in_accents_of(&plain, &international));
+    old.into_iter().chain(fast).collect()
+}
+
+fn flaws_in_accents_of(plain: &Disk, international: &Disk) -> Vec<Flaw> {
     // a plain disk has the small letters elsewhere, and asks for the capitals where they are
     let mut plan = empty(international);
     plan.add_named(None, b"\xE9t\xE9", Kind::File(5));
@@ -1005,7 +1071,8 @@ fn says(text: &[u8], number: u32) -> bool {
 
 #[test]
 fn every_number_of_images_and_paths() {
-    let flaws: Vec<Flaw> = Disk::FLOPPIES.iter().flat_map(flaws).chain(flaws_in_accents()).collect();
+    let by_tags = flaws_in_accents().into_iter().chain(flaws_in_file_systems());
+    let flaws: Vec<Flaw> = Disk::FLOPPIES.iter().flat_map(flaws).chain(by_tags).collect();
     let names: Vec<String> = flaws.iter().zip(0..).map(|(flaw, at)| format!("{at}-{}.adf", flaw.number)).collect();
     let desk = Desk::new(names.iter().cloned().zip(flaws.iter().map(|flaw| flaw.image.clone())));
     let audited_names: Vec<&str> =
@@ -1074,7 +1141,7 @@ fn every_number_of_programs_and_bases() {
 }
 
 /// Every number comes on a disk of each kind, but 2: the tool lends an audit a claim area of a byte for each block,
-/// whatever the image.
+/// whatever the image. 15 comes where data blocks have words.
 #[test]
 fn the_numbers_tried_are_all_there_are() {
     let of_programs: Vec<u32> = program_flaws().into_iter().map(|(number, ..)| number).collect();
@@ -1083,13 +1150,14 @@ fn the_numbers_tried_are_all_there_are() {
         let numbers = |of: fn(&Flaw) -> bool| -> BTreeSet<u32> {
             of_images.iter().filter(|flaw| of(flaw)).map(|flaw| flaw.number).collect()
         };
-        assert!(numbers(|flaw| flaw.audit).into_iter().eq([1].into_iter().chain(3..18)));
+        let is_given = |number: &u32| *number != 15 || disk.has_data_words();
+        assert!(numbers(|flaw| flaw.audit).into_iter().eq([1].into_iter().chain(3..18).filter(is_given)));
         assert!(numbers(|flaw| flaw.find.is_some()).into_iter().eq([1].into_iter().chain(3..13).chain(18..21)));
-        let of_read = [1].into_iter().chain(3..13).chain([14, 15]).chain(18..21);
+        let of_read = [1].into_iter().chain(3..13).chain([14, 15]).chain(18..21).filter(is_given);
         assert!(numbers(|flaw| flaw.read.is_some()).into_iter().eq(of_read));
         let tried: BTreeSet<u32> = of_images.iter().map(|flaw| flaw.number).chain(of_programs.clone()).collect();
         let all: BTreeSet<u32> =
-            SENTENCES.iter().map(|&(number, _)| number).filter(|&number| number != 2).collect();
+            SENTENCES.iter().map(|&(number, _)| number).filter(|&number| number != 2).filter(is_given).collect();
         assert_eq!(tried, all);
     }
 }

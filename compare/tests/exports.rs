@@ -12,7 +12,9 @@ use compare::paths::{far_offsets, Paths};
 use compare::program::{Memory, BOTH, BSS, CHIP, END, FAST, HEADER, HUNK_WORDS};
 use compare::programs::{bytes, long_file, worked_file, Room};
 use compare::rng::Rng;
+use compare::sizes::{data_blocks, largest_file};
 use compare::volumes::{any_style, Kind, Plan, Volume};
+use compare::words::{mend, put};
 
 /// What this package answers, and what the exported functions do.
 #[derive(Default)]
@@ -89,10 +91,18 @@ fn reads_from_far_offsets_are_refused_as_others() {
     for disk in &Disk::FLOPPIES {
         let volume = volume(171, disk, 1_000);
         let [file, capital] = paths_of_file(disk);
-        let last = volume.entries[1].data[2];
+        // of a block without words only the key can be wrong
+        let last = *volume.entries[1].data.last().expect("a data block");
         let mut image = volume.image.clone();
-        image[last as usize * 512 + 511] ^= 1;
-        let due = format!("refused 7 {last} ");
+        let mut due = format!("refused 7 {last} ");
+        if disk.has_data_words() {
+            image[last as usize * 512 + 511] ^= 1;
+        } else {
+            let header = &mut image[volume.entries[1].key as usize * 512..][..512];
+            put(header, 76, 1_760);
+            mend(header, 5);
+            due = "refused 5 1760 ".to_string();
+        }
         let mut both = Both::default();
         for offset in [0, 1_000].into_iter().chain(far_offsets(disk, 1_000)) {
             same!(both.take_image(&volume.image));
@@ -113,14 +123,16 @@ fn reads_from_far_offsets_are_refused_as_others() {
 #[test]
 fn outputs_longer_than_any_file() {
     for disk in &Disk::FLOPPIES {
-        let volume = volume(172, disk, 844_240);
+        // the directory takes a block
+        let size = largest_file(disk) as usize - disk.data_bytes() as usize;
+        let volume = volume(172, disk, size as u32);
         let [file, capital] = paths_of_file(disk);
         let mut both = Both::default();
         same!(both.take_image(&volume.image));
-        for room in [844_239, 844_240, 844_241, 1_048_577, 3_000_001] {
-            expect!(both.read(file, 0, room), format!("bytes {} ", room.min(844_240)));
+        for room in [size - 1, size, size + 1, 1_048_577, 3_000_001] {
+            expect!(both.read(file, 0, room), format!("bytes {} ", room.min(size)));
         }
-        expect!(both.read(capital, 844_239, 3_000_001), "bytes 1 ");
+        expect!(both.read(capital, size - 1, 3_000_001), "bytes 1 ");
     }
 }
 
@@ -132,7 +144,12 @@ fn claim_areas_and_paths_of_any_length() {
         let mut both = Both::default();
         same!(both.take_image(&volume.image));
         for length in [1_759, 1_760, 1_761, 4_097, 1_000_003] {
-            let due = if length < 1_760 { "refused 2 0 " } else { "accepted 1 1 0 11 15 1743 " };
+            // in the old file system 11 data blocks, else 10
+            let due = match (length < 1_760, disk.has_data_words()) {
+                (true, _) => "refused 2 0 ",
+                (false, true) => "accepted 1 1 0 11 15 1743 ",
+                (false, false) => "accepted 1 1 0 10 14 1744 ",
+            };
             expect!(both.audit(length), due);
         }
         for length in [255, 256, 4_097, 1_000_003] {
@@ -151,10 +168,13 @@ fn claim_areas_and_paths_of_any_length() {
     }
 }
 
-/// Every last byte of the tag: two are kinds of disk, and of these only one has the capital for the letter.
+/// Every last byte of the tag: four are kinds of disk, and of these two have the capital for the letter. The file of
+/// 900 bytes has two blocks in both file systems; where data blocks have words, the bytes come after them.
 #[test]
 fn every_kind_that_a_tag_can_name() {
-    let volume = volume(174, &Disk::INTERNATIONAL, 1_000);
+    let volume = volume(174, &Disk::INTERNATIONAL, 900);
+    let paths = Paths::new(&volume);
+    let number = volume.entries.iter().position(|entry| entry.size() > 0).expect("the file");
     let key = volume.entries.iter().find(|entry| entry.size() > 0).expect("the file").key;
     let mut both = Both::default();
     for kind in 0..=255 {
@@ -163,10 +183,10 @@ fn every_kind_that_a_tag_can_name() {
         same!(both.take_image(&image));
         let [audit, small, capital] = match kind {
             // the file hangs where a plain disk has FIL and the capital, and a plain disk has its name elsewhere
-            0 => [format!("refused 12 {key} "), "refused 19 0".to_string(), format!("refused 12 {key}")],
-            2 => {
-                let found = format!("file {key} 1000 1");
-                ["accepted 1 1 0 3 7 1751 ".to_string(), found.clone(), found]
+            0 | 1 => [format!("refused 12 {key} "), "refused 19 0".to_string(), format!("refused 12 {key}")],
+            2 | 3 => {
+                let found = format!("file {key} 900 1");
+                ["accepted 1 1 0 2 6 1752 ".to_string(), found.clone(), found]
             }
             _ => ["refused 3 0 ".to_string(), "refused 3 0".to_string(), "refused 3 0".to_string()],
         };
@@ -174,6 +194,48 @@ fn every_kind_that_a_tag_can_name() {
         expect!(both.find(b"fil\xE9"), small);
         expect!(both.find(b"FIL\xC9"), capital);
         expect!(both.find(b"c/"), "refused 18 1");
+        if let Some(disk) = Disk::FLOPPIES.into_iter().find(|disk| disk.kind == kind && kind >= 2) {
+            let contents = paths.contents_on(&disk, number).expect("as many blocks");
+            let start = if kind == 2 { 24 } else { 0 };
+            assert_eq!(contents[..9], volume.block(volume.entries[number].data[0])[start..][..9]);
+            for (offset, room) in [(0, 1_000), (487, 30), (511, 3), (899, 2), (900, 2)] {
+                let rest: Vec<u8> = contents.iter().copied().skip(offset).take(room).collect();
+                let due = format!("bytes {} {}", rest.len(), output(&rest, room));
+                assert_eq!(same!(both.read(b"FIL\xC9", offset, room)), due);
+            }
+        }
+    }
+}
+
+/// Files of one kind of disk under the tag of the other file system: as many blocks and other bytes, or 14.
+#[test]
+fn files_in_the_other_file_system() {
+    for disk in &Disk::FLOPPIES {
+        let other = disk.others().find(|other| {
+            other.is_international() == disk.is_international() && other.has_data_words() != disk.has_data_words()
+        });
+        let other = other.expect("the other file system");
+        for size in [0, 1, 488, 489, 512, 513, 976, 977, 1_024, 1_025] {
+            let volume = volume(175 + u64::from(size), disk, size);
+            let [file, capital] = paths_of_file(disk);
+            let mut image = volume.image.clone();
+            image[3] = other.kind;
+            let mut both = Both::default();
+            same!(both.take_image(&image));
+            let number = volume.entries.iter().position(|entry| entry.name.len() > 1).expect("the file");
+            let key = volume.entries[number].key;
+            let line = same!(both.read(file, 0, 1_030));
+            if data_blocks(disk, size) != data_blocks(&other, size) {
+                assert!(line.starts_with(&format!("refused 14 {key} ")), "{size}: {line}");
+                expect!(both.audit(1_760), format!("refused 14 {key} "));
+            }
+            let due = match Paths::new(&volume).contents_on(&other, number) {
+                Ok(contents) => format!("bytes {} {}", contents.len(), output(&contents, 1_030)),
+                Err(refusal) => format!("refused {} {} {}", refusal.number, refusal.place, output(b"", 1_030)),
+            };
+            assert_eq!(line, due, "{size}");
+            expect!(both.find(capital), format!("file {key} {size} "));
+        }
     }
 }
 

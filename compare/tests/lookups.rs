@@ -12,6 +12,7 @@ use compare::bad_volumes::{causes, harmless, scratch, wrong_lengths, Cause, Harm
 use compare::blocks::{DIRECTORY, FILE};
 use compare::disk::{Disk, FLOPPY};
 use compare::driver::checksum;
+use compare::kinds::first_misfit_of_file;
 use compare::lookup::{find, Found, LONGEST_PATH};
 use compare::model::read_request;
 use compare::names::{name, put_name, same, slot};
@@ -20,12 +21,13 @@ use compare::program::Refusal;
 use compare::reading::read;
 use compare::rng::Rng;
 use compare::sides::{with_seeds, Who};
+use compare::sizes::largest_file;
 use compare::talk;
 use compare::volumes::{
-    any_name, any_style, chain, empty, every_byte, files, full, lookalike, mixed, nested, recased, shuffle, Entry,
-    Kind, Part, Plan, Volume, TELLING_SIZES,
+    any_name, any_style, chain, empty, every_byte, files, full, lookalike, mixed, nested, recased, shuffle,
+    telling_sizes, Entry, Filling, Kind, Order, Part, Plan, Style, Volume,
 };
-use compare::words::{mend, put, slot_word, word, BLOCK_BYTES, BLOCK_WORDS, TABLE};
+use compare::words::{key_word, mend, put, slot_word, word, BLOCK_BYTES, BLOCK_WORDS, TABLE};
 
 const FIND: u32 = 4;
 const READ: u32 = 5;
@@ -42,12 +44,15 @@ const OUTPUT_ROOM: usize = 1_048_576;
 /// The longest output that is asked for often; checksums of longer ones take their time.
 const SHORT: usize = 2_000;
 
-/// The largest file.
-const LARGEST: u32 = 844_728;
-
-/// Every number that a lookup gives, and those that a read gives besides.
+/// Every number that a lookup gives, and those that a read gives besides. 15 is of data blocks with words alone.
 const OF_FIND: [u32; 14] = [1, 3, 4, 5, 6, 7, 8, 9, 10, 11, 12, 18, 19, 20];
-const OF_READ: [u32; 2] = [14, 15];
+fn of_read(disk: &Disk) -> &'static [u32] {
+    if disk.has_data_words() {
+        &[14, 15]
+    } else {
+        &[14]
+    }
+}
 
 /// The kind of a disk, and the number of a refusal or 0.
 type Answer = (u8, u32);
@@ -60,6 +65,8 @@ struct Tally {
     reads: BTreeMap<Answer, usize>,
     /// Lookups on a volume under the tag of another kind, by the kind that it was laid out for.
     retagged: BTreeMap<Answer, usize>,
+    /// Reads of files that are found there, by that kind and by whether the other is of the same file system.
+    reread: BTreeMap<(Answer, bool), usize>,
     /// Reads from an offset that four bytes do not hold.
     far: usize,
     /// Answers known beforehand, and those of them that a harm told.
@@ -280,7 +287,7 @@ fn deep(rng: &mut Rng, disk: &Disk) -> Volume {
         Some(plan.add_named(within, &[&[b'L'; 29][..], &[b'q' + depth]].concat(), Kind::Directory))
     });
     for (name, kind) in
-        [(&b"sevenEF"[..], Kind::File(490)), (b"seven_D", Kind::Directory), (b"eight__F", Kind::File(1))]
+        [(&b"sevenEF"[..], Kind::File(520)), (b"seven_D", Kind::Directory), (b"eight__F", Kind::File(1))]
     {
         plan.add_named(eighth, name, kind);
     }
@@ -297,7 +304,7 @@ fn near_names(rng: &mut Rng, disk: &Disk) -> Volume {
         let Some(near) = unfolded(rng, disk, &name) else { continue };
         if ![&name, &near].into_iter().any(|new| names.iter().any(|name| same(disk, name, new))) {
             for name in [&name, &near] {
-                plan.add_named(None, name, rng.pick(&[Kind::Directory, Kind::File(0), Kind::File(490)]));
+                plan.add_named(None, name, rng.pick(&[Kind::Directory, Kind::File(0), Kind::File(520)]));
             }
             names.extend([name, near]);
             pairs += 1;
@@ -310,14 +317,15 @@ fn near_names(rng: &mut Rng, disk: &Disk) -> Volume {
 fn moderate(rng: &mut Rng, disk: &Disk) -> Vec<(String, Volume)> {
     let mut volumes =
         vec![("deep".to_string(), deep(rng, disk)), ("near names".to_string(), near_names(rng, disk))];
+    let table = TABLE * disk.data_bytes();
     let plans = [
-        ("telling sizes", files(rng, disk, &TELLING_SIZES)),
-        ("several lists", files(rng, disk, &[105_409, 70_272, 1])),
+        ("telling sizes", files(rng, disk, &telling_sizes(disk))),
+        ("several lists", files(rng, disk, &[3 * table + 1, 2 * table, 1])),
         ("30 nested", nested(rng, disk, 30)),
         ("40 on a chain", chain(rng, disk, 40)),
     ];
     volumes.extend(plans.iter().map(|(what, plan)| (what.to_string(), laid_out(rng, plan))));
-    for blocks in [40, 80, 120, 160, 250] {
+    for blocks in [40, 120, 250] {
         let plan = mixed(rng, disk, blocks);
         volumes.push((format!("mixed, {blocks} blocks"), laid_out(rng, &plan)));
     }
@@ -330,7 +338,7 @@ fn large(rng: &mut Rng) -> Vec<(String, Volume)> {
     let plans = [
         ("nested throughout", nested(rng, &one, one.chain_limit())),
         ("one chain", chain(rng, &two, two.chain_limit())),
-        ("the largest file", files(rng, &three, &[LARGEST])),
+        ("the largest file", files(rng, &three, &[largest_file(&three)])),
         ("full", full(rng, &four)),
     ];
     plans.iter().map(|(what, plan)| (what.to_string(), laid_out(rng, plan))).collect()
@@ -341,9 +349,10 @@ fn large(rng: &mut Rng) -> Vec<(String, Volume)> {
 fn every_entry_is_found_and_every_file_read() {
     let mut rng = Rng::new(142);
     let (mut found, mut out_of_reach, mut bytes) = (0, 0, 0);
-    let [plain, international] = &Disk::FLOPPIES;
-    let volumes = [moderate(&mut rng, plain), moderate(&mut rng, international), large(&mut rng)];
-    for (what, volume) in volumes.iter().flatten() {
+    let mut volumes: Vec<(String, Volume)> =
+        Disk::FLOPPIES.iter().flat_map(|disk| moderate(&mut rng, disk)).collect();
+    volumes.extend(large(&mut rng));
+    for (what, volume) in &volumes {
         let paths = Paths::new(volume);
         for (number, entry) in volume.entries.iter().enumerate() {
             let Question { path, due, .. } = paths.existing(&mut rng, number);
@@ -390,7 +399,8 @@ fn lengths(who: Who, rng: &mut Rng, disk: &Disk) -> Talk {
         }
     }
     talk.image(&volume.image);
-    for tag in [*b"KICK", *b"DOS\x01", *b"DOS\x03", *b"DOS\x04", *b"DOS\xFF", *b"dos\0", *b"dos\x02", [0; 4]] {
+    let lower = [b'd', b'o', b's', disk.kind];
+    for tag in [*b"KICK", *b"DOS\x04", *b"DOS\x05", *b"DOS\x81", *b"DOS\xFF", *b"dos\0", lower, [0; 4]] {
         talk.about(format!("the boot tag {tag:?}"));
         talk.patched(&[(0, tag.to_vec())], |talk| {
             for (path, due) in all.into_iter().zip([(3, 0), (3, 0), (3, 0), (18, 1), (18, 0)]) {
@@ -488,7 +498,8 @@ fn long_paths(who: Who, rng: &mut Rng, disk: &Disk) -> Talk {
 /// Files of telling sizes, read from every telling offset into every telling room.
 fn ends(who: Who, rng: &mut Rng, disk: &Disk) -> Talk {
     let mut talk = Talk::new(who);
-    let sizes = [&TELLING_SIZES[..], &[976, 70_272, 70_273]].concat();
+    let (full, table) = (disk.data_bytes(), TABLE * disk.data_bytes());
+    let sizes = [&telling_sizes(disk)[..], &[2 * full, 2 * table, 2 * table + 1]].concat();
     let plan = files(rng, disk, &sizes);
     let volume = laid_out(rng, &plan);
     let paths = Paths::new(&volume);
@@ -591,7 +602,9 @@ fn look(talk: &mut Talk, rng: &mut Rng, all: &[Vec<u8>]) {
             let _ = talk.find(path);
         }
         if reads {
-            let (offset, room) = spot(rng, &Disk::PLAIN, found.map_or(500, |found| found.size.min(LARGEST)));
+            let disk = Disk::of(FLOPPY, talk.held()).unwrap_or(Disk::PLAIN);
+            let size = found.map_or(500, |found| found.size.min(largest_file(&disk)));
+            let (offset, room) = spot(rng, &disk, size);
             let (answer, output) = talk.read(path, offset, room);
             let untouched = output.iter().all(|&byte| byte == BEFORE);
             assert!(answer.is_ok() || untouched, "{}: {path:?}", talk.subject());
@@ -745,7 +758,7 @@ fn target(rng: &mut Rng, disk: &Disk, size: u32) -> Target {
     plan.add(rng, None, Some(30), Kind::Directory);
     plan.add(rng, within, Some(41), Kind::Directory);
     plan.add(rng, within, Some(41), Kind::File(size));
-    plan.add(rng, within, Some(41), Kind::File(488));
+    plan.add(rng, within, Some(41), Kind::File(disk.data_bytes()));
     let volume = laid_out(rng, &plan);
     let number = volume.entries.iter().position(|entry| entry.size() == size).expect("the file");
     let paths = Paths::new(&volume);
@@ -777,11 +790,12 @@ impl Target {
         let unmended = (place + 4 * index, value.to_be_bytes().to_vec());
         let patch = if mended { (place, block) } else { unmended };
         let is_header = matches!(part, Part::Root | Part::Directory(_) | Part::File(_));
+        let is_summed = part != Part::Bitmap && self.volume.is_summed(part);
         let due = Refusal::at(7, key as usize);
         let (offset, room) = spot(rng, &self.volume.disk, self.contents.len() as u32);
         talk.about(format!("{part:?}: w{index} is {value:X}, sum mended: {mended}"));
         talk.patched(&[patch], |talk| {
-            if !mended && part != Part::Bitmap {
+            if !mended && is_summed {
                 talk.expect_find(&self.path, if is_header { Err(due) } else { Ok(self.found) });
                 talk.expect_refused(&self.path, offset, room, due);
             } else if self.is_unread(part, index) {
@@ -798,7 +812,7 @@ impl Target {
 /// Every word of every kind of block, changed with the sum mended and without.
 fn every_word(who: Who, rng: &mut Rng, disk: &Disk) -> Talk {
     let mut talk = Talk::new(who);
-    let target = target(rng, disk, 73 * 488 + 5);
+    let target = target(rng, disk, 73 * disk.data_bytes() + 5);
     talk.image(&target.volume.image);
     let headers =
         [disk.root(), target.volume.bitmap, target.file.directory, target.file.key, target.file.lists[0]];
@@ -814,10 +828,12 @@ fn every_word(who: Who, rng: &mut Rng, disk: &Disk) -> Talk {
     talk
 }
 
-/// Damage to each block of a file in turn, with reads of what lies before it, in it and after it.
+/// Damage to each block of a file in turn, with reads of what lies before it, in it and after it. In the Fast File
+/// System damage to a data block is another file's bytes, and is read; of these only the key can be wrong.
 fn in_the_middle(who: Who, rng: &mut Rng, disk: &Disk) -> Talk {
     let mut talk = Talk::new(who);
-    let Target { volume, path, file, found, .. } = target(rng, disk, 150 * 488 - 7);
+    let full = disk.data_bytes() as usize;
+    let Target { volume, path, file, found, contents, .. } = target(rng, disk, 150 * full as u32 - 7);
     talk.image(&volume.image);
     let mut harms = Vec::new();
     for (index, &key) in file.data.iter().enumerate() {
@@ -832,9 +848,22 @@ fn in_the_middle(who: Who, rng: &mut Rng, disk: &Disk) -> Talk {
     for (key, index, number, place) in harms {
         talk.about(format!("block {key}, w{index}"));
         let value = other(rng, word(volume.block(key), index));
-        let start = file.data.iter().position(|&data| data == key).unwrap_or(72) * 488;
+        let block = file.data.iter().position(|&data| data == key);
+        let start = block.unwrap_or(72) * full;
         let far = (1 << 32) + start;
-        let spots = [(0, 1), (0, start.min(SHORT)), (start, 488), (start + 488, 700), (far, 488), (usize::MAX, 3)];
+        let spots =
+            [(0, 1), (0, start.min(SHORT)), (start, full), (start + full, 700), (far, full), (usize::MAX, 3)];
+        if block.is_some() && !disk.has_data_words() {
+            let mut contents = contents.clone();
+            let new = value.to_be_bytes();
+            contents[start + 4 * index..][..4].copy_from_slice(&new);
+            talk.patched(&[(key as usize * BLOCK_BYTES + 4 * index, new.to_vec())], |talk| {
+                let (offset, room) = rng.pick(&spots);
+                talk.expect_bytes(&path, offset, room, &contents);
+                talk.expect_bytes(&path, start.saturating_sub(1), 30, &contents);
+            });
+            continue;
+        }
         talk.patched(&[put_words(&volume, key, &[(index, value)])], |talk| {
             let (offset, room) = rng.pick(&spots);
             talk.expect_refused(&path, offset, room, Refusal::at(number, place as usize));
@@ -851,7 +880,95 @@ fn in_the_middle(who: Who, rng: &mut Rng, disk: &Disk) -> Talk {
     talk
 }
 
-/// A word of a block, and the number due at the block if another value stands there.
+/// Reads around every end of a block, of a table and of the file, in a file with two list blocks, and of the last byte
+/// of the largest file; with all data blocks and w4 of the header as the style has them. In the Fast File System then
+/// with other words at the beginning of each block.
+fn boundaries(who: Who, rng: &mut Rng, disk: &Disk) -> Talk {
+    let mut talk = Talk::new(who);
+    let full = disk.data_bytes() as usize;
+    let size = 2 * 72 * full + 2 * full + 9;
+    let fillings = [Filling::Random, Filling::Stale, Filling::Old];
+    let style = Style { filling: rng.pick(&fillings), order: Order::Shuffled };
+    let mut plan = empty(disk);
+    plan.add_named(None, b"file", Kind::File(size as u32));
+    let volume = Volume::new(rng, &plan, style);
+    let contents = Paths::new(&volume).contents(0);
+    talk.about(format!("kind {}, {style:?}: boundaries", disk.kind));
+    talk.image(&volume.image);
+    let mut ends: Vec<usize> = (0..=size / full).map(|blocks| blocks * full).chain([size]).collect();
+    ends.retain(|end| [0, 1, 2, 71, 72, 73, 143, 144, 145, 146].contains(&(end / full)) || rng.below(8) == 0);
+    for end in ends {
+        for offset in [end.saturating_sub(1), end, end + 1] {
+            for room in [0, 1, full - 1, full, full + 1] {
+                if rng.below(2) == 0 {
+                    talk.expect_bytes(b"file", offset, room, &contents);
+                }
+            }
+        }
+    }
+    if !disk.has_data_words() {
+        let entry = &volume.entries[0];
+        let mut changed = volume.image.clone();
+        for &key in &entry.data {
+            let words = rng.bytes(24);
+            changed[key as usize * BLOCK_BYTES..][..24].copy_from_slice(&words);
+        }
+        put(&mut changed[entry.key as usize * BLOCK_BYTES..][..BLOCK_BYTES], 4, rng.draw() as u32);
+        mend(&mut changed[entry.key as usize * BLOCK_BYTES..][..BLOCK_BYTES], 5);
+        let bytes = entry.data.iter().flat_map(|&key| &changed[key as usize * BLOCK_BYTES..][..BLOCK_BYTES]);
+        let contents: Vec<u8> = bytes.copied().take(size).collect();
+        talk.about(format!("kind {}, {style:?}: other words", disk.kind));
+        talk.image(&changed);
+        for block in [0, 1, 71, 72, 143, 144, 145, 146] {
+            talk.expect_bytes(b"file", block * full, 25, &contents);
+            talk.expect_bytes(b"file", block * full + 511, 513, &contents);
+        }
+    }
+    let size = largest_file(disk);
+    let mut plan = empty(disk);
+    plan.add_named(None, b"big", Kind::File(size));
+    let volume = Volume::new(rng, &plan, style);
+    let (contents, size) = (Paths::new(&volume).contents(0), size as usize);
+    talk.about(format!("kind {}, the largest file", disk.kind));
+    talk.image(&volume.image);
+    for (offset, room) in [(size - 1, 1), (size - 1, 9), (size - full, full + 1), (size, 5), (size + 1, 5)] {
+        talk.expect_bytes(b"big", offset, room, &contents);
+    }
+    talk
+}
+
+/// Changes that are harm in the old file system alone, in files of this volume: the bytes are those that the listed
+/// blocks then have.
+fn allowed(talk: &mut Talk, rng: &mut Rng, what: &str, volume: &Volume) {
+    let paths = Paths::new(volume);
+    for cause in causes() {
+        let Some(patches) = cause.allowed(rng, volume) else { continue };
+        let Some(number) = patches.iter().find_map(|patch| owner(volume, patched_key(patch))) else { continue };
+        if !paths.is_within_reach(number) {
+            continue;
+        }
+        talk.about(format!("{what}: {} by {}, if it were asked for", cause.number, cause.what));
+        talk.patched(&patches, |talk| {
+            let Question { path, .. } = paths.existing(rng, number);
+            let contents = listed(talk.held(), &volume.entries[number]);
+            let (offset, room) = spot(rng, &volume.disk, contents.len() as u32);
+            talk.expect_find(&path, Ok(Found { size: contents.len() as u32, ..paths.found(number) }));
+            talk.expect_bytes(&path, offset, room, &contents);
+            talk.tally.told += 1;
+        });
+    }
+}
+
+/// The bytes of a file in the Fast File System, by the words of its tables: whole blocks end to end, cut at its size.
+fn listed(image: &[u8], file: &Entry) -> Vec<u8> {
+    let block = |key: u32| &image[key as usize * BLOCK_BYTES..][..BLOCK_BYTES];
+    let tables = [file.key].into_iter().chain(file.lists.iter().copied());
+    let keys = tables.flat_map(|table| (0..TABLE).map(move |index| word(block(table), key_word(index))));
+    let bytes = keys.take(file.data.len()).flat_map(|key| block(key).iter().copied());
+    bytes.take(word(block(file.key), 81) as usize).collect()
+}
+
+/// A word of a block, and the number due at the block if another value stands there; for 5, due at that value.
 type Step = (u32, usize, u32);
 
 /// Steps on the way to the target, in the order in which a read takes them, and how many of them a lookup takes.
@@ -867,7 +984,13 @@ fn steps(target: &Target) -> (Vec<Step>, usize) {
         if index > 0 && index % TABLE as usize == 0 {
             steps.push((file.lists[index / TABLE as usize - 1], 1, 10));
         }
-        steps.push((key, 1, 15));
+        if volume.disk.has_data_words() {
+            steps.push((key, 1, 15));
+        } else {
+            let table = index / TABLE as usize;
+            let holder = if table == 0 { file.key } else { file.lists[table - 1] };
+            steps.push((holder, key_word(index as u32 % TABLE), 5));
+        }
     }
     (steps, in_lookup)
 }
@@ -875,7 +998,7 @@ fn steps(target: &Target) -> (Vec<Step>, usize) {
 /// Two faults on the way to a file and through its blocks: the one that is met first is due.
 fn two_faults(who: Who, rng: &mut Rng, disk: &Disk) -> Talk {
     let mut talk = Talk::new(who);
-    let target = target(rng, disk, 150 * 488 - 7);
+    let target = target(rng, disk, 150 * disk.data_bytes() - 7);
     let (steps, in_lookup) = steps(&target);
     let Target { volume, path, found, .. } = target;
     talk.image(&volume.image);
@@ -884,13 +1007,15 @@ fn two_faults(who: Who, rng: &mut Rng, disk: &Disk) -> Talk {
         let second = 1 + rng.below(bound) as usize;
         let first = rng.below(second as u64) as usize;
         let mut faults: BTreeMap<u32, Vec<(usize, u32)>> = BTreeMap::new();
-        for (key, index, _) in [steps[first], steps[second]] {
-            let value = other(rng, word(volume.block(key), index));
+        for (key, index, number) in [steps[first], steps[second]] {
+            let any = other(rng, word(volume.block(key), index));
+            let value = if number == 5 { rng.pick(&[0, 1, FLOPPY, FLOPPY + 1, u32::MAX]) } else { any };
             faults.entry(key).or_default().push((index, value));
         }
         let patches: Vec<Patch> = faults.iter().map(|(&key, words)| put_words(&volume, key, words)).collect();
-        let (key, _, number) = steps[first];
-        let due = Refusal::at(number, key as usize);
+        let (key, index, number) = steps[first];
+        let value = faults[&key].iter().find(|(other, _)| *other == index).map_or(0, |&(_, value)| value);
+        let due = Refusal::at(number, if number == 5 { value } else { key } as usize);
         talk.about(format!("{:?} and then {:?}", steps[first], steps[second]));
         talk.patched(&patches, |talk| {
             let (offset, room) = spot(rng, disk, found.size);
@@ -1019,9 +1144,17 @@ fn ask_on(talk: &mut Talk, paths: &Paths, disk: &Disk, components: &[Vec<u8>]) {
     talk.expect_find(&path, due);
     match due {
         Err(due) => talk.expect_refused(&path, 0, 9, due),
-        Ok(found) if found.kind == FILE && found.size < SHORT as u32 => {
-            let number = paths.volume.entries.iter().position(|entry| entry.key == found.key).expect("the file");
-            talk.expect_bytes(&path, 1, SHORT, &paths.contents(number));
+        Ok(found) if found.kind == FILE => {
+            let one = paths.volume.entries.iter().position(|entry| entry.key == found.key).expect("the file");
+            let due = paths.contents_on(disk, one);
+            let same_system = disk.has_data_words() == paths.volume.disk.has_data_words();
+            let answer = (paths.volume.disk.kind, number(&due));
+            *talk.tally.reread.entry((answer, same_system)).or_default() += 1;
+            assert_eq!(due.is_err(), first_misfit_of_file(paths.volume, disk, one).is_some());
+            match due {
+                Ok(contents) => talk.expect_bytes(&path, contents.len() / 2, SHORT, &contents),
+                Err(due) => talk.expect_refused(&path, 1, 9, due),
+            }
         }
         Ok(_) => {}
     }
@@ -1057,7 +1190,7 @@ fn bytes_as_names(who: Who, rng: &mut Rng, disk: &Disk) -> Talk {
     talk.image(&volume.image);
     let capital = |byte: u8| match byte {
         b'a'..=b'z' => byte - 0x20,
-        0xE0..=0xF6 | 0xF8..=0xFE if disk.kind == 2 => byte - 0x20,
+        0xE0..=0xF6 | 0xF8..=0xFE if disk.kind >= 2 => byte - 0x20,
         _ => byte,
     };
     for byte in (0..=255).filter(|byte| !b"/:".contains(byte)) {
@@ -1065,28 +1198,30 @@ fn bytes_as_names(who: Who, rng: &mut Rng, disk: &Disk) -> Talk {
         let number = volume.entries.iter().position(|entry| capital(entry.name[0]) == capital(byte));
         talk.expect_find(&[byte], Ok(paths.found(number.expect("an entry for each byte"))));
     }
-    other_kinds(&mut talk, rng, &format!("kind {}, bytes", disk.kind), &volume, 256);
+    other_kinds(&mut talk, rng, &format!("kind {}, bytes", disk.kind), &volume, 85);
     talk
 }
 
 /// All requests of the great comparison, as the seed draws them.
 fn talks(who: Who, seed: u64) -> Vec<Talk> {
     let mut rng = Rng::new(seed);
-    let of_each = [lengths, bytes_as_names];
+    let of_each = [lengths, bytes_as_names, boundaries];
     let of_some = [long_paths, ends, every_word, in_the_middle, two_faults, longest_chain, two_long_chains];
     let mut talks = Vec::new();
-    for make in of_some {
-        let disk = rng.pick(&Disk::FLOPPIES);
+    for (number, make) in of_some.into_iter().enumerate() {
+        // each in turn on a disk of another kind, so that ten seeds have all of them
+        let disk = Disk::FLOPPIES[(seed as usize + number) % 4];
         talks.push(make(who, &mut rng, &disk));
     }
     for disk in &Disk::FLOPPIES {
         talks.extend(of_each.map(|make| make(who, &mut rng, disk)));
         let mut talk = Talk::new(who);
         for (what, volume) in moderate(&mut rng, disk) {
-            as_is(&mut talk, &mut rng, &what, &volume, 30);
-            other_kinds(&mut talk, &mut rng, &what, &volume, 12);
-            harms(&mut talk, &mut rng, &what, &volume, 100);
-            scratches(&mut talk, &mut rng, &what, &volume, 60);
+            as_is(&mut talk, &mut rng, &what, &volume, 24);
+            other_kinds(&mut talk, &mut rng, &what, &volume, 8);
+            harms(&mut talk, &mut rng, &what, &volume, 80);
+            allowed(&mut talk, &mut rng, &what, &volume);
+            scratches(&mut talk, &mut rng, &what, &volume, 40);
             loops(&mut talk, &mut rng, &what, &volume, 2);
         }
         talks.push(talk);
@@ -1103,7 +1238,7 @@ fn talks(who: Who, seed: u64) -> Vec<Talk> {
 }
 
 /// How often each answer is due over all talks.
-fn sum(talks: &[Talk], of: fn(&Tally) -> &BTreeMap<Answer, usize>) -> BTreeMap<Answer, usize> {
+fn sum<K: Copy + Ord>(talks: &[Talk], of: fn(&Tally) -> &BTreeMap<K, usize>) -> BTreeMap<K, usize> {
     let mut sum = BTreeMap::new();
     for (&answer, &times) in talks.iter().flat_map(|talk| of(&talk.tally)) {
         *sum.entry(answer).or_default() += times;
@@ -1131,10 +1266,11 @@ fn hold_answers(what: &str, answers: &BTreeMap<Answer, usize>, kind: u8, numbers
 /// Enough of everything is asked: at least 20,000 calls, and of each call and each kind every number.
 fn are_enough(talks: &[Talk]) {
     let [finds, reads] = [sum(talks, |tally| &tally.finds), sum(talks, |tally| &tally.reads)];
-    let all = [&OF_FIND[..], &OF_READ].concat();
-    let of_kind =
-        |kind| [hold_answers("lookups", &finds, kind, &OF_FIND), hold_answers("reads", &reads, kind, &all)];
-    let calls: usize = Disk::FLOPPIES.iter().flat_map(|disk| of_kind(disk.kind)).sum();
+    let of_kind = |disk: &Disk| {
+        let all = [&OF_FIND[..], of_read(disk)].concat();
+        [hold_answers("lookups", &finds, disk.kind, &OF_FIND), hold_answers("reads", &reads, disk.kind, &all)]
+    };
+    let calls: usize = Disk::FLOPPIES.iter().flat_map(of_kind).sum();
     let total = |of: fn(&Tally) -> usize| talks.iter().map(|talk| of(&talk.tally)).sum::<usize>();
     let [far, known, told] = [total(|tally| tally.far), total(|tally| tally.known), total(|tally| tally.told)];
     println!("{calls} calls, {far} far, {known} answers known beforehand, {told} of them told by a harm");
@@ -1142,9 +1278,24 @@ fn are_enough(talks: &[Talk]) {
     assert!(calls >= 20_000, "{calls} calls");
     assert!(far >= 1_000, "{far} reads from far offsets");
     let retagged = sum(talks, |tally| &tally.retagged);
-    println!("lookups under the other tag, by kind and number: {retagged:?}");
-    let answers = [0, 12, 19].map(|number| [(0, number), (2, number)]).concat();
-    assert!(answers.iter().all(|answer| retagged.get(answer).is_some_and(|&times| times >= 20)), "{retagged:?}");
+    println!("lookups under another tag, by kind and number: {retagged:?}");
+    let mut answers = [0, 12, 19].into_iter().flat_map(|number| (0..4).map(move |kind| (kind, number)));
+    assert!(answers.all(|answer| retagged.get(&answer).is_some_and(|&times| times >= 20)), "{retagged:?}");
+    // where the file system is the same, so are the files; else some are too, but for their bytes
+    let reread = sum(talks, |tally| &tally.reread);
+    println!("reads under another tag, by kind, number and whether in the same file system: {reread:?}");
+    for disk in Disk::FLOPPIES {
+        let numbers = |same: bool| -> Vec<u32> {
+            let of = reread.keys().filter(|((kind, _), other)| *kind == disk.kind && *other == same);
+            of.map(|((_, number), _)| *number).collect()
+        };
+        let [same, elsewhere] = [true, false].map(numbers);
+        assert_eq!(same, [0], "kind {}", disk.kind);
+        let (all, least): (&[u32], &[u32]) =
+            if disk.has_data_words() { (&[0, 14], &[0, 14]) } else { (&[0, 7, 8, 14, 15], &[0, 7, 14]) };
+        assert!(elsewhere.iter().all(|number| all.contains(number)), "kind {}: {elsewhere:?}", disk.kind);
+        assert!(least.iter().all(|number| elsewhere.contains(number)), "kind {}: {elsewhere:?}", disk.kind);
+    }
 }
 
 /// All that is known beforehand is answered so; no one else is needed for that.

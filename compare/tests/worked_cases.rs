@@ -6,10 +6,8 @@ use compare::bitmap::place;
 use compare::disk::{claim_length, image_length, Disk, FLOPPY};
 use compare::names::{same, slot};
 use compare::rng::Rng;
-use compare::sizes::{data_blocks, header_keys, held, last_list_keys, list_blocks};
+use compare::sizes::{data_blocks, header_keys, held, largest_file, last_list_keys, list_blocks};
 use compare::volumes::{any_style, empty, Volume};
-
-const DISK: Disk = Disk::PLAIN;
 
 #[test]
 fn slots() {
@@ -38,8 +36,8 @@ fn slots_of_one_byte_with_an_accent() {
         (0xC9, 70, 70),
     ];
     for (byte, plain, international) in worked {
-        assert_eq!(slot(&Disk::PLAIN, &[byte]), plain, "{byte:02X}");
-        assert_eq!(slot(&Disk::INTERNATIONAL, &[byte]), international, "{byte:02X}");
+        let found = Disk::FLOPPIES.map(|disk| slot(&disk, &[byte]));
+        assert_eq!(found, [plain, plain, international, international], "{byte:02X}");
     }
 }
 
@@ -61,7 +59,8 @@ fn slots_of_longer_names_with_accents() {
         (b"\xF7\xD7\xFF\xDF", [(&[299, 6, 333, 456], 24); 2]),
     ];
     for (name, by_kind) in worked {
-        for (disk, (steps, wanted)) in Disk::FLOPPIES.iter().zip(by_kind) {
+        for disk in &Disk::FLOPPIES {
+            let (steps, wanted) = by_kind[usize::from(disk.is_international())];
             assert_eq!(steps.last().map(|hash| hash % 72), Some(wanted), "{name:?}");
             assert_eq!(slot(disk, name), wanted, "{name:?}");
         }
@@ -80,8 +79,8 @@ fn names_that_are_one_or_two() {
         (0xFF, 0x9F, false),
         (0xDF, 0xBF, false),
     ] {
-        assert!(!same(&Disk::PLAIN, &[one], &[other]), "{one:02X} {other:02X}");
-        assert_eq!(same(&Disk::INTERNATIONAL, &[one], &[other]), international, "{one:02X} {other:02X}");
+        let found = Disk::FLOPPIES.map(|disk| same(&disk, &[one], &[other]));
+        assert_eq!(found, [false, false, international, international], "{one:02X} {other:02X}");
     }
 }
 
@@ -95,24 +94,36 @@ fn bits() {
 #[test]
 fn sizes() {
     // size: data blocks, keys in the header, list blocks, keys in the last of them
-    let worked = [
+    let old = [
         (0, [0, 0, 0, 0]),
         (488, [1, 1, 0, 0]),
         (489, [2, 2, 0, 0]),
         (35_136, [72, 72, 0, 0]),
         (35_137, [73, 72, 1, 1]),
     ];
-    for (size, wanted) in worked {
-        let got = [
-            data_blocks(&DISK, size),
-            header_keys(&DISK, size),
-            list_blocks(&DISK, size),
-            last_list_keys(&DISK, size),
-        ];
-        assert_eq!(got, wanted, "size {size}");
+    let fast = [
+        (0, [0, 0, 0, 0]),
+        (512, [1, 1, 0, 0]),
+        (513, [2, 2, 0, 0]),
+        (36_864, [72, 72, 0, 0]),
+        (36_865, [73, 72, 1, 1]),
+    ];
+    for disk in &Disk::FLOPPIES {
+        let worked = if [0, 2].contains(&disk.kind) { old } else { fast };
+        for (size, wanted) in worked {
+            let got = [
+                data_blocks(disk, size),
+                header_keys(disk, size),
+                list_blocks(disk, size),
+                last_list_keys(disk, size),
+            ];
+            assert_eq!(got, wanted, "size {size}");
+        }
     }
-    assert_eq!([held(&DISK, 489, 1), held(&DISK, 489, 2)], [488, 1]);
-    assert_eq!(held(&DISK, 35_137, 73), 1);
+    let [old, fast] = [Disk::PLAIN, Disk::FAST];
+    assert_eq!([held(&old, 489, 1), held(&old, 489, 2)], [488, 1]);
+    assert_eq!([held(&fast, 513, 1), held(&fast, 513, 2)], [512, 1]);
+    assert_eq!([held(&old, 35_137, 73), held(&fast, 36_865, 73)], [1, 1]);
 }
 
 #[test]
@@ -130,10 +141,13 @@ fn an_empty_volume() {
 fn the_largest_size_stated_and_the_largest_that_fits() {
     // 1,755 data blocks leave no block for lists; with 1,731 of them there is room for the 24 list blocks, and
     // header, lists and data fill the volume
-    assert_eq!(data_blocks(&DISK, DISK.file_limit()), 1755);
-    assert_eq!([data_blocks(&DISK, 844_728), list_blocks(&DISK, 844_728)], [1731, 24]);
-    assert_eq!(1 + 1731 + 24, DISK.chain_limit());
-    assert_eq!([data_blocks(&DISK, 844_729), list_blocks(&DISK, 844_729)], [1732, 24]);
+    for (disk, largest) in Disk::FLOPPIES.iter().zip([844_728, 886_272, 844_728, 886_272]) {
+        assert_eq!(data_blocks(disk, disk.file_limit()), 1755);
+        assert_eq!(largest_file(disk), largest);
+        assert_eq!([data_blocks(disk, largest), list_blocks(disk, largest)], [1731, 24]);
+        assert_eq!(1 + 1731 + 24, disk.chain_limit());
+        assert_eq!([data_blocks(disk, largest + 1), list_blocks(disk, largest + 1)], [1732, 24]);
+    }
 }
 
 #[test]
@@ -146,10 +160,16 @@ fn the_disks() {
         assert_eq!(disk.root(), 880);
         assert_eq!(disk.keys(), 2..1760);
         assert_eq!(disk.chain_limit(), 1756);
-        assert_eq!(disk.data_bytes(), 488);
-        assert_eq!(disk.file_limit(), 856_440);
         assert_eq!(disk.bitmap_span(), 1758);
     }
+    for disk in [Disk::PLAIN, Disk::INTERNATIONAL] {
+        assert_eq!((disk.data_start(), disk.data_bytes(), disk.file_limit()), (24, 488, 856_440));
+    }
+    for disk in [Disk::FAST, Disk::FAST_INTERNATIONAL] {
+        assert_eq!((disk.data_start(), disk.data_bytes(), disk.file_limit()), (0, 512, 898_560));
+    }
     assert_eq!(Disk::PLAIN.boot_tag(), [0x44, 0x4F, 0x53, 0x00]);
+    assert_eq!(Disk::FAST.boot_tag(), [0x44, 0x4F, 0x53, 0x01]);
     assert_eq!(Disk::INTERNATIONAL.boot_tag(), [0x44, 0x4F, 0x53, 0x02]);
+    assert_eq!(Disk::FAST_INTERNATIONAL.boot_tag(), [0x44, 0x4F, 0x53, 0x03]);
 }
