@@ -1,5 +1,5 @@
 //! The files of the folder `samples`: a volume with a title program on it, the same volume damaged, a volume of the
-//! international kind, and the program alone.
+//! international kind, one in the Fast File System, and the program alone.
 //!
 //! They are made by the generators of this package, and the same in every run.
 
@@ -19,6 +19,8 @@ pub const TITLE: &str = "c/title";
 pub const SETTINGS: &str = "s/settings";
 /// The path of a file that is long enough for a list block.
 pub const FONT: &str = "fonts/lower-third";
+/// The path of such a file on the volume in the Fast File System, whose blocks hold more.
+pub const LOGO: &str = "logos/station";
 /// Paths on the international volume.
 pub const SUMMER: &str = "Météo/Été";
 pub const WINTER: &str = "Météo/Hiver";
@@ -31,6 +33,15 @@ line1     ON AIR 20:00
 font      lower-third
 colour    white on blue
 fade      12 frames
+";
+
+/// The settings on the volume in the Fast File System.
+const LATE_TEXT: &[u8] = b"; title board 5, late shift
+station   Channel 4
+line1     CLOSE DOWN 00:30
+logo      station
+colour    grey on black
+fade      25 frames
 ";
 
 /// The texts of the international volume.
@@ -121,6 +132,11 @@ fn font() -> Vec<u8> {
     Rng::new(4).bytes(36_000)
 }
 
+/// The bits of a logo, which nobody has to look at either.
+fn logo() -> Vec<u8> {
+    Rng::new(5).bytes(40_000)
+}
+
 /// What a volume is to be.
 struct Sample {
     disk: Disk,
@@ -143,6 +159,12 @@ fn of_broadcaster() -> Sample {
     let texts = [(SUMMER, SUMMER_TEXT), (WINTER, WINTER_TEXT), (OPTIONS, OPTIONS_TEXT)];
     let files = [(TITLE, title())].into_iter().chain(texts.map(|(path, text)| (path, latin_1(text)))).collect();
     Sample { disk: Disk::INTERNATIONAL, name: "Télé Côte-Nord", files, bare: "Générique" }
+}
+
+/// The volume of a board with the Fast File System: the same title program, other settings, and a logo.
+fn of_fast_board() -> Sample {
+    let files = vec![(TITLE, title()), (SETTINGS, LATE_TEXT.to_vec()), (LOGO, logo())];
+    Sample { disk: Disk::FAST, name: "Late Titles", files, bare: "t" }
 }
 
 impl Sample {
@@ -220,12 +242,18 @@ pub fn international() -> Vec<u8> {
     of_broadcaster().volume().image
 }
 
+/// The image of the volume in the Fast File System.
+pub fn fast() -> Vec<u8> {
+    of_fast_board().volume().image
+}
+
 /// All files by their names.
-pub fn all() -> [(&'static str, Vec<u8>); 4] {
+pub fn all() -> [(&'static str, Vec<u8>); 5] {
     [
         ("titles.adf", titles()),
         ("damaged.adf", damaged()),
         ("international.adf", international()),
+        ("fast.adf", fast()),
         ("title", title()),
     ]
 }
@@ -237,6 +265,7 @@ mod tests {
     use crate::disk::FLOPPY;
     use crate::program::{read as read_program, Kind as HunkKind, Refusal};
     use crate::reading::read;
+    use crate::words::word;
     use std::path::Path;
 
     fn bytes_of(image: &[u8], path: &str) -> Result<Vec<u8>, Refusal> {
@@ -257,7 +286,7 @@ mod tests {
         let entries = std::fs::read_dir(&folder).expect("the folder of samples");
         let mut names: Vec<_> = entries.map(|entry| entry.expect("a file").file_name()).collect();
         names.sort();
-        assert_eq!(names, ["README.md", "damaged.adf", "international.adf", "title", "titles.adf"]);
+        assert_eq!(names, ["README.md", "damaged.adf", "fast.adf", "international.adf", "title", "titles.adf"]);
     }
 
     #[test]
@@ -273,7 +302,9 @@ mod tests {
 
     #[test]
     fn the_volumes_are_good_and_their_files_are_there() {
-        for (sample, counts) in [(of_board(), [4, 3, 1, 76]), (of_broadcaster(), [4, 4, 0, 4])] {
+        let samples =
+            [(of_board(), [4, 3, 1, 76]), (of_broadcaster(), [4, 4, 0, 4]), (of_fast_board(), [4, 3, 1, 81])];
+        for (sample, counts) in samples {
             let image = sample.volume().image;
             let report = agreed(FLOPPY, &image, &mut [0; 1_760]).expect("a good volume");
             let found = [report.directories, report.files, report.list_blocks, report.data_blocks];
@@ -298,6 +329,27 @@ mod tests {
         // on a plain disk most of it would hang wrongly
         image[3] = 0;
         assert_eq!(agreed(FLOPPY, &image, &mut [0; 1_760]).map_err(|refusal| refusal.number), Err(12));
+    }
+
+    /// A file's bytes begin where its blocks do, and nothing else is in them. An old disk asks for more blocks.
+    #[test]
+    fn the_fast_volume_has_plain_data_blocks() {
+        let volume = of_fast_board().volume();
+        let mut image = fast();
+        assert_eq!(image[..4], *b"DOS\x01");
+        let file = |name: &[u8]| volume.entries.iter().find(|entry| entry.name == name).expect("a file");
+        let block = |key: u32| &image[key as usize * BLOCK_BYTES..][..BLOCK_BYTES];
+        assert_eq!(block(file(b"title").data[0])[..300], title());
+        assert_eq!(block(file(b"title").data[0])[300..], [0; 212]);
+        let (logo, bytes) = (file(b"station"), logo());
+        assert_eq!((logo.data.len(), logo.lists.len()), (79, 1));
+        for (&key, part) in logo.data.iter().zip(bytes.chunks(512)) {
+            assert_eq!(block(key)[..part.len()], *part);
+        }
+        // nothing is asked of w4, and nothing stands there
+        assert!(volume.entries.iter().all(|entry| word(block(entry.key), 4) == 0));
+        image[3] = 0;
+        assert_eq!(agreed(FLOPPY, &image, &mut [0; 1_760]).map_err(|refusal| refusal.number), Err(7));
     }
 
     /// One block is overwritten, and nothing but its file is lost.

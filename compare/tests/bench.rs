@@ -30,7 +30,9 @@ use compare::paths::{bad_forms, Paths};
 use compare::program::{BOTH, BSS, CHIP, CODE, DATA, END, FAST, HEADER, HUNK_WORDS, RELOCATIONS, SYMBOLS};
 use compare::programs::{bytes, file, good_bases, good_program, long_file, worked_file};
 use compare::rng::Rng;
-use compare::samples::{damaged, international, latin_1, title, titles, FONT, OPTIONS, SETTINGS, SUMMER, TITLE};
+use compare::samples::{
+    damaged, fast, international, latin_1, title, titles, FONT, LOGO, OPTIONS, SETTINGS, SUMMER, TITLE,
+};
 use compare::sizes::largest_file;
 use compare::volumes::{
     alike, any_style, chain, empty, files, full, mixed, nested, telling_sizes, Entry, Filling, Kind, Order, Plan,
@@ -497,7 +499,7 @@ fn every_verb_on_the_samples() {
     let desk = Desk::with_samples();
     desk.hold_audit(&["titles.adf"]);
     desk.hold_audit(&["damaged.adf"]);
-    desk.hold_audit(&["titles.adf", "damaged.adf", "title", "international.adf"]);
+    desk.hold_audit(&["titles.adf", "damaged.adf", "title", "international.adf", "fast.adf"]);
     let paths = ["", "c", TITLE, "C/TITLE", SETTINGS, FONT, "t", "t/x", "c/title/x", "/", "c/", ":c", "a b"];
     for image in ["titles.adf", "damaged.adf"] {
         desk.hold_find(image, &paths);
@@ -535,6 +537,29 @@ fn accents_on_the_samples() {
     assert!(found && answer.starts_with("directory, key "), "{answer}");
     let due = [b"M\xC9T\xC9O: ", answer.as_bytes(), b"\n"].concat();
     desk.hold_out(&[b"find", &b"international.adf"[..], b"M\xC9T\xC9O"], &due, true);
+}
+
+/// The volume in the Fast File System: its files, which begin where their blocks do, and the pin's way.
+#[test]
+fn the_fast_file_system_on_the_samples() {
+    let desk = Desk::with_samples();
+    let image = fast();
+    desk.hold_audit(&["fast.adf"]);
+    desk.hold_find(
+        "fast.adf",
+        &["", "c", TITLE, "C/TITLE", SETTINGS, LOGO, "Logos/Station", "t", FONT, "c/title/x"],
+    );
+    for path in [TITLE, SETTINGS, LOGO, "", "c", FONT, "logos//station"] {
+        desk.hold_read("fast.adf", path.as_bytes());
+    }
+    desk.hold_out(&["read", "fast.adf", TITLE], &title(), true);
+    for path in [TITLE, SETTINGS, LOGO, "t"] {
+        desk.hold_reset("fast.adf", path.as_bytes(), &BASES_A);
+    }
+    // the logo has 79 blocks and a list block; a disk of the old file system has 82 for it
+    let (logo, found) = looked_up(&image, LOGO.as_bytes());
+    assert!(found && logo.contains(", size 40000, "), "{logo}");
+    assert!(audited(&image).0.contains(", 1 list blocks, 81 data blocks, "), "{}", audited(&image).0);
 }
 
 /// Every tag of a kind and those beside them, with the sentence written out.
@@ -1213,6 +1238,9 @@ fn the_page_of_the_samples_is_right() {
     let verbs: BTreeSet<&[u8]> = calls.iter().map(|(words, _)| &words[0][..]).collect();
     assert!(verbs.into_iter().eq(["audit", "find", "load", "move", "read", "reset"].map(str::as_bytes)));
     assert!(calls.iter().any(|(words, _)| words.concat().contains(&0xC9)), "a path with accents");
+    let is_shown =
+        |name: &str| calls.iter().any(|(words, _)| words.iter().any(|word| word.ends_with(name.as_bytes())));
+    assert!(compare::samples::all().iter().all(|(name, _)| is_shown(name)), "every sample");
     for (words, lines) in calls {
         let mut command = rattle("bench");
         command.args(words.iter().map(|word| OsStr::from_bytes(word)));
@@ -1280,13 +1308,15 @@ fn the_script_from_another_folder() {
     let desk = Desk::new(compare::samples::all().into_iter().chain(FORGED.into_iter().zip(images)));
     let kit = kit_with("echo \"asked rt to $*\" >&2\nexit 1");
     let longest = "a".repeat(ARGUMENT_ROOM + 1);
-    let calls: [(i32, &[&str]); 39] = [
+    let calls: [(i32, &[&str]); 41] = [
         (ACCEPTED, &[]),
         (ACCEPTED, &["--help"]),
         (ACCEPTED, &["-h"]),
         (ACCEPTED, &["--version"]),
         (ACCEPTED, &["audit", "titles.adf"]),
         (ACCEPTED, &["audit", FORGED[0], "titles.adf", FORGED[1], FORGED[2]]),
+        (ACCEPTED, &["audit", "fast.adf", "titles.adf"]),
+        (ACCEPTED, &["reset", "fast.adf", TITLE, "10000", "20000", "30000"]),
         (ACCEPTED, &["find", "titles.adf", "", TITLE]),
         (ACCEPTED, &["read", "titles.adf", FONT]),
         (ACCEPTED, &["load", "title", "10000", "20000", "30000"]),
