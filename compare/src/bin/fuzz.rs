@@ -51,6 +51,18 @@ fn counted(tally: &Tally) -> String {
     told.join(", ")
 }
 
+/// The names of the kinds, by the last byte of the tag.
+const KINDS: [&str; 4] = ["plain", "fast", "international", "fast international"];
+
+/// How often an image of each kind was asked about.
+fn by_kind(of_kind: &BTreeMap<u8, usize>) -> String {
+    let count = |(kind, name)| format!("{} {name}", of_kind.get(&kind).copied().unwrap_or(0));
+    format!(
+        "calls on images by the kind that the tag says: {}",
+        (0..).zip(KINDS).map(count).collect::<Vec<_>>().join(", ")
+    )
+}
+
 /// How often each number was refused, over all calls.
 fn by_number(tally: &Tally) -> String {
     let mut numbers: BTreeMap<u32, usize> = BTreeMap::new();
@@ -128,6 +140,6 @@ fn main() -> ExitCode {
         }
     }
     println!("{rounds} rounds, no difference: {}\n{}", counted(&tally), by_number(&tally));
-    println!("calls on images by the kind that the tag says: {of_kind:?}");
+    println!("{}", by_kind(&of_kind));
     ExitCode::SUCCESS
 }
