@@ -231,6 +231,11 @@ pub fn main_cases() -> Vec<Case> {
         audits("audit of a hundred full images", full_images(&DISK, 100)),
         audits("audit of one full image", full_images(&DISK, 1)),
         audits("audit of one full image, international", full_images(&Disk::INTERNATIONAL, 1)),
+        audits("audit of one full image, Fast File System", full_images(&Disk::FAST, 1)),
+        audits(
+            "audit of one full image, Fast File System, international",
+            full_images(&Disk::FAST_INTERNATIONAL, 1),
+        ),
         reads("read of a file of 844,728 bytes, blocks in any order", big_file(Order::Shuffled)),
         reads("read of a file of 844,728 bytes, blocks in order", big_file(Order::Rising)),
         loads("load of 1 MiB with 32,768 targets", file.clone(), old.clone()),
