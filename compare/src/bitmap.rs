@@ -24,7 +24,7 @@ mod tests {
 
     #[test]
     fn every_block_has_a_bit_of_its_own_in_rising_order() {
-        let places: Vec<_> = Disk::PLAIN.keys().map(place).collect();
+        let places: Vec<_> = Disk::OLD.keys().map(place).collect();
         assert_eq!(places[..3], [(1, 0), (1, 1), (1, 2)]);
         assert!(places.windows(2).all(|pair| pair[0] < pair[1]));
         assert!(places.iter().all(|&(_, bit)| bit < 32));
@@ -36,7 +36,7 @@ mod tests {
             let (index, bit) = place(key);
             let mut bitmap = [0; BLOCK_BYTES];
             put(&mut bitmap, index, 1 << bit);
-            for other in Disk::PLAIN.keys() {
+            for other in Disk::OLD.keys() {
                 assert_eq!(is_free(&bitmap, other), other == key, "{other} of {key}");
             }
         }

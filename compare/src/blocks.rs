@@ -154,7 +154,7 @@ mod tests {
     use crate::rng::Rng;
     use crate::words::{mend, put, BLOCK_BYTES, BLOCK_WORDS};
 
-    const DISK: Disk = Disk::PLAIN;
+    const DISK: Disk = Disk::OLD;
 
     /// The word in which all blocks but the bitmap block keep their sum right. No test reads it otherwise.
     const SUM: usize = 5;
@@ -432,9 +432,9 @@ mod tests {
     #[test]
     fn file_sizes_decide_w2_and_w126() {
         for (disk, full, table, limit) in [
-            (Disk::PLAIN, 488, 35_136, 856_440),
+            (Disk::OLD, 488, 35_136, 856_440),
             (Disk::FAST, 512, 36_864, 898_560),
-            (Disk::INTERNATIONAL, 488, 35_136, 856_440),
+            (Disk::OLD_INTERNATIONAL, 488, 35_136, 856_440),
             (Disk::FAST_INTERNATIONAL, 512, 36_864, 898_560),
         ] {
             for (size, w2, more) in [
@@ -460,7 +460,7 @@ mod tests {
         }
         // the count of the one file system is none of the other
         for (size, old, fast) in [(512, 2, 1), (489, 2, 1), (1_024, 3, 2), (35_136, 72, 69)] {
-            for (disk, right, wrong) in [(Disk::PLAIN, old, fast), (Disk::FAST, fast, old)] {
+            for (disk, right, wrong) in [(Disk::OLD, old, fast), (Disk::FAST, fast, old)] {
                 let [right, wrong] = [right, wrong].map(|w2| file(&disk, &good_file(size, w2, 0)));
                 assert_eq!([right, wrong], [0, 14], "{size}");
             }

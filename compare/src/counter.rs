@@ -26,7 +26,7 @@ pub const BASES: usize = 256;
 pub const SENTENCES: [(u32, &str); 34] = [
     (1, "the image is not 901120 bytes long"),
     (2, "the claim area is too short"),
-    (3, "the boot tag is not that of a disk of a known kind"),
+    (3, "the image does not begin with a boot tag DOS 0 to DOS 3"),
     (4, "a fixed word of the root block is wrong"),
     (5, "a key is not in 2 to 1759"),
     (6, "a block is claimed twice, or a chain is too long"),

@@ -31,19 +31,19 @@ pub struct Disk {
 
 impl Disk {
     /// The floppy in the old file system, where only the 26 letters have two cases.
-    pub const PLAIN: Disk = Disk { blocks: FLOPPY, kind: 0 };
+    pub const OLD: Disk = Disk { blocks: FLOPPY, kind: 0 };
 
     /// The same in the Fast File System, whose data blocks have no words of their own.
     pub const FAST: Disk = Disk { blocks: FLOPPY, kind: 1 };
 
     /// The floppy in the old file system for names with accents: letters with accents have two cases as well.
-    pub const INTERNATIONAL: Disk = Disk { blocks: FLOPPY, kind: 2 };
+    pub const OLD_INTERNATIONAL: Disk = Disk { blocks: FLOPPY, kind: 2 };
 
     /// The floppy in the Fast File System for names with accents.
     pub const FAST_INTERNATIONAL: Disk = Disk { blocks: FLOPPY, kind: 3 };
 
     /// The floppies of all kinds, by their kind.
-    pub const FLOPPIES: [Disk; 4] = [Disk::PLAIN, Disk::FAST, Disk::INTERNATIONAL, Disk::FAST_INTERNATIONAL];
+    pub const FLOPPIES: [Disk; 4] = [Disk::OLD, Disk::FAST, Disk::OLD_INTERNATIONAL, Disk::FAST_INTERNATIONAL];
 
     /// The first block that belongs to the volume; those below it are for booting and have no bit.
     pub const FIRST_KEY: u32 = 2;
@@ -62,13 +62,13 @@ impl Disk {
 
     /// The disk in the old file system that folds names as this one does.
     pub const fn old(self) -> Disk {
-        let old = if self.is_international() { Disk::INTERNATIONAL } else { Disk::PLAIN };
+        let old = if self.is_international() { Disk::OLD_INTERNATIONAL } else { Disk::OLD };
         Disk { blocks: self.blocks, ..old }
     }
 
     /// Whether letters with accents have two cases.
     pub const fn is_international(&self) -> bool {
-        self.kind == Disk::INTERNATIONAL.kind || self.kind == Disk::FAST_INTERNATIONAL.kind
+        self.kind == Disk::OLD_INTERNATIONAL.kind || self.kind == Disk::FAST_INTERNATIONAL.kind
     }
 
     /// Whether a data block has words of its own, among them its sum, and whether w4 of a header is asked for. In the

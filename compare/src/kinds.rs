@@ -198,7 +198,7 @@ mod tests {
     #[test]
     fn one_file_in_either_file_system() {
         let mut rng = Rng::new(66);
-        let [old, fast] = [Disk::PLAIN, Disk::FAST];
+        let [old, fast] = [Disk::OLD, Disk::FAST];
         for (size, counts_agree) in [(0, true), (1, true), (488, true), (489, false), (512, false), (513, true)] {
             for (from, to) in [(old, fast), (fast, old)] {
                 let plan = files(&mut rng, &from, &[size]);
@@ -221,7 +221,7 @@ mod tests {
         let mut volume = Volume::new(&mut rng, &plan, Style { filling: Filling::Old, order: Order::Rising });
         let entry = volume.entries[0].clone();
         let [header, first, last] = [entry.key, entry.data[0], entry.data[1]];
-        let [old, fast] = [Disk::PLAIN, Disk::FAST].map(|disk| disk.boot_tag());
+        let [old, fast] = [Disk::OLD, Disk::FAST].map(|disk| disk.boot_tag());
         for (key, index, number, place) in [
             (header, 4, 15, first),
             (first, 0, 8, first),
@@ -245,7 +245,7 @@ mod tests {
             assert_eq!(judged(&volume, &[(0, fast.to_vec())]), Ok(volume.report()), "{key} w{index}");
             let due = Err(Refusal::at(number, place as usize));
             assert_eq!(judged(&volume, &[(0, old.to_vec())]), due, "{key} w{index}");
-            assert_eq!(retagged(&volume, &Disk::PLAIN).1, due, "{key} w{index}");
+            assert_eq!(retagged(&volume, &Disk::OLD).1, due, "{key} w{index}");
             volume.image = good;
         }
         // an empty file's w4
@@ -267,7 +267,7 @@ mod tests {
         let mut rng = Rng::new(67);
         for (small, capital) in [(0xE9, 0xC9), (0xE0, 0xC0), (0xFE, 0xDE), (0xF6, 0xD6)] {
             for (plain, international) in
-                [(Disk::PLAIN, Disk::INTERNATIONAL), (Disk::FAST, Disk::FAST_INTERNATIONAL)]
+                [(Disk::OLD, Disk::OLD_INTERNATIONAL), (Disk::FAST, Disk::FAST_INTERNATIONAL)]
             {
                 let mut plan = empty(&plain);
                 plan.add_named(None, &[capital], Kind::File(0));

@@ -116,7 +116,7 @@ mod tests {
     use crate::volumes::{any_style, chain as one_chain, Kind, Plan, Volume};
     use crate::words::{mend, put};
 
-    const DISK: Disk = Disk::PLAIN;
+    const DISK: Disk = Disk::OLD;
 
     fn laid_out(rng: &mut Rng, plan: &Plan) -> Volume {
         let style = any_style(rng);
@@ -253,7 +253,7 @@ mod tests {
     /// The kind is that of the tag: the same bytes, found by the one kind, hang wrongly for the other.
     #[test]
     fn the_tag_says_how_names_fold() {
-        let mut plan = Plan::new(&Disk::INTERNATIONAL);
+        let mut plan = Plan::new(&Disk::OLD_INTERNATIONAL);
         plan.add_named(None, b"\xE0", Kind::File(7));
         let volume = laid_out(&mut Rng::new(122), &plan);
         let mut image = volume.image.clone();

@@ -75,7 +75,7 @@ mod tests {
     use crate::rng::Rng;
     use crate::words::BLOCK_BYTES;
 
-    const INTERNATIONAL: Disk = Disk::INTERNATIONAL;
+    const INTERNATIONAL: Disk = Disk::OLD_INTERNATIONAL;
 
     #[test]
     fn folding_moves_the_small_letters_of_the_kind_and_nothing_else() {

@@ -141,7 +141,7 @@ mod tests {
 
     /// A volume with a file of 1,000 bytes.
     fn volume() -> Vec<u8> {
-        let (mut rng, mut plan) = (Rng::new(160), Plan::new(&Disk::PLAIN));
+        let (mut rng, mut plan) = (Rng::new(160), Plan::new(&Disk::OLD));
         plan.add_named(None, b"a", Kind::File(1_000));
         let style = any_style(&mut rng);
         Volume::new(&mut rng, &plan, style).image

@@ -321,7 +321,7 @@ mod tests {
     use crate::sizes::largest_file;
     use crate::volumes::{any_style, mixed};
 
-    const DISK: Disk = Disk::PLAIN;
+    const DISK: Disk = Disk::OLD;
 
     fn volume(rng: &mut Rng, disk: &Disk) -> Volume {
         let plan = mixed(rng, disk, 120);

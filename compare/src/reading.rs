@@ -91,7 +91,7 @@ mod tests {
     }
 
     fn volume() -> Volume {
-        volume_on(&Disk::PLAIN)
+        volume_on(&Disk::OLD)
     }
 
     fn entry<'a>(volume: &'a Volume, name: &[u8]) -> &'a Entry {

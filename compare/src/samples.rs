@@ -151,14 +151,14 @@ struct Sample {
 /// The volume of a titling board.
 fn of_board() -> Sample {
     let files = vec![(TITLE, title()), (SETTINGS, SETTINGS_TEXT.to_vec()), (FONT, font())];
-    Sample { disk: Disk::PLAIN, name: "Titles", files, bare: "t" }
+    Sample { disk: Disk::OLD, name: "Titles", files, bare: "t" }
 }
 
 /// The volume of a broadcaster: the same title program, and names with accents.
 fn of_broadcaster() -> Sample {
     let texts = [(SUMMER, SUMMER_TEXT), (WINTER, WINTER_TEXT), (OPTIONS, OPTIONS_TEXT)];
     let files = [(TITLE, title())].into_iter().chain(texts.map(|(path, text)| (path, latin_1(text)))).collect();
-    Sample { disk: Disk::INTERNATIONAL, name: "Télé Côte-Nord", files, bare: "Générique" }
+    Sample { disk: Disk::OLD_INTERNATIONAL, name: "Télé Côte-Nord", files, bare: "Générique" }
 }
 
 /// The volume of a board with the Fast File System: the same title program, other settings, and a logo.

@@ -92,7 +92,7 @@ fn block_of(image: &mut [u8], block: usize) -> Option<&mut [u8]> {
 
 /// Makes the sums of these blocks 0 again, as far as they are whole: in word 5, or in word 0 of the bitmap block.
 fn mend_blocks(image: &mut [u8], blocks: &BTreeSet<usize>) {
-    let root = block_of(image, Disk::PLAIN.root() as usize);
+    let root = block_of(image, Disk::OLD.root() as usize);
     let bitmap = root.map_or(0, |root| word(root, 79) as usize);
     for &block in blocks {
         if let Some(bytes) = block_of(image, block) {

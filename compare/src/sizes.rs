@@ -71,7 +71,7 @@ mod tests {
 
     #[test]
     fn the_blocks_together_hold_the_file_and_none_is_empty() {
-        for (disk, full) in [(Disk::PLAIN, 488), (Disk::FAST, 512)] {
+        for (disk, full) in [(Disk::OLD, 488), (Disk::FAST, 512)] {
             for size in telling_sizes(&disk) {
                 let blocks = data_blocks(&disk, size);
                 let bytes: Vec<u32> = (1..=blocks).map(|n| held(&disk, size, n)).collect();
@@ -113,7 +113,7 @@ mod tests {
 
     #[test]
     fn blocks_that_a_file_lacks_hold_nothing() {
-        for (disk, full) in [(Disk::INTERNATIONAL, 488), (Disk::FAST_INTERNATIONAL, 512)] {
+        for (disk, full) in [(Disk::OLD_INTERNATIONAL, 488), (Disk::FAST_INTERNATIONAL, 512)] {
             assert_eq!(held(&disk, 0, 1), 0);
             assert_eq!(held(&disk, full, 0), 0);
             assert_eq!(held(&disk, full, 2), 0);

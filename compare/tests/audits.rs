@@ -76,7 +76,7 @@ impl DerefMut for Talk {
 
 impl Talk {
     fn new(who: Who) -> Talk {
-        Talk { talk: talk::Talk::new(who), sent: Disk::PLAIN, tally: Tally::default() }
+        Talk { talk: talk::Talk::new(who), sent: Disk::OLD, tally: Tally::default() }
     }
 
     /// Sends an image.
@@ -167,7 +167,7 @@ fn the_empty_volume() {
 #[test]
 fn every_boot_tag() {
     let mut rng = Rng::new(93);
-    let plan = alike(&mut rng, &Disk::PLAIN, 10, 0);
+    let plan = alike(&mut rng, &Disk::OLD, 10, 0);
     let volume = laid_out(&mut rng, &plan);
     let mut talk = Talk::new(Who::Both);
     talk.image(&volume.image);
@@ -201,7 +201,7 @@ fn before_any_image_its_length_is_zero() {
 #[test]
 fn claim_areas_above_the_room_and_short_bodies_are_bad() {
     let mut rng = Rng::new(91);
-    let plan = mixed(&mut rng, &Disk::PLAIN, 40);
+    let plan = mixed(&mut rng, &Disk::OLD, 40);
     let volume = laid_out(&mut rng, &plan);
     let mut talk = Talk::new(Who::Both);
     talk.image(&volume.image);

@@ -573,7 +573,7 @@ fn images_of_other_kinds() {
     let desk = Desk::new([0, 1, 2, 3, 4, 5, 0x80, 0xFF].map(of_kind));
     for kind in [4, 5, 0x80, 0xFF] {
         let name = format!("{kind}.adf");
-        let due = "refused 3 at 0 (the boot tag is not that of a disk of a known kind)";
+        let due = "refused 3 at 0 (the image does not begin with a boot tag DOS 0 to DOS 3)";
         desk.hold_out(&["audit", &name], &line(name.as_bytes(), due), false);
         desk.hold_find(&name, &["", TITLE, "a//b"]);
         desk.hold_read(&name, TITLE.as_bytes());
@@ -697,7 +697,7 @@ fn resets_with_kinds_of_memory() {
     let program = with_kinds_of_memory();
     let mut both = program.clone();
     put(&mut both, 6, BOTH | 2);
-    for disk in [Disk::INTERNATIONAL, Disk::FAST] {
+    for disk in [Disk::OLD_INTERNATIONAL, Disk::FAST] {
         resets_on(&disk, &program, &both);
     }
 }
@@ -780,21 +780,21 @@ fn paths_of_all_sorts_on(disk: &Disk) {
 
 /// Volumes of all sorts, some of each kind.
 fn volumes(rng: &mut Rng) -> Vec<(String, Volume)> {
-    let [plain, fast, international, fast_international] = &Disk::FLOPPIES;
+    let [old, fast, old_international, fast_international] = &Disk::FLOPPIES;
     let sizes = |disk| [&telling_sizes(disk)[..], &[3 * TABLE * disk.data_bytes() + 1]].concat();
     let plans = [
         ("empty", empty(fast_international)),
         ("nested", nested(rng, fast, fast.chain_limit())),
-        ("chain", chain(rng, international, 300)),
-        ("largest", files(rng, plain, &[largest_file(plain)])),
+        ("chain", chain(rng, old_international, 300)),
+        ("largest", files(rng, old, &[largest_file(old)])),
         ("largest fast", files(rng, fast, &[largest_file(fast)])),
-        ("telling", files(rng, international, &sizes(international))),
+        ("telling", files(rng, old_international, &sizes(old_international))),
         ("telling fast", files(rng, fast_international, &sizes(fast_international))),
-        ("full", full(rng, plain)),
+        ("full", full(rng, old)),
         ("full fast", full(rng, fast_international)),
         ("mixed", mixed(rng, fast, 150)),
-        ("more", mixed(rng, international, 400)),
-        ("pairs", alike(rng, plain, 10, 2)),
+        ("more", mixed(rng, old_international, 400)),
+        ("pairs", alike(rng, old, 10, 2)),
     ];
     plans.iter().map(|(name, plan)| (name.to_string(), laid_out(rng, plan))).collect()
 }
@@ -1040,7 +1040,7 @@ fn flaws_in_file_systems() -> Vec<Flaw> {
     };
     let path: Option<&'static [u8]> = Some(b"file");
     let flaw = |number, image| Flaw { number, image, audit: true, find: None, read: path };
-    let (old, fast) = (of(&Disk::PLAIN, 500), of(&Disk::FAST, 500));
+    let (old, fast) = (of(&Disk::OLD, 500), of(&Disk::FAST, 500));
     // one block in either, with the words of the old file system, and one of them wrong
     let small = of(&Disk::FAST, 400);
     let data = small.entries[0].data[0];
@@ -1050,14 +1050,14 @@ fn flaws_in_file_systems() -> Vec<Flaw> {
         if mended {
             mend(&mut block, 5);
         }
-        let mut image = under(&small, &Disk::PLAIN);
+        let mut image = under(&small, &Disk::OLD);
         apply(&[(data as usize * BLOCK_BYTES, block)], &mut image);
         image
     };
-    assert!(audited(&under(&small, &Disk::PLAIN)).1, "as good in the old file system");
+    assert!(audited(&under(&small, &Disk::OLD)).1, "as good in the old file system");
     vec![
         flaw(14, under(&old, &Disk::FAST)),
-        flaw(14, under(&fast, &Disk::PLAIN)),
+        flaw(14, under(&fast, &Disk::OLD)),
         flaw(7, with(9, false)),
         flaw(8, with(0, true)),
         flaw(15, with(3, true)),
@@ -1066,7 +1066,7 @@ fn flaws_in_file_systems() -> Vec<Flaw> {
 
 /// Flaws that lie in accents alone: without the last byte of the tag there is none.
 fn flaws_in_accents() -> Vec<Flaw> {
-    let [old, fast] = [(Disk::PLAIN, Disk::INTERNATIONAL), (Disk::FAST, Disk::FAST_INTERNATIONAL)]
+    let [old, fast] = [(Disk::OLD, Disk::OLD_INTERNATIONAL), (Disk::FAST, Disk::FAST_INTERNATIONAL)]
         .map(|(plain, international)| flaws_in_accents_of(&plain, &international));
     old.into_iter().chain(fast).collect()
 }

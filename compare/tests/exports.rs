@@ -172,7 +172,7 @@ fn claim_areas_and_paths_of_any_length() {
 /// 900 bytes has two blocks in both file systems; where data blocks have words, the bytes come after them.
 #[test]
 fn every_kind_that_a_tag_can_name() {
-    let volume = volume(174, &Disk::INTERNATIONAL, 900);
+    let volume = volume(174, &Disk::OLD_INTERNATIONAL, 900);
     let paths = Paths::new(&volume);
     let number = volume.entries.iter().position(|entry| entry.size() > 0).expect("the file");
     let key = volume.entries.iter().find(|entry| entry.size() > 0).expect("the file").key;

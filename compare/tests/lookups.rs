@@ -103,7 +103,7 @@ impl DerefMut for Talk {
 
 impl Talk {
     fn new(who: Who) -> Talk {
-        Talk { talk: talk::Talk::new(who), sent: Disk::PLAIN, tally: Tally::default() }
+        Talk { talk: talk::Talk::new(who), sent: Disk::OLD, tally: Tally::default() }
     }
 
     /// Sends an image.
@@ -249,7 +249,7 @@ fn before_any_image_its_length_is_zero() {
 #[test]
 fn paths_and_outputs_above_their_room_and_short_bodies_are_bad() {
     let mut rng = Rng::new(141);
-    let plan = files(&mut rng, &Disk::PLAIN, &[1_000]);
+    let plan = files(&mut rng, &Disk::OLD, &[1_000]);
     let volume = laid_out(&mut rng, &plan);
     let (paths, path) = (Paths::new(&volume), &volume.entries[0].name);
     let mut talk = Talk::new(Who::Both);
@@ -418,7 +418,7 @@ fn ask(talk: &mut Talk, rng: &mut Rng, what: &str, questions: &[Question]) {
         talk.about(format!("{what}: {}", question.what));
         match question.due {
             Err(due) if rng.below(3) == 0 => {
-                let (offset, room) = spot(rng, &Disk::PLAIN, 600);
+                let (offset, room) = spot(rng, &Disk::OLD, 600);
                 talk.expect_refused(&question.path, offset, room, due);
             }
             due => talk.expect_find(&question.path, due),
@@ -602,7 +602,7 @@ fn look(talk: &mut Talk, rng: &mut Rng, all: &[Vec<u8>]) {
             let _ = talk.find(path);
         }
         if reads {
-            let disk = Disk::of(FLOPPY, talk.held()).unwrap_or(Disk::PLAIN);
+            let disk = Disk::of(FLOPPY, talk.held()).unwrap_or(Disk::OLD);
             let size = found.map_or(500, |found| found.size.min(largest_file(&disk)));
             let (offset, room) = spot(rng, &disk, size);
             let (answer, output) = talk.read(path, offset, room);

@@ -120,7 +120,7 @@ fn sizes() {
             assert_eq!(got, wanted, "size {size}");
         }
     }
-    let [old, fast] = [Disk::PLAIN, Disk::FAST];
+    let [old, fast] = [Disk::OLD, Disk::FAST];
     assert_eq!([held(&old, 489, 1), held(&old, 489, 2)], [488, 1]);
     assert_eq!([held(&fast, 513, 1), held(&fast, 513, 2)], [512, 1]);
     assert_eq!([held(&old, 35_137, 73), held(&fast, 36_865, 73)], [1, 1]);
@@ -162,14 +162,14 @@ fn the_disks() {
         assert_eq!(disk.chain_limit(), 1756);
         assert_eq!(disk.bitmap_span(), 1758);
     }
-    for disk in [Disk::PLAIN, Disk::INTERNATIONAL] {
+    for disk in [Disk::OLD, Disk::OLD_INTERNATIONAL] {
         assert_eq!((disk.data_start(), disk.data_bytes(), disk.file_limit()), (24, 488, 856_440));
     }
     for disk in [Disk::FAST, Disk::FAST_INTERNATIONAL] {
         assert_eq!((disk.data_start(), disk.data_bytes(), disk.file_limit()), (0, 512, 898_560));
     }
-    assert_eq!(Disk::PLAIN.boot_tag(), [0x44, 0x4F, 0x53, 0x00]);
+    assert_eq!(Disk::OLD.boot_tag(), [0x44, 0x4F, 0x53, 0x00]);
     assert_eq!(Disk::FAST.boot_tag(), [0x44, 0x4F, 0x53, 0x01]);
-    assert_eq!(Disk::INTERNATIONAL.boot_tag(), [0x44, 0x4F, 0x53, 0x02]);
+    assert_eq!(Disk::OLD_INTERNATIONAL.boot_tag(), [0x44, 0x4F, 0x53, 0x02]);
     assert_eq!(Disk::FAST_INTERNATIONAL.boot_tag(), [0x44, 0x4F, 0x53, 0x03]);
 }

@@ -14,7 +14,7 @@ use jufferdeeg as rattle;
 
 use crate::older::Older;
 
-const DISK: Disk = Disk::PLAIN;
+const DISK: Disk = Disk::OLD;
 
 /// One of several ways to do the same.
 pub struct Side {
@@ -230,7 +230,7 @@ pub fn main_cases() -> Vec<Case> {
     vec![
         audits("audit of a hundred full images", full_images(&DISK, 100)),
         audits("audit of one full image", full_images(&DISK, 1)),
-        audits("audit of one full image, international", full_images(&Disk::INTERNATIONAL, 1)),
+        audits("audit of one full image, international", full_images(&Disk::OLD_INTERNATIONAL, 1)),
         audits("audit of one full image, Fast File System", full_images(&Disk::FAST, 1)),
         audits(
             "audit of one full image, Fast File System, international",
@@ -293,7 +293,7 @@ pub fn cases_since(older: Older) -> Vec<Case> {
     vec![
         audits_since("audit of a hundred full images", older, full_images(&DISK, 100)),
         audits_since("audit of one full image", older, full_images(&DISK, 1)),
-        audits_since("audit of one full image, international", older, full_images(&Disk::INTERNATIONAL, 1)),
+        audits_since("audit of one full image, international", older, full_images(&Disk::OLD_INTERNATIONAL, 1)),
         audits_since("audit of one chain of 1,756 entries", older, vec![chain_image(1_756)]),
         reads_since("read of a file of 844,728 bytes, blocks in any order", older, big_file(Order::Shuffled)),
         reads_since("read of a file of 844,728 bytes, blocks in order", older, big_file(Order::Rising)),

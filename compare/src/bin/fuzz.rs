@@ -52,7 +52,7 @@ fn counted(tally: &Tally) -> String {
 }
 
 /// The names of the kinds, by the last byte of the tag.
-const KINDS: [&str; 4] = ["plain", "fast", "international", "fast international"];
+const KINDS: [&str; 4] = ["old", "fast", "old international", "fast international"];
 
 /// How often an image of each kind was asked about.
 fn by_kind(of_kind: &BTreeMap<u8, usize>) -> String {
