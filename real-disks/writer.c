@@ -1,7 +1,8 @@
-/* Copies a folder to a new 880 KB disk of the old file system, by ADFlib:
+/* Copies a folder to a new 880 KB disk, by ADFlib:
        writer IMAGE LABEL KIND keep|remove|mend FOLDER
-   KIND is the last byte of the boot tag: 0, or 2 for an international disk. With remove and mend the files called
-   gone.. leave the disk again before those called late.. come, so that blocks do not lie in order. */
+   KIND is the last byte of the boot tag: 0 for the old file system, 1 for the Fast File System, 2 and 3 for the same
+   with accents folded. With remove and mend the files called gone.. leave the disk again before those called late..
+   come, so that blocks do not lie in order. */
 #include <dirent.h>
 #include <stdio.h>
 #include <stdlib.h>
