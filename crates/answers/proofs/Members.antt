@@ -35,6 +35,16 @@ found [] v h = h
 found (x ∷ ns) v (inl e) = or-left (eqb v x) (has ns v) (rw e (eqb-refl x))
 found (x ∷ ns) v (inr h) = or-right (eqb v x) (has ns v) (found ns v h)
 
+-- what holds of each number of a list, one after the other, holds of any number that the list has
+abbrev pub Each : (ℕ → Type 0) → List ℕ → Type 0
+Each P [] = Unit {0}
+Each P (x ∷ ns) = P x × Each P ns
+
+pub each-in : (P : ℕ → Type 0) (ns : List ℕ) → Each P ns → (v : ℕ) → v ∈ ns → P v
+each-in P [] h v m = absurd m
+each-in P (x ∷ ns) h v (inl e) = rw e (h .0)
+each-in P (x ∷ ns) h v (inr m) = each-in P ns (h .1) v m
+
 -- whether a number is one of two, as code tests it
 module _ (a b v : ℕ) where
   pub first-of-two : v ≡ a → true ≡ has (a ∷ b ∷ []) v

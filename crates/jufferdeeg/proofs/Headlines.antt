@@ -10,7 +10,7 @@ use Rattle.answers.specs.Numbers as fault
 use Rattle.answers.specs.Members.{_∈_}
 use Rattle.answers.specs.Refusals.{refusal}
 use Rattle.answers.specs.declared.Refusal.{Refusal}
-use Rattle.answers.specs.declared.Tested.the-variants.{Passed, Failed}
+use Rattle.answers.specs.declared.Tested.the-variants.{Passed}
 use Rattle.answers.specs.Tests.{pick}
 use Rattle.reach.specs.References.{Reached}
 use Rattle.words.specs.Word.{Bytes, wordAt}

@@ -5,9 +5,10 @@ use mathlib.Core.Bool.{true, false}
 use native.Mathlib.Omega.{arith}
 use Rattle.volume.specs.declared.disk.Disk.{Disk}
 use mathlib.Core.List.{[], _∷_}
-use mathlib.Core.Logic.{inl, inr, _↔_}
+use mathlib.Core.Logic.{_↔_}
 use Rattle.answers.specs.Members.{_∈_}
 use Rattle.answers.specs.Tests.{pick}
+use Rattle.answers.proofs.Members.{each-in}
 use Rattle.volume.specs.Disks.{floppy, isOld, foldsAccents, inRange, dataBytes, dataStart}
 use Rattle.volume.specs.Floppy.{DataNumerals, Numerals}
 use Rattle.volume.proofs.Breaks.{key-inside}
@@ -22,29 +23,30 @@ module _ (kind : ℕ) where
     (λ h. let a = h .0 in let b = h .1 in key-inside d k .1 (record { low = omega arith; high = omega arith })),
   )
 
+  -- what a kind decides, for two kinds each
   folds : kind ∈ (2 ∷ 3 ∷ []) → foldsAccents d ≡ true
   unfolding foldsAccents
-  folds (inl e) = rw e refl
-  folds (inr (inl e)) = rw e refl
-  folds (inr (inr x)) = absurd x
+  folds = each-in (λ k. foldsAccents (floppy k) ≡ true) (2 ∷ 3 ∷ []) (refl, (refl, tt)) kind
 
   folds-not : kind ∈ (0 ∷ 1 ∷ []) → foldsAccents d ≡ false
   unfolding foldsAccents
-  folds-not (inl e) = rw e refl
-  folds-not (inr (inl e)) = rw e refl
-  folds-not (inr (inr x)) = absurd x
+  folds-not = each-in (λ k. foldsAccents (floppy k) ≡ false) (0 ∷ 1 ∷ []) (refl, (refl, tt)) kind
 
   old-data : kind ∈ (0 ∷ 2 ∷ []) → DataNumerals d 488 24 856440
   unfolding isOld dataBytes dataStart pick
-  old-data (inl e) = rw e record { bytes-are = refl; start-is = refl; limit-is = refl }
-  old-data (inr (inl e)) = rw e record { bytes-are = refl; start-is = refl; limit-is = refl }
-  old-data (inr (inr x)) = absurd x
+  old-data =
+      each-in (λ k. DataNumerals (floppy k) 488 24 856440) (0 ∷ 2 ∷ []) (
+        record { bytes-are = refl; start-is = refl; limit-is = refl },
+        (record { bytes-are = refl; start-is = refl; limit-is = refl }, tt),
+      ) kind
 
   fast-data : kind ∈ (1 ∷ 3 ∷ []) → DataNumerals d 512 0 898560
   unfolding isOld dataBytes dataStart pick
-  fast-data (inl e) = rw e record { bytes-are = refl; start-is = refl; limit-is = refl }
-  fast-data (inr (inl e)) = rw e record { bytes-are = refl; start-is = refl; limit-is = refl }
-  fast-data (inr (inr x)) = absurd x
+  fast-data =
+      each-in (λ k. DataNumerals (floppy k) 512 0 898560) (1 ∷ 3 ∷ []) (
+        record { bytes-are = refl; start-is = refl; limit-is = refl },
+        (record { bytes-are = refl; start-is = refl; limit-is = refl }, tt),
+      ) kind
 
 pub floppy-numerals : (kind : ℕ) → Numerals (floppy kind)
 floppy-numerals kind =

@@ -1,14 +1,14 @@
 -- Laws of boot tags: the kind that an image's tag names, and the disk that the image is taken for. Assumes nothing.
 use Prim.Native.Nat.{ℕ, zero, suc, _%_, _≤_, _<_}
 use mathlib.Core.Path.{_≡_, refl, ap, sym, _∙_, subst}
-use mathlib.Core.Logic.{_≢_, _↔_, inl, inr}
+use mathlib.Core.Logic.{_≢_, _↔_, inl}
 use mathlib.Core.Bool.{Bool, true, false}
 use mathlib.Core.List.{List}
 use native.Mathlib.Omega.{arith}
 use lib.Dec.{T}
 use lib.ListN.{length, List·getD-eq-default}
 use Rattle.answers.specs.Members.{_∈_, has}
-use Rattle.answers.proofs.Members.{listed, found}
+use Rattle.answers.proofs.Members.{listed, found, each-in}
 use Rattle.answers.specs.Tests.{pick}
 use Rattle.words.specs.Word.{wordAt}
 use Rattle.volume.specs.declared.disk.Disk.{Disk}
@@ -25,11 +25,8 @@ floppy-sized k m = record { least = omega arith; most = omega arith; kind = true
 
 -- the kinds are 0 to 3
 kind-small : (k : ℕ) → k ∈ kinds → k ≤ fastInternational
-kind-small k (inl e) = omega (arith, e)
-kind-small k (inr (inl e)) = omega (arith, e)
-kind-small k (inr (inr (inl e))) = omega (arith, e)
-kind-small k (inr (inr (inr (inl e)))) = omega (arith, e)
-kind-small k (inr (inr (inr (inr x)))) = absurd x
+kind-small =
+    each-in (λ k. k ≤ fastInternational) kinds (omega arith, (omega arith, (omega arith, (omega arith, tt))))
 
 kind-listed : (k : ℕ) → k ≤ fastInternational → T (has kinds k)
 kind-listed zero h = tt
