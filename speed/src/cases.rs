@@ -7,6 +7,7 @@ use compare::disk::{Disk, FLOPPY};
 use compare::program::Memory;
 use compare::programs::{bytes, file, worked_file, Block, Body, Hunk, Program};
 use compare::rng::Rng;
+use compare::sizes::largest_file;
 use compare::volumes::{chain, full, mixed, Filling, Kind, Order, Plan, Style, Volume};
 use compare::words::{sum, BLOCK_BYTES};
 use compare::{audit, loader, reading};
@@ -64,10 +65,10 @@ pub fn chain_image(length: u32) -> Vec<u8> {
     image(&mut rng, &plan)
 }
 
-/// The largest file that a disk can hold, as `big`, and its size.
-pub fn big_file(order: Order) -> (Vec<u8>, usize) {
-    let size = 1_731 * DISK.data_bytes();
-    let mut plan = Plan::new(&DISK);
+/// The largest file that a disk of this kind can hold, as `big`, and its size.
+pub fn big_file(disk: &Disk, order: Order) -> (Vec<u8>, usize) {
+    let size = largest_file(disk);
+    let mut plan = Plan::new(disk);
     plan.add_named(None, b"big", Kind::File(size));
     (Volume::new(&mut Rng::new(4), &plan, style(order)).image, size as usize)
 }
@@ -137,18 +138,18 @@ pub fn audits(name: &str, images: Vec<Vec<u8>>) -> Case {
     Case { name: name.to_string(), sides }
 }
 
-/// Reads `big` whole.
-pub fn reads(name: &str, (image, size): (Vec<u8>, usize)) -> Case {
-    let image = Rc::new(image);
-    let (mut ours, mut theirs) = (vec![0; size], vec![0; size]);
-    let answer = rattle::read(&image, b"big", 0, &mut ours);
-    assert_eq!((answer.number, answer.count), (0, size));
-    assert_eq!(reading::read(FLOPPY, &image, b"big", 0, &mut theirs), Ok(size));
+/// Reads the last bytes of `big`, so many.
+pub fn reads(name: &str, (image, size): (Vec<u8>, usize), count: usize) -> Case {
+    let (image, offset) = (Rc::new(image), size - count);
+    let (mut ours, mut theirs) = (vec![0; count], vec![0; count]);
+    let answer = rattle::read(&image, b"big", offset, &mut ours);
+    assert_eq!((answer.number, answer.count), (0, count));
+    assert_eq!(reading::read(FLOPPY, &image, b"big", offset, &mut theirs), Ok(count));
     assert_eq!(ours, theirs);
     let other = image.clone();
     let sides = vec![
-        side("Rattle", move || assert_eq!(rattle::read(&image, b"big", 0, &mut ours).count, size)),
-        side("Rust", move || assert_eq!(reading::read(FLOPPY, &other, b"big", 0, &mut theirs), Ok(size))),
+        side("Rattle", move || assert_eq!(rattle::read(&image, b"big", offset, &mut ours).count, count)),
+        side("Rust", move || assert_eq!(reading::read(FLOPPY, &other, b"big", offset, &mut theirs), Ok(count))),
     ];
     Case { name: name.to_string(), sides }
 }
@@ -236,8 +237,15 @@ pub fn main_cases() -> Vec<Case> {
             "audit of one full image, Fast File System, international",
             full_images(&Disk::FAST_INTERNATIONAL, 1),
         ),
-        reads("read of a file of 844,728 bytes, blocks in any order", big_file(Order::Shuffled)),
-        reads("read of a file of 844,728 bytes, blocks in order", big_file(Order::Rising)),
+        reads("read of a file of 844,728 bytes, blocks in any order", big_file(&DISK, Order::Shuffled), 844_728),
+        reads("read of a file of 844,728 bytes, blocks in order", big_file(&DISK, Order::Rising), 844_728),
+        reads("read of its last byte, blocks in any order", big_file(&DISK, Order::Shuffled), 1),
+        reads(
+            "read of a file of 886,272 bytes, Fast File System, blocks in any order",
+            big_file(&Disk::FAST, Order::Shuffled),
+            886_272,
+        ),
+        reads("read of its last byte, blocks in any order", big_file(&Disk::FAST, Order::Shuffled), 1),
         loads("load of 1 MiB with 32,768 targets", file.clone(), old.clone()),
         moves("move of 1 MiB with 32,768 targets", file, old, new),
         loads("load of 256 KiB with nothing stored", bss_program(), vec![0]),
@@ -251,7 +259,7 @@ pub fn case_named(name: &str) -> Option<Case> {
     Some(match name {
         "audit" => audits(name, full_images(&DISK, 1)),
         "chain" => audits(name, vec![chain_image(1_756)]),
-        "read" => reads(name, big_file(Order::Shuffled)),
+        "read" => reads(name, big_file(&DISK, Order::Shuffled), 844_728),
         "load" => loads(name, file, old),
         "move" => moves(name, file, old, new),
         _ => return None,
@@ -274,29 +282,36 @@ fn audits_since(name: &str, older: Older, images: Vec<Vec<u8>>) -> Case {
     Case { name: name.to_string(), sides }
 }
 
-/// Reads `big` whole with the present archive and with an older one.
-fn reads_since(name: &str, older: Older, (image, size): (Vec<u8>, usize)) -> Case {
-    let image = Rc::new(image);
-    let (mut before, mut now) = (vec![0; size], vec![0; size]);
-    assert_eq!(older.read(&image, b"big", 0, &mut before), rattle::read(&image, b"big", 0, &mut now));
+/// Reads the last bytes of `big`, so many, with the present archive and with an older one.
+fn reads_since(name: &str, older: Older, (image, size): (Vec<u8>, usize), count: usize) -> Case {
+    let (image, offset) = (Rc::new(image), size - count);
+    let (mut before, mut now) = (vec![0; count], vec![0; count]);
+    assert_eq!(older.read(&image, b"big", offset, &mut before), rattle::read(&image, b"big", offset, &mut now));
     assert_eq!(before, now);
     let same = image.clone();
     let sides = vec![
-        side("now", move || assert_eq!(rattle::read(&image, b"big", 0, &mut now).count, size)),
-        side("before", move || assert_eq!(older.read(&same, b"big", 0, &mut before).count, size)),
+        side("now", move || assert_eq!(rattle::read(&image, b"big", offset, &mut now).count, count)),
+        side("before", move || assert_eq!(older.read(&same, b"big", offset, &mut before).count, count)),
     ];
     Case { name: name.to_string(), sides }
 }
 
 /// The cases that hold the present archive to an older one.
 pub fn cases_since(older: Older) -> Vec<Case> {
+    let shuffled = || big_file(&DISK, Order::Shuffled);
     vec![
         audits_since("audit of a hundred full images", older, full_images(&DISK, 100)),
         audits_since("audit of one full image", older, full_images(&DISK, 1)),
         audits_since("audit of one full image, international", older, full_images(&Disk::OLD_INTERNATIONAL, 1)),
         audits_since("audit of one chain of 1,756 entries", older, vec![chain_image(1_756)]),
-        reads_since("read of a file of 844,728 bytes, blocks in any order", older, big_file(Order::Shuffled)),
-        reads_since("read of a file of 844,728 bytes, blocks in order", older, big_file(Order::Rising)),
+        reads_since("read of a file of 844,728 bytes, blocks in any order", older, shuffled(), 844_728),
+        reads_since(
+            "read of a file of 844,728 bytes, blocks in order",
+            older,
+            big_file(&DISK, Order::Rising),
+            844_728,
+        ),
+        reads_since("read of its last byte, blocks in any order", older, shuffled(), 1),
     ]
 }
 
@@ -305,7 +320,7 @@ pub fn case_since(name: &str, older: Older) -> Option<Case> {
     Some(match name {
         "audit" => audits_since(name, older, full_images(&DISK, 1)),
         "chain" => audits_since(name, older, vec![chain_image(1_756)]),
-        "read" => reads_since(name, older, big_file(Order::Shuffled)),
+        "read" => reads_since(name, older, big_file(&DISK, Order::Shuffled), 844_728),
         _ => return None,
     })
 }
