@@ -188,8 +188,8 @@ impl Sample {
         &wanted.expect("a file of the volume").1
     }
 
-    /// The block of a volume as a disk has it: nothing where no rule asks, the bytes of the file in a data block, and
-    /// the sum in its usual place.
+    /// The block of a volume as a disk has it: nothing where no rule asks, but the first data key in w4 of a header, by
+    /// which others read; the bytes of the file in a data block, and the sum in its usual place.
     fn finished(&self, volume: &Volume, Met { key, part }: Met) -> Vec<u8> {
         let mut block = volume.block(key).to_vec();
         volume.spare(part).iter().for_each(|&index| put(&mut block, index, 0));
@@ -198,6 +198,7 @@ impl Sample {
                 block[432..464].fill(0);
                 put_name(&mut block, &latin_1(self.name));
             }
+            Part::File(number) => put(&mut block, 4, volume.entries[number].data.first().copied().unwrap_or(0)),
             Part::Data(number, index) => {
                 let contents = self.contents_of(&volume.entries[number].name);
                 let bytes = contents.chunks(self.disk.data_bytes() as usize).nth(index).expect("a block's bytes");
@@ -265,6 +266,7 @@ mod tests {
     use crate::disk::FLOPPY;
     use crate::program::{read as read_program, Kind as HunkKind, Refusal};
     use crate::reading::read;
+    use crate::volumes::Entry;
     use crate::words::word;
     use std::path::Path;
 
@@ -346,8 +348,9 @@ mod tests {
         for (&key, part) in logo.data.iter().zip(bytes.chunks(512)) {
             assert_eq!(block(key)[..part.len()], *part);
         }
-        // nothing is asked of w4, and nothing stands there
-        assert!(volume.entries.iter().all(|entry| word(block(entry.key), 4) == 0));
+        // nothing is asked of w4, and the first data key stands there, as on a real disk; a directory has none
+        let first = |entry: &Entry| entry.data.first().copied().unwrap_or(0);
+        assert!(volume.entries.iter().all(|entry| word(block(entry.key), 4) == first(entry)));
         image[3] = 0;
         assert_eq!(agreed(FLOPPY, &image, &mut [0; 1_760]).map_err(|refusal| refusal.number), Err(7));
     }
