@@ -1,2 +1,3 @@
 -- What the contracts cite.
 pub mod Tallies
+pub mod Digits

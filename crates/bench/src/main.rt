@@ -4,6 +4,7 @@ mod arguments;
 mod bases;
 mod files;
 mod listing;
+mod numbers;
 mod programs;
 mod reset;
 mod rooms;

@@ -1,15 +1,15 @@
--- `bench::bases::number` meets its contract. It goes over the digits once.
+-- `bench::numbers::number` meets its contract. It goes over the digits once.
 use Prim.Native.Nat.{_≤_, _-_}
 use borrow.Author.Needs.{needs}
 use lib.ListN.{length}
-use Rattle.bench.proofs.bases.number.Statement.{statement}
-use Rattle.bench.proofs.bases.number.Tie as tie
+use Rattle.bench.proofs.numbers.number.Statement.{statement}
+use Rattle.bench.proofs.numbers.number.Tie as tie
 
 abbrev Inv-loop : tie.InvT-loop
-Inv-loop digits n₀ i₀ n i = i ≤ length digits
+Inv-loop digits radix most n₀ i₀ n i = i ≤ length digits
 
 abbrev μ-loop : tie.MeasureT-loop
-μ-loop digits n₀ i₀ n i = length digits - i
+μ-loop digits radix most n₀ i₀ n i = length digits - i
 
 returns : tie.Need-returns Inv-loop μ-loop
 returns c = search needs
@@ -30,7 +30,7 @@ returns-3 : tie.Need-returns-3 Inv-loop μ-loop
 returns-3 c = search needs
 
 longer-requires : tie.Need-longer-requires Inv-loop μ-loop
-longer-requires c κs = search needs
+longer-requires c κs = record { small = search needs; below = search needs }
 
 add-i : tie.Need-add-i Inv-loop μ-loop
 add-i c = search needs
@@ -41,8 +41,17 @@ loop-less c = search needs
 loop-again : tie.Need-loop-again Inv-loop μ-loop
 loop-again c = search needs
 
+cast-if4 : tie.Need-cast-if4 Inv-loop μ-loop
+cast-if4 c = search needs
+
 returns-4 : tie.Need-returns-4 Inv-loop μ-loop
 returns-4 c = search needs
+
+cast-t14 : tie.Need-cast-t14 Inv-loop μ-loop
+cast-t14 c = search needs
+
+returns-5 : tie.Need-returns-5 Inv-loop μ-loop
+returns-5 c = search needs
 
 pub number-spec : {M : Type 1} → statement M
 number-spec =
@@ -60,4 +69,7 @@ number-spec =
     add-i
     loop-less
     loop-again
-    returns-4)
+    cast-if4
+    returns-4
+    cast-t14
+    returns-5)
