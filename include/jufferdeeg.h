@@ -1,6 +1,6 @@
-/* Jufferdeeg: audits the image of an 880 KB floppy of the old file system or of the Fast File System, plain or
- * international, finds and reads its files, checks a program file, loads it into memory and moves a loaded program to
- * other addresses.
+/* Jufferdeeg: audits the image of a floppy of 880 KB or 1,760 KB, of the old file system or of the Fast File System,
+ * plain or international, finds and reads its files, checks a program file, loads it into memory and moves a loaded
+ * program to other addresses.
  *
  * `./make-archive` proves the library and makes target/native/libjufferdeeg.a for this processor, x86-64 or
  * aarch64. It needs memcpy and memset of a C library, and nothing else from outside.
@@ -16,9 +16,9 @@
  *   it refused, number says why, place says where, and all else in the struct is 0.
  * - Words of an image, of a program file and of the memory that a program is loaded into have their highest byte
  *   first. Bases, records and answers are numbers of the machine.
- * - Stack, not proved but measured, on both processors (examples/c/stack.c): an audit took up to 0.70 MiB, for the
- *   deepest volume that there can be, so lend it 1 MiB; find and read took less than 40 KiB, the other calls less
- *   than 4 KiB. */
+ * - Stack, not proved but measured, on both processors (examples/c/stack.c): an audit took up to 0.70 MiB for the
+ *   deepest volume of 1,760 blocks that there can be, and up to 1.35 MiB for that of 3,520. So lend it 1 MiB if 1,760
+ *   are named, else 2 MiB. Find and read took less than 40 KiB, the other calls less than 4 KiB. */
 #ifndef JUFFERDEEG_H
 #define JUFFERDEEG_H
 
@@ -35,12 +35,13 @@ extern "C" {
 #define JUFFERDEEG_VERSION_PATCH 0
 
 /* The numbers of refusals. In brackets the place: the key of a block, or a key just as it was read; a component of
- * the path, counted from 0; the byte of a word of the program file; an entry of the bases, counted from 0. */
-#define JUFFERDEEG_IMAGE_LENGTH 1     /* [0] the image is not 901,120 bytes long */
+ * the path, counted from 0; the byte of a word of the program file; an entry of the bases, counted from 0. The root is
+ * block 880 of 1,760 blocks, and block 1,760 of 3,520. */
+#define JUFFERDEEG_IMAGE_LENGTH 1     /* [0] the image's length does not fit the number of blocks that is named */
 #define JUFFERDEEG_CLAIM_AREA 2       /* [0] the claim area is short */
 #define JUFFERDEEG_BOOT_TAG 3         /* [0] the boot tag is not 44 4F 53 and 00, 01, 02 or 03 */
-#define JUFFERDEEG_ROOT_WORDS 4       /* [880] a word of the root that has one value only is wrong */
-#define JUFFERDEEG_BAD_KEY 5          /* [key] it is not in 2 to 1,759 */
+#define JUFFERDEEG_ROOT_WORDS 4       /* [root] a word of the root that has one value only is wrong */
+#define JUFFERDEEG_BAD_KEY 5          /* [key] it is not in 2 to the last block of the disk */
 #define JUFFERDEEG_CLAIMED_TWICE 6    /* [key] audit: it is claimed already; find, read: its chain is too long */
 #define JUFFERDEEG_BLOCK_SUM 7        /* [block] its words do not add up to 0 */
 #define JUFFERDEEG_BLOCK_TYPE 8       /* [block] a type word is wrong */
@@ -51,7 +52,7 @@ extern "C" {
 #define JUFFERDEEG_DOUBLE_NAME 13     /* [block] an earlier entry of the directory has its name */
 #define JUFFERDEEG_FILE_LAYOUT 14     /* [block] size, key count, list link, or an empty file's first data key */
 #define JUFFERDEEG_DATA_LAYOUT 15     /* [block] the words of a data block; or the one before it names another */
-#define JUFFERDEEG_BITMAP_WORDS 16    /* [880] the root's bitmap words are wrong */
+#define JUFFERDEEG_BITMAP_WORDS 16    /* [root] the root's bitmap words are wrong */
 #define JUFFERDEEG_WRONG_BIT 17       /* [block] the lowest whose bit of the bitmap is wrong */
 #define JUFFERDEEG_PATH_FORM 18       /* [component] it may not be one; [0] the path is longer than 255 bytes */
 #define JUFFERDEEG_NOT_FOUND 19       /* [component] there is no such name */
@@ -83,6 +84,9 @@ size_t jufferdeeg_reason(uint32_t number, uint8_t *output, size_t output_bytes);
 
 /* ---- volumes
  *
+ * Each call names the number of blocks that the image's disk is to have: 1,760 or 3,520, of 512 bytes each, or 0, and
+ * then it takes either. An image of another length is refused by 1, and so is every image if another number is named.
+ *
  * The last byte of the boot tag is the kind of the disk, and every call takes it from the image: 00 is the old file
  * system, 01 the Fast File System, 02 and 03 the same two with international names. On the Fast File System a data
  * block holds 512 bytes of its file; on the old one it holds 488 after words of its own, which are tested. Which names
@@ -91,9 +95,14 @@ size_t jufferdeeg_reason(uint32_t number, uint8_t *output, size_t output_bytes);
  * are two different bytes on all. A name or a path is just its bytes: text in another encoding, such as UTF-8, is for
  * the caller to convert. */
 
-/* The length of an image, and of the shortest claim area. */
-#define JUFFERDEEG_IMAGE_BYTES 901120
-#define JUFFERDEEG_CLAIM_BYTES 1760
+/* The numbers of blocks that a call may name. */
+#define JUFFERDEEG_ANY_SIZE 0u
+#define JUFFERDEEG_DOUBLE_DENSITY 1760u
+#define JUFFERDEEG_HIGH_DENSITY 3520u
+
+/* The bytes of the largest image, and a claim area that is never short. */
+#define JUFFERDEEG_MOST_IMAGE_BYTES 1802240
+#define JUFFERDEEG_MOST_CLAIM_BYTES 3520
 
 struct jufferdeeg_audit_numbers {
     uint32_t number;
@@ -103,20 +112,20 @@ struct jufferdeeg_audit_numbers {
     uint32_t list_blocks;
     uint32_t data_blocks;
     uint32_t used; /* blocks in use, the root and the bitmap block among them */
-    uint32_t free; /* used and free are 1,758 together */
+    uint32_t free; /* used and free are together the blocks of the disk, less 2 */
 };
 
-/* Audits an image: with a claim area that is long enough, number is 0 if and only if it is a sound volume of the kind
- * that its boot tag names, without links.
+/* Audits an image: with a claim area that is long enough, number is 0 if and only if it is a sound volume of a size
+ * that is named and of the kind that its boot tag names, without links.
  *
- * Lent: the image; a claim area, of JUFFERDEEG_CLAIM_BYTES or more, whose contents do not matter.
+ * Lent: the image; a claim area, of a byte or more for each block, whose contents do not matter.
  * Left: accepted, claim byte k is 1 if block k is in use, and every other byte of the claim area is 0; refused, the
  * whole claim area is 0.
  * Numbers: 0 to 17. What is met first is refused first: the length, the claim area, the boot tag, the root, its
  * bitmap block; then the entries, slot by slot along each chain, and what is in an entry before the next one on its
  * chain; the bits at the end. */
-struct jufferdeeg_audit_numbers jufferdeeg_audit(const uint8_t *image, size_t image_bytes, uint8_t *claim,
-                                                 size_t claim_bytes);
+struct jufferdeeg_audit_numbers jufferdeeg_audit(uint32_t disk_blocks, const uint8_t *image, size_t image_bytes,
+                                                 uint8_t *claim, size_t claim_bytes);
 
 /* What a path leads to: kind of struct jufferdeeg_find_numbers. */
 #define JUFFERDEEG_DIRECTORY 2u
@@ -138,8 +147,8 @@ struct jufferdeeg_find_numbers {
  * Lent: the image; the path, without an end mark.
  * Left: nothing is written.
  * Numbers: 0, 1, 3 to 12, 18, 19, 20. Only the blocks on the way are tested. */
-struct jufferdeeg_find_numbers jufferdeeg_find(const uint8_t *image, size_t image_bytes, const uint8_t *path,
-                                               size_t path_bytes);
+struct jufferdeeg_find_numbers jufferdeeg_find(uint32_t disk_blocks, const uint8_t *image, size_t image_bytes,
+                                               const uint8_t *path, size_t path_bytes);
 
 struct jufferdeeg_read_numbers {
     uint32_t number;
@@ -153,8 +162,9 @@ struct jufferdeeg_read_numbers {
  * Lent: the image; the path, without an end mark; the output.
  * Left: the first count bytes of the output are the file's; the rest of it stays; refused, all of it stays.
  * Numbers: 0, 1, 3 to 12, 14, 15, 18, 19, 20. All of the file's blocks are tested before a byte is copied. */
-struct jufferdeeg_read_numbers jufferdeeg_read(const uint8_t *image, size_t image_bytes, const uint8_t *path,
-                                               size_t path_bytes, size_t offset, uint8_t *output, size_t output_bytes);
+struct jufferdeeg_read_numbers jufferdeeg_read(uint32_t disk_blocks, const uint8_t *image, size_t image_bytes,
+                                               const uint8_t *path, size_t path_bytes, size_t offset, uint8_t *output,
+                                               size_t output_bytes);
 
 /* ---- programs
  *

@@ -4,7 +4,8 @@
 #include "jufferdeeg.h"
 
 /* One byte more than an image, to see that a file is longer. */
-static uint8_t image[JUFFERDEEG_IMAGE_BYTES + 1], claim[JUFFERDEEG_CLAIM_BYTES], why[JUFFERDEEG_REASON_BYTES];
+static uint8_t image[JUFFERDEEG_MOST_IMAGE_BYTES + 1], claim[JUFFERDEEG_MOST_CLAIM_BYTES];
+static uint8_t why[JUFFERDEEG_REASON_BYTES];
 
 int main(int argc, char **argv) {
     if (argc != 2) {
@@ -18,7 +19,8 @@ int main(int argc, char **argv) {
     }
     size_t image_bytes = fread(image, 1, sizeof image, f);
     fclose(f);
-    struct jufferdeeg_audit_numbers a = jufferdeeg_audit(image, image_bytes, claim, sizeof claim);
+    struct jufferdeeg_audit_numbers a =
+        jufferdeeg_audit(JUFFERDEEG_ANY_SIZE, image, image_bytes, claim, sizeof claim);
     if (a.number == 0) {
         printf("a volume: %u directories, %u files, %u blocks free\n", a.directories, a.files, a.free);
     } else {

@@ -14,8 +14,8 @@
 #define MOST JUFFERDEEG_MOST_HUNKS
 
 /* One byte more than an image, to see that a file is longer. */
-static uint8_t image[JUFFERDEEG_IMAGE_BYTES + 1];
-static uint8_t claim[JUFFERDEEG_CLAIM_BYTES];
+static uint8_t image[JUFFERDEEG_MOST_IMAGE_BYTES + 1];
+static uint8_t claim[JUFFERDEEG_MOST_CLAIM_BYTES];
 static uint8_t file[ROOM], memory[ROOM], fresh[ROOM], work[ROOM];
 static struct jufferdeeg_hunk table[MOST], fresh_table[MOST];
 static uint32_t here[MOST], there[MOST];
@@ -43,8 +43,8 @@ static void reason(uint32_t number) {
     printf("reason of %u: %zu bytes, \"%s\"; of 9 bytes, \"%s\"\n", number, bytes, (char *)room, (char *)few);
 }
 
-static void audit(const char *what, size_t image_bytes) {
-    struct jufferdeeg_audit_numbers a = jufferdeeg_audit(image, image_bytes, claim, sizeof claim);
+static void audit(const char *what, uint32_t disk_blocks, size_t image_bytes) {
+    struct jufferdeeg_audit_numbers a = jufferdeeg_audit(disk_blocks, image, image_bytes, claim, sizeof claim);
     size_t claimed = 0;
     for (size_t k = 0; k < sizeof claim; k++) {
         claimed += claim[k];
@@ -56,7 +56,8 @@ static void audit(const char *what, size_t image_bytes) {
 }
 
 static void find(size_t image_bytes, const char *path) {
-    struct jufferdeeg_find_numbers f = jufferdeeg_find(image, image_bytes, (const uint8_t *)path, strlen(path));
+    struct jufferdeeg_find_numbers f =
+        jufferdeeg_find(JUFFERDEEG_ANY_SIZE, image, image_bytes, (const uint8_t *)path, strlen(path));
     printf("find \"%s\": number %u, place %zu, kind %X, key %u, size %u, compared %u\n", path, f.number, f.place,
            f.kind, f.key, f.size, f.compared);
 }
@@ -64,8 +65,8 @@ static void find(size_t image_bytes, const char *path) {
 /* Reads into room that is full of AA, and says whether what is after the bytes is so still. */
 static size_t read_file(size_t image_bytes, const char *path, size_t offset) {
     memset(file, 0xAA, sizeof file);
-    struct jufferdeeg_read_numbers r =
-        jufferdeeg_read(image, image_bytes, (const uint8_t *)path, strlen(path), offset, file, sizeof file);
+    struct jufferdeeg_read_numbers r = jufferdeeg_read(JUFFERDEEG_ANY_SIZE, image, image_bytes, (const uint8_t *)path,
+                                                       strlen(path), offset, file, sizeof file);
     printf("read \"%s\" from %zu: number %u, place %zu, count %zu; the rest stays: %s\n", path, offset, r.number,
            r.place, r.count, yes_or_no(all_are(file + r.count, sizeof file - r.count, 0xAA)));
     return r.count;
@@ -134,8 +135,10 @@ int main(int argc, char **argv) {
     fclose(f);
 
     memset(claim, 0xAA, sizeof claim);
-    audit("of the image", image_bytes);
-    audit("of half of it", image_bytes / 2);
+    audit("of the image", JUFFERDEEG_ANY_SIZE, image_bytes);
+    audit("that names 1760 blocks", JUFFERDEEG_DOUBLE_DENSITY, image_bytes);
+    audit("that names 3520 blocks", JUFFERDEEG_HIGH_DENSITY, image_bytes);
+    audit("of half of it", JUFFERDEEG_ANY_SIZE, image_bytes / 2);
     reason(JUFFERDEEG_IMAGE_LENGTH);
     reason(0);
     find(image_bytes, argv[2]);

@@ -1,6 +1,6 @@
 /* Measures how much stack each call takes: calls it on a thread whose stack was filled with A5, and looks how far down
- * that was overwritten. It makes its own input: a volume whose directories lie one in the other, with a file as deep
- * as a path can lead, and a program of 64 hunks with a relocation each.
+ * that was overwritten. It makes its own input: a volume of each size whose directories lie one in the other, with a
+ * file as deep as a path can lead, and a program of 64 hunks with a relocation each.
  *
  * It prints the distance from the caller's frame to the lowest byte that changed; less than 500 cannot be told apart.
  * It fails if a call takes more than jufferdeeg.h says. `examples/c/run stack` builds and runs it. */
@@ -11,20 +11,19 @@
 
 #include "jufferdeeg.h"
 
-#define BLOCKS (JUFFERDEEG_IMAGE_BYTES / 512)
-#define ROOT (BLOCKS / 2)
-#define MAP (ROOT + 1)
 #define HUNKS JUFFERDEEG_MOST_HUNKS
 #define STACK_BYTES (4 << 20)
 #define PAINT 0xA5
 
-/* What jufferdeeg.h says; for an audit, what it says to lend, less what the two directories would take that this
- * volume lacks: 352 bytes each on x86-64, 416 on aarch64. */
-#define AUDIT_MOST ((1 << 20) - 2 * 416)
+/* What jufferdeeg.h says; for an audit, what it says to lend, less what the two directories would take that these
+ * volumes lack: 368 bytes each on x86-64, 400 on aarch64. */
+#define AUDIT_MOST ((1 << 20) - 2 * 400)
+#define HIGH_AUDIT_MOST ((2 << 20) - 2 * 400)
 #define FIND_MOST (40 << 10)
 #define OTHERS_MOST (4 << 10)
 
-static uint8_t image[JUFFERDEEG_IMAGE_BYTES], claim[JUFFERDEEG_CLAIM_BYTES], output[1024], path[255];
+static uint8_t image[JUFFERDEEG_MOST_IMAGE_BYTES], claim[JUFFERDEEG_MOST_CLAIM_BYTES], output[1024], path[255];
+static uint32_t blocks; /* of the image */
 static uint8_t file[4096], memory[4096], work[4096];
 static size_t file_bytes;
 static uint32_t old_bases[HUNKS], new_bases[HUNKS];
@@ -58,21 +57,22 @@ static void seal(uint32_t key, uint32_t word) {
 }
 
 /* Directory `a` in `a` in `a`, and at the depth of the longest path a file `f` beside it, of one byte. */
-static void make_volume(void) {
-    uint32_t parent = ROOT, depth = 0, key, i;
+static void make_volume(uint32_t disk_blocks) {
+    const uint32_t root = disk_blocks / 2, map = root + 1, header = disk_blocks - 2, data = disk_blocks - 1;
+    uint32_t parent = root, depth = 0, key, i;
+    blocks = disk_blocks;
     memset(image, 0, sizeof image);
     memcpy(image, "DOS", 3);
-    set(ROOT, 0, 2), set(ROOT, 3, 72), set(ROOT, 78, 0xFFFFFFFF), set(ROOT, 79, MAP), set(ROOT, 127, 1);
-    memcpy(image + 512 * ROOT + 432, "\4deep", 5);
-    for (key = 2; key < BLOCKS - 2; key++) {
-        if (key == ROOT || key == MAP) {
+    set(root, 0, 2), set(root, 3, 72), set(root, 78, 0xFFFFFFFF), set(root, 79, map), set(root, 127, 1);
+    memcpy(image + 512 * root + 432, "\4deep", 5);
+    for (key = 2; key < header; key++) {
+        if (key == root || key == map) {
             continue;
         }
         set(parent, 6 + 6, key); /* the slot of `a` */
         set(key, 0, 2), set(key, 1, key), set(key, 125, parent), set(key, 127, JUFFERDEEG_DIRECTORY);
         memcpy(image + 512 * key + 432, "\1a", 2);
         if (++depth == 127) {
-            uint32_t header = BLOCKS - 2, data = BLOCKS - 1;
             set(key, 6 + 11, header); /* the slot of `f` */
             set(header, 0, 2), set(header, 1, header), set(header, 2, 1), set(header, 4, data), set(header, 77, data);
             set(header, 81, 1), set(header, 125, key), set(header, 127, JUFFERDEEG_FILE);
@@ -82,12 +82,12 @@ static void make_volume(void) {
         }
         parent = key;
     }
-    for (key = 2; key < BLOCKS; key++) {
-        if (key != MAP && key < BLOCKS - 2) {
+    for (key = 2; key < header; key++) {
+        if (key != map) {
             seal(key, 5);
         }
     }
-    seal(MAP, 0); /* every bit is 0: no block is free */
+    seal(map, 0); /* every bit is 0: no block is free */
     for (i = 0; i < sizeof path; i++) {
         path[i] = i % 2 ? '/' : 'a';
     }
@@ -119,13 +119,13 @@ static void make_program(void) {
 /* ---- the calls, each with the number that it gives */
 
 static uint32_t audit(void) {
-    return jufferdeeg_audit(image, sizeof image, claim, sizeof claim).number;
+    return jufferdeeg_audit(blocks, image, 512 * blocks, claim, sizeof claim).number;
 }
 static uint32_t find(void) {
-    return jufferdeeg_find(image, sizeof image, path, sizeof path).number;
+    return jufferdeeg_find(blocks, image, 512 * blocks, path, sizeof path).number;
 }
 static uint32_t read_file(void) {
-    return jufferdeeg_read(image, sizeof image, path, sizeof path, 0, output, sizeof output).number;
+    return jufferdeeg_read(blocks, image, 512 * blocks, path, sizeof path, 0, output, sizeof output).number;
 }
 static uint32_t reason(void) {
     return jufferdeeg_reason(JUFFERDEEG_NEAR_TARGETS, output, sizeof output) == 0;
@@ -183,9 +183,11 @@ static int measure(const char *name, uint32_t (*made)(void), size_t most) {
 }
 
 int main(void) {
-    make_volume();
     make_program();
-    int bad = measure("audit", audit, AUDIT_MOST);
+    make_volume(JUFFERDEEG_DOUBLE_DENSITY);
+    int bad = measure("audit of 1760 blocks", audit, AUDIT_MOST);
+    make_volume(JUFFERDEEG_HIGH_DENSITY);
+    bad += measure("audit of 3520 blocks", audit, HIGH_AUDIT_MOST);
     bad += measure("find", find, FIND_MOST) + measure("read", read_file, FIND_MOST);
     bad += measure("reason", reason, OTHERS_MOST) + measure("check", check, OTHERS_MOST);
     return bad + measure("load", load, OTHERS_MOST) + measure("move", move, OTHERS_MOST);

@@ -5,13 +5,13 @@ ghost use lib.ListN.{length};
 ghost use Rattle.answers.specs.Lines.{BeginsLine, EndsLine, copied, PutsLine};
 
 // Line n, from line 0 on, is the sentence of number n. An empty line is for a number that no refusal has.
-pub const SENTENCES: [u8; 1422] = *b"\
+pub const SENTENCES: [u8; 1516] = *b"\
 \n\
-the image is not 901120 bytes long\n\
+the image's length does not fit the named number of blocks: 901120 bytes are 1760 blocks, 1802240 are 3520\n\
 the claim area is too short\n\
 the image does not begin with a boot tag DOS 0 to DOS 3\n\
 a fixed word of the root block is wrong\n\
-a key is not in 2 to 1759\n\
+a key is not in 2 to the last block of the disk\n\
 a block is claimed twice, or a chain is too long\n\
 the sum of the block is not 0\n\
 a type word of the block is wrong\n\

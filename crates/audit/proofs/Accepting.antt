@@ -15,7 +15,7 @@ use Rattle.volume.specs.declared.disk.Disk.{Disk}
 use Rattle.volume.specs.Disks.{firstKey, bitSpan, claimBytes, rootOf, diskOf}
 use Rattle.volume.specs.References.{to, root}
 use Rattle.volume.specs.Law.{bitmapKeyOf, Used, Volume, IsVolume}
-use Rattle.volume.proofs.Tags.{volume-of-kind}
+use Rattle.volume.proofs.Disks.{volume-is}
 use Rattle.walk.specs.declared.Counts.{Counts}
 use Rattle.walk.specs.Nodes.{keyOf, walkOf}
 use Rattle.walk.specs.Reports.{Walked}
@@ -168,10 +168,10 @@ module _ (d : Disk) (s : List ℕ) where
               whole = omega (arith, w .total, w .used, x .1, free-blocks c m e f b);
             }
 
--- An audit accepts if and only if the image is a volume of the kind that its boot tag names.
-pub accepted-volume : (s : List ℕ) (n : ℕ) → claimBytes (diskOf s) ≤ n
-    → ((r : Report) × (auditOf (diskOf s) s n ≡ Accepted r)) ↔ IsVolume s
-accepted-volume s n l =
-    let a = accepted-exactly (diskOf s) s n l in
-    let v = volume-of-kind s in
+-- An audit that names b accepts if and only if the image is a volume of a disk that exists and is named.
+pub accepted-volume : (b : ℕ) (s : List ℕ) (n : ℕ) → claimBytes (diskOf b s) ≤ n
+    → ((r : Report) × (auditOf (diskOf b s) s n ≡ Accepted r)) ↔ IsVolume b s
+accepted-volume b s n l =
+    let a = accepted-exactly (diskOf b s) s n l in
+    let v = volume-is b s in
     (λ e. v .0 (a .0 e), λ w. a .1 (v .1 w))

@@ -236,9 +236,9 @@ module _ (d : Disk) (s X : List ℕ) (n b : ℕ) (r : Audited) (z : X ≡ replic
           (rw g at (w .claim))
 
 -- on the disk that the image is taken for
-pub on-disk : (d : Disk) (s : List ℕ) (n : ℕ) (r : Audited) (X : List ℕ) → d ≡ diskOf s → Audits d s n r X
-    → Audits (diskOf s) s n r X
-on-disk d s n r X e h = rw e at h
+pub on-disk : (b : ℕ) (d : Disk) (s : List ℕ) (n : ℕ) (r : Audited) (X : List ℕ) → d ≡ diskOf b s → Audits d s n r X
+    → Audits (diskOf b s) s n r X
+on-disk b d s n r X e h = rw e at h
 
 -- what the walk is lent: all of it was set to 0, and it is long enough
 pub is-fresh : (d : Disk) (X : List ℕ) (n a m : ℕ) → X ≡ replicate n 0 → length X ≡ n → a ≡ claimBytes d

@@ -11,9 +11,9 @@ use Rattle.answers.specs.Members.{_∈_}
 use Rattle.answers.proofs.Members.{listed, in-part}
 use Rattle.words.specs.Word.{wordAt}
 use Rattle.volume.specs.declared.disk.Disk.{Disk}
-use Rattle.volume.specs.Disks.{imageBytes, claimBytes, tagOf, diskOf, NoTag}
+use Rattle.volume.specs.Disks.{imageBytes, claimBytes, tagOf, diskOf, Fits, Unfit, NoTag}
 use Rattle.volume.specs.Law.{Tree, Valid}
-use Rattle.volume.proofs.Tags.{no-tag}
+use Rattle.volume.proofs.Disks.{long-fits, unfit, no-tag}
 use Rattle.walk.specs.Refusals.{FirstRefusal, Cause}
 use Rattle.walk.proofs.Refuses.{refused-first}
 use Rattle.walk.proofs.Causes as causes
@@ -69,11 +69,17 @@ module _ (d : Disk) (s : List ℕ) (n k : ℕ) where
   unfolding pick
   refused-17 = refused-exactly d s n fault.wrongBit k
 
--- 3 is given if and only if the image has the boot tag of no kind
-pub refused-tag : (s : List ℕ) (n k : ℕ)
-    → (auditOf (diskOf s) s n ≡ refuse fault.bootTag k)
-    ↔ ((k ≡ 0) × (length s ≡ imageBytes (diskOf s)) × (claimBytes (diskOf s) ≤ n) × NoTag s)
-refused-tag s n k =
-    let r = refused-3 (diskOf s) s n k in
-    let t = no-tag s in
-    (λ e. let (q, l, h, u) = r .0 e in (q, l, h, t .0 u), λ (q, l, h, u). r .1 (q, l, h, t .1 u))
+-- Of a call that names b: 1 if and only if no disk fits, and 3 if and only if the image has the boot tag of none.
+module _ (b : ℕ) (s : List ℕ) (n k : ℕ) where
+  pub refused-unfit : (auditOf (diskOf b s) s n ≡ refuse fault.imageLength k) ↔ ((k ≡ 0) × Unfit b s)
+  refused-unfit =
+      let r = refused-1 (diskOf b s) s n k in
+      let u = unfit b s in
+      (λ e. let (q, l) = r .0 e in (q, u .0 l), λ (q, l). r .1 (q, u .1 l))
+
+  pub refused-tag : (auditOf (diskOf b s) s n ≡ refuse fault.bootTag k)
+      ↔ ((k ≡ 0) × Fits b s (diskOf b s) × (claimBytes (diskOf b s) ≤ n) × NoTag s)
+  refused-tag =
+      let r = refused-3 (diskOf b s) s n k in
+      let t = no-tag b s in
+      (λ e. let (q, l, h, u) = r .0 e in (q, long-fits b s l, h, t .0 u), λ (q, f, h, u). r .1 (q, f .long, h, t .1 u))

@@ -110,11 +110,12 @@ fn audit_on(disk: Disk, image: &[u8], claim: &mut [u8]) -> Audited
     refused(Fault::BOOT_TAG, 0)
 }
 
-// Audits the image of an 880 KB floppy of the kind that its boot tag names.
-pub fn audit(image: &[u8], claim: &mut [u8]) -> Audited
-    ensures { λ r. ⌜ Audits (diskOf (now (image .entry))) (now (image .entry)) (length (now (claim .entry))) r
+// Audits an image: that of a disk of the `named` number of blocks, or of either size where 0 is named, and of the kind
+// that its boot tag names.
+pub fn audit(named: u32, image: &[u8], claim: &mut [u8]) -> Audited
+    ensures { λ r. ⌜ Audits (diskOf named (now (image .entry))) (now (image .entry)) (length (now (claim .entry))) r
         (now (claim .exit)) ⌝ }
 {
-    let disk = Disk::of(image);
+    let disk = Disk::of(named, image);
     audit_on(disk, image, claim)
 }

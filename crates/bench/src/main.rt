@@ -1,6 +1,7 @@
 // The counter's tool: audits, finds, reads, loads and moves, or does what the reset pin does, on files that the
 // arguments name.
 mod arguments;
+mod asked;
 mod bases;
 mod files;
 mod listing;
@@ -14,6 +15,8 @@ mod status;
 mod usage;
 mod volumes;
 
+use asked::Asked;
+use asked::Asking;
 use console::same;
 use status::Outcome;
 
@@ -60,20 +63,31 @@ fn verb_of(text: &[u8]) -> Verb {
     Verb::Unknown
 }
 
-// Does what the verb says with so many arguments. The rooms are made once and lent to each: for an image, a program
-// file, memory and the work area.
-fn act(verb: Verb, count: usize) -> Outcome {
+// What the verb is asked with so many arguments.
+fn asked_of(verb: Verb, count: usize) -> Asking {
+    match verb {
+        Verb::Audit => asked::of_image(count),
+        Verb::Find => asked::of_image(count),
+        Verb::Read => asked::of_image(count),
+        Verb::Reset => asked::of_image(count),
+        _ => Asking::Is(asked::plainly()),
+    }
+}
+
+// Does what the verb says with so many arguments. The rooms are made once and lent to each: for an image, a file,
+// which is no longer than the largest image, memory and the work area.
+fn act(verb: Verb, asked: Asked, count: usize) -> Outcome {
     let mut image = console::rooms::image();
-    let mut file = console::rooms::file();
+    let mut file = console::rooms::image();
     let mut memory = rooms::memory();
     let mut work = rooms::memory();
     match verb {
-        Verb::Audit => volumes::audit_images(count, &mut image),
-        Verb::Find => volumes::find_paths(count, &mut image),
-        Verb::Read => volumes::read_file(count, &mut image, &mut file),
+        Verb::Audit => volumes::audit_images(asked, count, &mut image),
+        Verb::Find => volumes::find_paths(asked, count, &mut image),
+        Verb::Read => volumes::read_file(asked, count, &mut image, &mut file),
         Verb::Load => programs::load(count, &mut file, &mut memory, &mut work),
         Verb::Move => programs::move_program(count, &mut file, &mut memory, &mut work),
-        Verb::Reset => reset::reset(count, &mut image, &mut file, &mut memory, &mut work),
+        Verb::Reset => reset::reset(asked, count, &mut image, &mut file, &mut memory, &mut work),
         Verb::Help => usage::say(),
         Verb::Version => usage::version(),
         Verb::Unknown => Outcome::Unasked,
@@ -91,7 +105,11 @@ fn run(count: usize) -> Outcome {
             b" is no verb; ./bench alone says how it is used",
         );
     }
-    act(verb, count)
+    let asking = asked_of(verb, count);
+    let Asking::Is(asked) = asking else {
+        return Outcome::Unasked;
+    };
+    act(verb, asked, count)
 }
 
 // The same, if there is one and all arguments fit.

@@ -1,4 +1,5 @@
 // What the reset pin does, in one go: audit, find, read and load. The first refusal ends it.
+use crate::asked::Asked;
 use crate::bases;
 use crate::files;
 use crate::files::Kind;
@@ -37,6 +38,7 @@ fn load(file: &[u8], bases: &[u32], memory: &mut [u8], work: &mut [u8]) -> Outco
 
 // The steps from the read on.
 fn read(
+    named: u32,
     image: &[u8],
     path: &[u8],
     bases: &[u32],
@@ -44,7 +46,7 @@ fn read(
     memory: &mut [u8],
     work: &mut [u8],
 ) -> Outcome {
-    let reading = reading::read::read(image, path, 0, output);
+    let reading = reading::read::read(named, image, path, 0, output);
     match reading {
         Reading::Bytes(n) => {
             was_read(n);
@@ -54,8 +56,9 @@ fn read(
     }
 }
 
-// All steps, with the path that argument 3 is.
+// All steps, with the path that the second argument is.
 fn steps(
+    asked: Asked,
     image: &[u8],
     bases: &[u32],
     file: &mut [u8],
@@ -63,51 +66,53 @@ fn steps(
     work: &mut [u8],
 ) -> Outcome {
     let mut path = io::buffer();
-    let n = os::arg(3, &mut path);
-    let audited = volumes::audit_image(b"audit", image);
+    let n = os::arg(asked.second, &mut path);
+    let audited = volumes::audit_image(asked.named, b"audit", image);
     let Outcome::Accepted = audited else {
         return audited;
     };
-    let found = volumes::find_path(b"find", image, &path[..n]);
+    let found = volumes::find_path(asked.named, b"find", image, &path[..n]);
     let Outcome::Accepted = found else {
         return found;
     };
-    read(image, &path[..n], bases, file, memory, work)
+    read(asked.named, image, &path[..n], bases, file, memory, work)
 }
 
-// The same on the image that argument 2 names.
+// The same on the image that the first argument names.
 fn reset_at(
+    asked: Asked,
     bases: &[u32],
     room: &mut [u8],
     file: &mut [u8],
     memory: &mut [u8],
     work: &mut [u8],
 ) -> Outcome {
-    let held = files::read_argument(2, Kind::Image, room);
+    let held = files::read_argument(asked.first, Kind::Image, room);
     if !held.whole {
         return Outcome::Unasked;
     }
     let n = held.bytes;
-    steps(&room[..n], bases, file, memory, work)
+    steps(asked, &room[..n], bases, file, memory, work)
 }
 
 pub fn reset(
+    asked: Asked,
     count: usize,
     room: &mut [u8],
     file: &mut [u8],
     memory: &mut [u8],
     work: &mut [u8],
 ) -> Outcome {
-    if count < 5 {
+    if count <= asked.third {
         return wrong(
             b"reset",
             b" needs an IMAGE, a PATH and a BASE for each hunk",
         );
     }
     let mut list = rooms::bases();
-    let n = bases::list(4, count, &mut list);
+    let n = bases::list(asked.third, count, &mut list);
     if n == 0 {
         return Outcome::Unasked;
     }
-    reset_at(&list[..n], room, file, memory, work)
+    reset_at(asked, &list[..n], room, file, memory, work)
 }

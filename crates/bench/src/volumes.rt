@@ -1,4 +1,5 @@
 // Images: audit, find and read.
+use crate::asked::Asked;
 use crate::files;
 use crate::files::Kind;
 use crate::saying;
@@ -31,9 +32,9 @@ fn accepted(who: &[u8], report: Report) -> Outcome {
 }
 
 // Audits an image. The claim area has more bytes than there are blocks.
-pub fn audit_image(who: &[u8], image: &[u8]) -> Outcome {
+pub fn audit_image(named: u32, who: &[u8], image: &[u8]) -> Outcome {
     let mut claim = io::buffer();
-    let answer = audit::audit::audit(image, &mut claim);
+    let answer = audit::audit::audit(named, image, &mut claim);
     match answer {
         Audited::Accepted(report) => accepted(who, report),
         Audited::Refused(fault) => refused(STDOUT_FILENO, who, fault, 0),
@@ -58,8 +59,8 @@ fn file(who: &[u8], key: u32, size: u32, compared: u32) -> Outcome {
 }
 
 // Finds a path.
-pub fn find_path(who: &[u8], image: &[u8], path: &[u8]) -> Outcome {
-    let found = lookup::find::find(image, path);
+pub fn find_path(named: u32, who: &[u8], image: &[u8], path: &[u8]) -> Outcome {
+    let found = lookup::find::find(named, image, path);
     match found {
         Found::Directory(key, compared) => directory(who, key, compared),
         Found::File(key, size, compared) => file(who, key, size, compared),
@@ -109,32 +110,32 @@ impl Tally {
 }
 
 // Audits the image of this name.
-fn audit_named(name: &[u8], room: &mut [u8]) -> Outcome {
+fn audit_file(named: u32, name: &[u8], room: &mut [u8]) -> Outcome {
     let held = files::read(name, Kind::Image, room);
     if !held.whole {
         return Outcome::Unasked;
     }
     let n = held.bytes;
-    audit_image(name, &room[..n])
+    audit_image(named, name, &room[..n])
 }
 
 // Audits the image that argument i names.
-fn audit_argument(i: usize, room: &mut [u8]) -> Outcome {
+fn audit_argument(named: u32, i: usize, room: &mut [u8]) -> Outcome {
     let mut name = io::buffer();
     let n = os::arg(i, &mut name);
-    audit_named(&name[..n], room)
+    audit_file(named, &name[..n], room)
 }
 
-// Audits the images from argument 2 on.
-fn audit_each(count: usize, room: &mut [u8]) -> Tally {
+// Audits the images from the first argument on.
+fn audit_each(asked: Asked, count: usize, room: &mut [u8]) -> Tally {
     let mut tally = Tally {
         accepted: 0,
         refused: 0,
         unread: 0,
     };
-    let mut i: usize = 2;
+    let mut i = asked.first;
     while i < count {
-        tally = tally.with(audit_argument(i, room));
+        tally = tally.with(audit_argument(asked.named, i, room));
         i += 1;
     }
     tally
@@ -148,46 +149,46 @@ fn summary(images: usize, tally: Tally) {
     io::write_all(STDOUT_FILENO, b" not read\n");
 }
 
-pub fn audit_images(count: usize, room: &mut [u8]) -> Outcome {
-    if count < 3 {
+pub fn audit_images(asked: Asked, count: usize, room: &mut [u8]) -> Outcome {
+    if count <= asked.first {
         return wrong(b"audit", b" needs an IMAGE");
     }
-    let tally = audit_each(count, room);
-    if count > 3 {
-        summary(count - 2, tally);
+    let tally = audit_each(asked, count, room);
+    if count > asked.second {
+        summary(count - asked.first, tally);
     }
     tally.outcome()
 }
 
 // Finds the path that argument i is.
-fn find_argument(i: usize, image: &[u8]) -> Outcome {
+fn find_argument(named: u32, i: usize, image: &[u8]) -> Outcome {
     let mut path = io::buffer();
     let n = os::arg(i, &mut path);
     let text = &path[..n];
-    find_path(text, image, text)
+    find_path(named, text, image, text)
 }
 
-// Finds the paths from argument 3 on.
-fn find_each(count: usize, image: &[u8]) -> Outcome {
+// Finds the paths from the second argument on.
+fn find_each(asked: Asked, count: usize, image: &[u8]) -> Outcome {
     let mut all = Outcome::Accepted;
-    let mut i: usize = 3;
+    let mut i = asked.second;
     while i < count {
-        all = status::worse(all, find_argument(i, image));
+        all = status::worse(all, find_argument(asked.named, i, image));
         i += 1;
     }
     all
 }
 
-pub fn find_paths(count: usize, room: &mut [u8]) -> Outcome {
-    if count < 4 {
+pub fn find_paths(asked: Asked, count: usize, room: &mut [u8]) -> Outcome {
+    if count <= asked.second {
         return wrong(b"find", b" needs an IMAGE and a PATH");
     }
-    let held = files::read_argument(2, Kind::Image, room);
+    let held = files::read_argument(asked.first, Kind::Image, room);
     if !held.whole {
         return Outcome::Unasked;
     }
     let n = held.bytes;
-    find_each(count, &room[..n])
+    find_each(asked, count, &room[..n])
 }
 
 // Writes a file's bytes, and nothing else, to standard output.
@@ -199,8 +200,8 @@ fn put_out(path: &[u8], bytes: &[u8]) -> Outcome {
 }
 
 // Reads a file and writes its bytes.
-fn read_path(image: &[u8], path: &[u8], output: &mut [u8]) -> Outcome {
-    let reading = reading::read::read(image, path, 0, output);
+fn read_path(named: u32, image: &[u8], path: &[u8], output: &mut [u8]) -> Outcome {
+    let reading = reading::read::read(named, image, path, 0, output);
     match reading {
         Reading::Bytes(n) => put_out(path, &output[..n]),
         Reading::Refused(fault) => {
@@ -210,21 +211,21 @@ fn read_path(image: &[u8], path: &[u8], output: &mut [u8]) -> Outcome {
     }
 }
 
-// The same for the path that argument 3 is.
-fn read_argument(image: &[u8], output: &mut [u8]) -> Outcome {
+// The same for the path that the second argument is.
+fn read_argument(asked: Asked, image: &[u8], output: &mut [u8]) -> Outcome {
     let mut path = io::buffer();
-    let n = os::arg(3, &mut path);
-    read_path(image, &path[..n], output)
+    let n = os::arg(asked.second, &mut path);
+    read_path(asked.named, image, &path[..n], output)
 }
 
-pub fn read_file(count: usize, room: &mut [u8], output: &mut [u8]) -> Outcome {
-    if count != 4 {
+pub fn read_file(asked: Asked, count: usize, room: &mut [u8], output: &mut [u8]) -> Outcome {
+    if count != asked.third {
         return wrong(b"read", b" needs an IMAGE and one PATH");
     }
-    let held = files::read_argument(2, Kind::Image, room);
+    let held = files::read_argument(asked.first, Kind::Image, room);
     if !held.whole {
         return Outcome::Unasked;
     }
     let n = held.bytes;
-    read_argument(&room[..n], output)
+    read_argument(asked, &room[..n], output)
 }

@@ -16,20 +16,20 @@ use Rattle.jufferdeeg.specs.declared.programs.ProgramNumbers.{ProgramNum
 use Rattle.jufferdeeg.specs.Volumes.{auditNumbers, readNumbers, AuditsImage, ReadsImage}
 use Rattle.jufferdeeg.specs.Programs.{programNumbers, LoadsNumbers, MovesNumbers}
 
-pub audits : (s : List ℕ) (n : ℕ) (a : Audited) (r : AuditNumbers) (claim′ : List ℕ) → Audits (diskOf s) s n a claim′
-    → r ≡ auditNumbers a → AuditsImage s n r claim′
-audits s n a r claim′ h e =
+pub audits : (b : ℕ) (s : List ℕ) (n : ℕ) (a : Audited) (r : AuditNumbers) (claim′ : List ℕ)
+    → Audits (diskOf b s) s n a claim′ → r ≡ auditNumbers a → AuditsImage b s n r claim′
+audits b s n a r claim′ h e =
     record {
       answer = e ∙ ap auditNumbers (h .answer);
-      call = subst (λ x. Audits (diskOf s) s n x claim′) (h .answer) h;
+      call = subst (λ x. Audits (diskOf b s) s n x claim′) (h .answer) h;
     }
 
-pub reads : (s path : List ℕ) (o : ℕ) (output : List ℕ) (a : Reading) (r : ReadNumbers) (output′ : List ℕ)
-    → Reads (diskOf s) s path o output a output′ → r ≡ readNumbers a → ReadsImage s path o output r output′
-reads s path o output a r output′ h e =
+pub reads : (b : ℕ) (s path : List ℕ) (o : ℕ) (output : List ℕ) (a : Reading) (r : ReadNumbers) (output′ : List ℕ)
+    → Reads (diskOf b s) s path o output a output′ → r ≡ readNumbers a → ReadsImage b s path o output r output′
+reads b s path o output a r output′ h e =
     record {
       answer = e ∙ ap readNumbers (h .answer);
-      call = subst (λ x. Reads (diskOf s) s path o output x output′) (h .answer) h;
+      call = subst (λ x. Reads (diskOf b s) s path o output x output′) (h .answer) h;
     }
 
 module _ (file : List ℕ) (m : List ℕ) (t : List Hunk) (w : List ℕ) (a : Answer) (r : ProgramNumbers) (m′ : List ℕ)

@@ -11,16 +11,17 @@ use Rattle.jufferdeeg.specs.Volumes.{findInImage, AuditsImage, ReadsImag
 use Rattle.jufferdeeg.specs.Programs.{checkNumbers, LoadsNumbers, MovesNumbers}
 use Rattle.jufferdeeg.specs.Reasons.{Reasons}
 
-pub audit-crosses : (s : List ℕ) (n : ℕ) (r r′ : AuditNumbers) (c c′ : List ℕ) → AuditsImage s n r c
-    → AuditsImage s n r′ c′ → (r ≡ r′) × (c ≡ c′)
-audit-crosses s n r r′ c c′ h h′ = (h .answer ∙ sym (h′ .answer), h .call .claim ∙ sym (h′ .call .claim))
+pub audit-crosses : (b : ℕ) (s : List ℕ) (n : ℕ) (r r′ : AuditNumbers) (c c′ : List ℕ) → AuditsImage b s n r c
+    → AuditsImage b s n r′ c′ → (r ≡ r′) × (c ≡ c′)
+audit-crosses b s n r r′ c c′ h h′ = (h .answer ∙ sym (h′ .answer), h .call .claim ∙ sym (h′ .call .claim))
 
-pub find-crosses : (s path : List ℕ) (r r′ : FindNumbers) → r ≡ findInImage s path → r′ ≡ findInImage s path → r ≡ r′
-find-crosses s path r r′ h h′ = h ∙ sym h′
+pub find-crosses : (b : ℕ) (s path : List ℕ) (r r′ : FindNumbers) → r ≡ findInImage b s path
+    → r′ ≡ findInImage b s path → r ≡ r′
+find-crosses b s path r r′ h h′ = h ∙ sym h′
 
-pub read-crosses : (s path : List ℕ) (o : ℕ) (output : List ℕ) (r r′ : ReadNumbers) (a a′ : List ℕ)
-    → ReadsImage s path o output r a → ReadsImage s path o output r′ a′ → (r ≡ r′) × (a ≡ a′)
-read-crosses s path o output r r′ a a′ h h′ = (h .answer ∙ sym (h′ .answer), h .call .left ∙ sym (h′ .call .left))
+pub read-crosses : (b : ℕ) (s path : List ℕ) (o : ℕ) (output : List ℕ) (r r′ : ReadNumbers) (a a′ : List ℕ)
+    → ReadsImage b s path o output r a → ReadsImage b s path o output r′ a′ → (r ≡ r′) × (a ≡ a′)
+read-crosses b s path o output r r′ a a′ h h′ = (h .answer ∙ sym (h′ .answer), h .call .left ∙ sym (h′ .call .left))
 
 pub check-crosses : (file : List ℕ) (r r′ : ProgramNumbers) → r ≡ checkNumbers file → r′ ≡ checkNumbers file
     → r ≡ r′

@@ -15,16 +15,16 @@ use Rattle.answers.specs.Tests.{pick}
 use Rattle.reach.specs.References.{Reached}
 use Rattle.words.specs.Word.{Bytes, wordAt}
 use Rattle.volume.specs.declared.disk.Disk.{Disk}
-use Rattle.volume.specs.Disks.{kinds, floppy, tagOf, rootOf, imageBytes, claimBytes, chainLimit, diskOf, NoTag}
+use Rattle.volume.specs.Disks.{Exists, tagOf, rootOf, claimBytes, chainLimit, diskOf, Fits, Unfit, NoTag}
 use Rattle.volume.specs.Blocks.{directory}
 use Rattle.volume.specs.Files.{sizeOf}
 use Rattle.volume.specs.References.{to, entry, references}
 use Rattle.volume.specs.Names.{foldOf, folded, slotOf}
 use Rattle.volume.specs.Law.{Tree, Valid, Volume, IsVolume}
-use Rattle.volume.proofs.Tags as tags
+use Rattle.volume.proofs.Disks as disks
 use Rattle.volume.proofs.Names as names
-use Rattle.volume.specs.Floppy.{Numerals}
-use Rattle.volume.proofs.Floppy as floppies
+use Rattle.volume.specs.Numerals.{NumeralsHold}
+use Rattle.volume.proofs.Numerals as numbers
 use Rattle.walk.specs.Refusals.{Cause}
 use Rattle.walk.proofs.Broken as broken
 use Rattle.volume.specs.Stars.{stars, Hold}
@@ -127,20 +127,25 @@ module _ (d : Disk) (s : List ℕ) (n : ℕ) where
       → (audit.numbersOf r ≡ audit.numbersOf r′) × (r ≡ r′) × (c ≡ c′)
   audit-determined r r′ c c′ a a′ = accepting.audit-determined d s n r r′ c c′ a a′
 
--- every call takes an image for the disk `diskOf`: that of the kind whose boot tag it has
-pub tag-disk : (s : List ℕ) (kind : ℕ) → kind ∈ kinds → wordAt s 0 ≡ tagOf (floppy kind) → diskOf s ≡ floppy kind
-tag-disk s kind m t = tags.tag-disk s kind m t
+-- a call that names b takes an image for the disk `diskOf`: the one that fits and whose boot tag the image has
+pub disk-is : (b : ℕ) (s : List ℕ) (d : Disk) → Fits b s d → wordAt s 0 ≡ tagOf d → diskOf b s ≡ d
+disk-is = disks.disk-is
 
--- one statement for all kinds: accepted if and only if a volume of such a kind; 3 if and only if the tag is of no kind
-module _ (s : List ℕ) (n : ℕ) where
-  pub accepted-volume : claimBytes (diskOf s) ≤ n
-      → ((r : Report) × (audit.auditOf (diskOf s) s n ≡ audited.Accepted r)) ↔ IsVolume s
-  accepted-volume h = accepting.accepted-volume s n h
+-- one statement for all disks: accepted if and only if a volume of a disk that exists and is named; 1 if and only if no
+-- disk fits; 3 if and only if one does and the tag is that of none
+module _ (b : ℕ) (s : List ℕ) (n : ℕ) where
+  pub accepted-volume : claimBytes (diskOf b s) ≤ n
+      → ((r : Report) × (audit.auditOf (diskOf b s) s n ≡ audited.Accepted r)) ↔ IsVolume b s
+  accepted-volume h = accepting.accepted-volume b s n h
+
+  pub audit-refused-unfit : (k : ℕ)
+      → (audit.auditOf (diskOf b s) s n ≡ audit.refuse fault.imageLength k) ↔ ((k ≡ 0) × Unfit b s)
+  audit-refused-unfit k = refusing.refused-unfit b s n k
 
   pub audit-refused-tag : (k : ℕ)
-      → (audit.auditOf (diskOf s) s n ≡ audit.refuse fault.bootTag k)
-      ↔ ((k ≡ 0) × (length s ≡ imageBytes (diskOf s)) × (claimBytes (diskOf s) ≤ n) × NoTag s)
-  audit-refused-tag k = refusing.refused-tag s n k
+      → (audit.auditOf (diskOf b s) s n ≡ audit.refuse fault.bootTag k)
+      ↔ ((k ≡ 0) × Fits b s (diskOf b s) × (claimBytes (diskOf b s) ≤ n) × NoTag s)
+  audit-refused-tag k = refusing.refused-tag b s n k
 
 -- what such a cause says holds of no volume
 module _ (d : Disk) (s : List ℕ) where
@@ -226,16 +231,24 @@ module _ (d : Disk) (s : List ℕ) where
       × (output′ ≡ fileBytes d s k ++ drop (sizeOf s k) output)
   reached-read v k h e l output output′ r m q = reads.reached-read d s v k h e l output output′ r m q
 
--- 3 of a lookup and of a read
-module _ (s path : List ℕ) (k : ℕ) where
-  pub find-refused-tag : (lookup.findOf (diskOf s) s path ≡ lookup.refuse fault.bootTag k)
-      ↔ ((k ≡ 0) × (length s ≡ imageBytes (diskOf s)) × lookups.GoodForm path × NoTag s)
-  find-refused-tag = missing.refused-tag s path k
+-- 1 and 3 of a lookup and of a read
+module _ (b : ℕ) (s path : List ℕ) (k : ℕ) where
+  pub find-refused-unfit : (lookup.findOf (diskOf b s) s path ≡ lookup.refuse fault.imageLength k)
+      ↔ ((k ≡ 0) × Unfit b s)
+  find-refused-unfit = missing.refused-unfit b s path k
+
+  pub find-refused-tag : (lookup.findOf (diskOf b s) s path ≡ lookup.refuse fault.bootTag k)
+      ↔ ((k ≡ 0) × Fits b s (diskOf b s) × lookups.GoodForm path × NoTag s)
+  find-refused-tag = missing.refused-tag b s path k
+
+  pub read-refused-unfit : (o n : ℕ)
+      → (read.readOf (diskOf b s) s path o n ≡ read.refuse fault.imageLength k) ↔ ((k ≡ 0) × Unfit b s)
+  read-refused-unfit o n = unread.refused-unfit b s path o n k
 
   pub read-refused-tag : (o n : ℕ)
-      → (read.readOf (diskOf s) s path o n ≡ read.refuse fault.bootTag k)
-      ↔ ((k ≡ 0) × (length s ≡ imageBytes (diskOf s)) × lookups.GoodForm path × NoTag s)
-  read-refused-tag o n = unread.refused-tag s path o n k
+      → (read.readOf (diskOf b s) s path o n ≡ read.refuse fault.bootTag k)
+      ↔ ((k ≡ 0) × Fits b s (diskOf b s) × lookups.GoodForm path × NoTag s)
+  read-refused-tag o n = unread.refused-tag b s path o n k
 
 -- on every kind of disk, folding twice is folding once, and equal folded names have equal slots
 module _ (d : Disk) where
@@ -245,11 +258,11 @@ module _ (d : Disk) where
   pub slot-same : (xs ys : List ℕ) → folded d xs ≡ folded d ys → slotOf d xs ≡ slotOf d ys
   slot-same xs ys e = names.slot-same d xs ys e
 
--- the floppy's numbers, and the worked cases with a star
-pub floppy-numerals : (kind : ℕ) → Numerals (floppy kind)
-floppy-numerals = floppies.floppy-numerals
+-- the numbers of each disk, and the worked cases with a star
+pub numerals-hold : NumeralsHold
+numerals-hold = numbers.numerals-hold
 
-pub stars-hold : (kind : ℕ) → kind ∈ kinds → Hold (floppy kind) (stars (floppy kind))
+pub stars-hold : (d : Disk) → Exists d → Hold d (stars d)
 stars-hold = starred.stars-hold
 
 -- ---- a program file
@@ -395,82 +408,96 @@ module _ (file m : List ℕ) (t : List Hunk) (w : List ℕ) where
 
 -- ---- what a C program sees: each exported call, by its numbers and by what it leaves
 
--- the audit of an image s with a claim area of n bytes
-module _ (s : List ℕ) (n : ℕ) (r : AuditNumbers) (claim : List ℕ) (a : AuditsImage s n r claim) where
-  -- the number is 0 if and only if there is a claim byte for each block and the image is a volume of its tag's kind
-  pub audit-zero : (r .number ≡ 0) ↔ ((1760 ≤ n) × IsVolume s)
-  audit-zero = seen.audit-zero s n r claim a
+-- the audit of an image s with a claim area of n bytes, which names b blocks
+module _ (b : ℕ) (s : List ℕ) (n : ℕ) (r : AuditNumbers) (claim : List ℕ) (a : AuditsImage b s n r claim) where
+  -- the number is 0 if and only if there is a claim byte for each block and the image is a volume of a disk
+  -- that exists and is named
+  pub audit-zero : (r .number ≡ 0) ↔ ((claimBytes (diskOf b s) ≤ n) × IsVolume b s)
+  audit-zero = seen.audit-zero b s n r claim a
 
   -- another number v is given at place k if and only if its test says so
-  pub audit-refused-at : (v k : ℕ) → v ≢ 0 → ((r .number ≡ v) × (r .place ≡ k)) ↔ Says (diskOf s) s n v k (testOf v)
-  audit-refused-at = seen.audit-refused-at s n r claim a
+  pub audit-refused-at : (v k : ℕ) → v ≢ 0 → ((r .number ≡ v) × (r .place ≡ k)) ↔ Says (diskOf b s) s n v k (testOf v)
+  audit-refused-at = seen.audit-refused-at b s n r claim a
 
-  -- 3 if and only if length and claim area are right, and the image has the boot tag of no kind
+  -- 1 if and only if no disk fits
+  pub audit-unfit : (k : ℕ) → ((r .number ≡ fault.imageLength) × (r .place ≡ k)) ↔ ((k ≡ 0) × Unfit b s)
+  audit-unfit = seen.audit-unfit b s n r claim a
+
+  -- 3 if and only if the disk fits, the claim area is long enough, and the image has the boot tag of no disk
   pub audit-no-tag : (k : ℕ)
       → ((r .number ≡ fault.bootTag) × (r .place ≡ k))
-      ↔ ((k ≡ 0) × (length s ≡ 901120) × (1760 ≤ n) × NoTag s)
-  audit-no-tag = seen.audit-no-tag s n r claim a
+      ↔ ((k ≡ 0) × Fits b s (diskOf b s) × (claimBytes (diskOf b s) ≤ n) × NoTag s)
+  audit-no-tag = seen.audit-no-tag b s n r claim a
 
   -- a number other than 0 is one of these; nothing is reported then, and the claim area is cleared
   pub audit-number : r .number ∈ (0 ∷ audit.auditRefusals)
-  audit-number = seen.audit-number s n r claim a
+  audit-number = seen.audit-number b s n r claim a
 
   pub audit-refused : r .number ≢ 0
       → (claim ≡ replicate n 0) × (r .directories ≡ 0) × (r .files ≡ 0) × (r .«list_blocks» ≡ 0)
       × (r .«data_blocks» ≡ 0) × (r .used ≡ 0) × (r .free ≡ 0)
-  audit-refused = seen.audit-refused s n r claim a
+  audit-refused = seen.audit-refused b s n r claim a
 
 -- a path
-module _ (s path : List ℕ) (r : FindNumbers) (a : r ≡ findInImage s path) where
+module _ (b : ℕ) (s path : List ℕ) (r : FindNumbers) (a : r ≡ findInImage b s path) where
   -- the number is 0 if and only if the components lead to the directory of that key, or to the file of that key and
   -- size
   pub find-zero : (r .number ≡ 0)
-      ↔ (((r .kind ≡ 2) × (r .size ≡ 0) × lookups.Opened (diskOf s) s path
-      × Trail (diskOf s) s (rootOf (diskOf s)) (components path) (r .key) (r .compared))
-      ⊎ ((r .kind ≡ 0xFFFFFFFD) × lookups.IsFile (diskOf s) s path (r .key) (r .size) (r .compared)))
-  find-zero = seen.find-zero s path r a
+      ↔ (((r .kind ≡ 2) × (r .size ≡ 0) × lookups.Opened (diskOf b s) s path
+      × Trail (diskOf b s) s (rootOf (diskOf b s)) (components path) (r .key) (r .compared))
+      ⊎ ((r .kind ≡ 0xFFFFFFFD) × lookups.IsFile (diskOf b s) s path (r .key) (r .size) (r .compared)))
+  find-zero = seen.find-zero b s path r a
 
   -- another number v is given at place k if and only if `Refuses` holds of them
-  pub find-refused-at : (v k : ℕ) → v ≢ 0 → ((r .number ≡ v) × (r .place ≡ k)) ↔ lookups.Refuses (diskOf s) s path v k
-  find-refused-at = seen.find-refused-at s path r a
+  pub find-refused-at : (v k : ℕ) → v ≢ 0 → ((r .number ≡ v) × (r .place ≡ k)) ↔ lookups.Refuses (diskOf b s) s path v k
+  find-refused-at = seen.find-refused-at b s path r a
 
-  -- 3 if and only if length and path are right, and the image has the boot tag of no kind
+  -- 1 if and only if no disk fits
+  pub find-unfit : (k : ℕ) → ((r .number ≡ fault.imageLength) × (r .place ≡ k)) ↔ ((k ≡ 0) × Unfit b s)
+  find-unfit = seen.find-unfit b s path r a
+
+  -- 3 if and only if the disk fits, the path is right, and the image has the boot tag of no disk
   pub find-no-tag : (k : ℕ)
       → ((r .number ≡ fault.bootTag) × (r .place ≡ k))
-      ↔ ((k ≡ 0) × (length s ≡ 901120) × lookups.GoodForm path × NoTag s)
-  find-no-tag = seen.find-no-tag s path r a
+      ↔ ((k ≡ 0) × Fits b s (diskOf b s) × lookups.GoodForm path × NoTag s)
+  find-no-tag = seen.find-no-tag b s path r a
 
   -- a number other than 0 is one of these; all values are 0 then
   pub find-number : r .number ∈ (0 ∷ lookup.findRefusals)
-  find-number = seen.find-number s path r a
+  find-number = seen.find-number b s path r a
 
   pub find-refused : r .number ≢ 0 → (r .kind ≡ 0) × (r .key ≡ 0) × (r .size ≡ 0) × (r .compared ≡ 0)
-  find-refused = seen.find-refused s path r a
+  find-refused = seen.find-refused b s path r a
 
 -- a read at offset o
-module _ (s path : List ℕ) (o : ℕ) (output : List ℕ) (r : ReadNumbers) (output′ : List ℕ)
-    (a : ReadsImage s path o output r output′) where
+module _ (b : ℕ) (s path : List ℕ) (o : ℕ) (output : List ℕ) (r : ReadNumbers) (output′ : List ℕ)
+    (a : ReadsImage b s path o output r output′) where
   -- the number is 0 if and only if the path leads to a whole file, and `count` is what the room and the rest of the
   -- file allow
-  pub read-zero : (r .number ≡ 0) ↔ outcomes.Gives (diskOf s) s path o (length output) (r .count)
-  read-zero = seen.read-zero s path o output r output′ a
+  pub read-zero : (r .number ≡ 0) ↔ outcomes.Gives (diskOf b s) s path o (length output) (r .count)
+  read-zero = seen.read-zero b s path o output r output′ a
 
   -- another number v is given at place k if and only if `Refuses` holds of them
-  pub read-refused-at : (v k : ℕ) → v ≢ 0 → ((r .number ≡ v) × (r .place ≡ k)) ↔ outcomes.Refuses (diskOf s) s path v k
-  read-refused-at = seen.read-refused-at s path o output r output′ a
+  pub read-refused-at : (v k : ℕ) → v ≢ 0
+      → ((r .number ≡ v) × (r .place ≡ k)) ↔ outcomes.Refuses (diskOf b s) s path v k
+  read-refused-at = seen.read-refused-at b s path o output r output′ a
 
-  -- 3 if and only if length and path are right, and the image has the boot tag of no kind
+  -- 1 if and only if no disk fits
+  pub read-unfit : (k : ℕ) → ((r .number ≡ fault.imageLength) × (r .place ≡ k)) ↔ ((k ≡ 0) × Unfit b s)
+  read-unfit = seen.read-unfit b s path o output r output′ a
+
+  -- 3 if and only if the disk fits, the path is right, and the image has the boot tag of no disk
   pub read-no-tag : (k : ℕ)
       → ((r .number ≡ fault.bootTag) × (r .place ≡ k))
-      ↔ ((k ≡ 0) × (length s ≡ 901120) × lookups.GoodForm path × NoTag s)
-  read-no-tag = seen.read-no-tag s path o output r output′ a
+      ↔ ((k ≡ 0) × Fits b s (diskOf b s) × lookups.GoodForm path × NoTag s)
+  read-no-tag = seen.read-no-tag b s path o output r output′ a
 
   -- a number other than 0 is one of these; the output is as before then
   pub read-number : r .number ∈ (0 ∷ read.readRefusals)
-  read-number = seen.read-number s path o output r output′ a
+  read-number = seen.read-number b s path o output r output′ a
 
   pub read-refused : r .number ≢ 0 → (output′ ≡ output) × (r .count ≡ 0)
-  read-refused = seen.read-refused s path o output r output′ a
+  read-refused = seen.read-refused b s path o output r output′ a
 
 module _ (file : List ℕ) (r : ProgramNumbers) (a : r ≡ checkNumbers file) where
   -- a check: the number is 0 if and only if the file holds hunks, so many that take so many bytes

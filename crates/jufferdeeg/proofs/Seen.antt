@@ -2,7 +2,7 @@
 -- given at which place, and what a refused call leaves. Assumes nothing.
 use Prim.Native.Nat.{ℕ, _*_, _≤_}
 use mathlib.Core.Path.{_≡_, refl, sym, ap, ap₂, _∙_}
-use mathlib.Core.Logic.{_≢_, _↔_, _⊎_, inl, inr}
+use mathlib.Core.Logic.{_≢_, _↔_, _⊎_, inl, inr, Iff·trans}
 use mathlib.Core.List.{List, [], _∷_}
 use lib.ListN.{length, replicate}
 use native.Mathlib.Omega.{arith}
@@ -10,7 +10,7 @@ use Rattle.answers.specs.Numbers as fault
 use Rattle.answers.specs.Members.{_∈_}
 use Rattle.answers.specs.Refusals.{refusal}
 use Rattle.answers.specs.declared.Refusal.{Refusal}
-use Rattle.volume.specs.Disks.{rootOf, diskOf, NoTag}
+use Rattle.volume.specs.Disks.{rootOf, claimBytes, diskOf, Fits, Unfit, NoTag}
 use Rattle.volume.specs.Law.{IsVolume}
 use Rattle.audit.specs.declared.audit.Report.{Report}
 use Rattle.audit.specs.declared.audit.Audited.{Audited}
@@ -61,11 +61,7 @@ use Rattle.jufferdeeg.specs.Volumes.{auditNumbers, findNumbers, readNumb
 use Rattle.jufferdeeg.specs.Volumes.{ReadsImage}
 use Rattle.jufferdeeg.specs.Programs.{programNumbers, checkNumbers, loadsAs, movesAs, LoadsNumbers, MovesNumbers}
 
--- one condition for another, and that for a third
-chain : {A B C : Type 0} → A ↔ B → B ↔ C → A ↔ C
-chain f g = (λ x. g .0 (f .0 x), λ z. f .1 (g .1 z))
-
--- ---- the audit of an image s with a claim area of n bytes
+-- ---- the audit of an image s with a claim area of n bytes, which names b blocks
 
 -- a number other than 0, with its place, is a refusal's
 audit-says : (x : Audited) (v k : ℕ) → v ≢ 0
@@ -76,43 +72,52 @@ audit-says x v k z = (there x, λ e. rw e (refl, refl))
     there (audited.Accepted p) (a, b) = absurd (z (sym a))
     there (audited.Refused f) (a, b) = ap₂ audit.refuse a b
 
-module _ (s : List ℕ) (n : ℕ) (r : AuditNumbers) (claim′ : List ℕ) (a : AuditsImage s n r claim′) where
+module _ (b : ℕ) (s : List ℕ) (n : ℕ) (r : AuditNumbers) (claim′ : List ℕ) (a : AuditsImage b s n r claim′) where
   -- the number is 0 if and only if the answer is one that accepts
-  audit-accepts : (r .number ≡ 0) ↔ ((p : Report) × (audit.auditOf (diskOf s) s n ≡ audited.Accepted p))
-  audit-accepts = rw (a .answer) (audit-numbers.zero-exactly (diskOf s) s n _ claim′ (a .call))
+  audit-accepts : (r .number ≡ 0) ↔ ((p : Report) × (audit.auditOf (diskOf b s) s n ≡ audited.Accepted p))
+  audit-accepts = rw (a .answer) (audit-numbers.zero-exactly (diskOf b s) s n _ claim′ (a .call))
 
-  -- the number is 0 if and only if there is a claim byte for each block and the image is a volume of its tag's kind
-  pub audit-zero : (r .number ≡ 0) ↔ ((1760 ≤ n) × IsVolume s)
-  audit-zero = (there, λ (h, v). audit-accepts .1 (auditing.accepted-volume s n h .1 v))
+  -- the number is 0 if and only if there is a claim byte for each block and the image is a volume of a disk
+  -- that exists and is named
+  pub audit-zero : (r .number ≡ 0) ↔ ((claimBytes (diskOf b s) ≤ n) × IsVolume b s)
+  audit-zero = (there, λ (h, v). audit-accepts .1 (auditing.accepted-volume b s n h .1 v))
     where
-      there : r .number ≡ 0 → (1760 ≤ n) × IsVolume s
+      there : r .number ≡ 0 → (claimBytes (diskOf b s) ≤ n) × IsVolume b s
       there z =
           let x = audit-accepts .0 z in
-          let h : 1760 ≤ n = answers-exactly (diskOf s) s n (audited.Accepted (x .0)) .0 (x .1) .opened .room in
-          (h, auditing.accepted-volume s n h .0 x)
+          let q = answers-exactly (diskOf b s) s n (audited.Accepted (x .0)) .0 (x .1) in
+          let h : claimBytes (diskOf b s) ≤ n = q .opened .room in
+          (h, auditing.accepted-volume b s n h .0 x)
 
   -- with a claim byte for each block: if and only if the image is a volume
-  pub audit-volume : 1760 ≤ n → (r .number ≡ 0) ↔ IsVolume s
+  pub audit-volume : claimBytes (diskOf b s) ≤ n → (r .number ≡ 0) ↔ IsVolume b s
   audit-volume h = (λ z. audit-zero .0 z .1, λ v. audit-zero .1 (h, v))
 
   -- another number v is given at place k if and only if its test says so
-  pub audit-refused-at : (v k : ℕ) → v ≢ 0 → ((r .number ≡ v) × (r .place ≡ k)) ↔ Says (diskOf s) s n v k (testOf v)
+  pub audit-refused-at : (v k : ℕ) → v ≢ 0 → ((r .number ≡ v) × (r .place ≡ k)) ↔ Says (diskOf b s) s n v k (testOf v)
   audit-refused-at v k z =
-      rw (a .answer) (chain (audit-says (audit.auditOf (diskOf s) s n) v k z)
-      (audit-refusing.refused-exactly (diskOf s) s n v k))
+      rw (a .answer) (Iff·trans (audit-says (audit.auditOf (diskOf b s) s n) v k z)
+      (audit-refusing.refused-exactly (diskOf b s) s n v k))
 
-  -- 3 if and only if length and claim area are right, and the image has the boot tag of no kind
+  -- 1 if and only if no disk fits
+  pub audit-unfit : (k : ℕ) → ((r .number ≡ fault.imageLength) × (r .place ≡ k)) ↔ ((k ≡ 0) × Unfit b s)
+  audit-unfit k =
+      rw (a .answer) (Iff·trans (audit-says (audit.auditOf (diskOf b s) s n) fault.imageLength k (λ e. omega arith))
+      (audit-refusing.refused-unfit b s n k))
+
+  -- 3 if and only if the disk fits, the claim area is long enough, and the image has the boot tag of no disk
   pub audit-no-tag : (k : ℕ)
       → ((r .number ≡ fault.bootTag) × (r .place ≡ k))
-      ↔ ((k ≡ 0) × (length s ≡ 901120) × (1760 ≤ n) × NoTag s)
+      ↔ ((k ≡ 0) × Fits b s (diskOf b s) × (claimBytes (diskOf b s) ≤ n) × NoTag s)
   audit-no-tag k =
-      rw (a .answer) (chain (audit-says (audit.auditOf (diskOf s) s n) fault.bootTag k (λ e. omega arith))
-      (audit-refusing.refused-tag s n k))
+      rw (a .answer) (Iff·trans (audit-says (audit.auditOf (diskOf b s) s n) fault.bootTag k (λ e. omega arith))
+      (audit-refusing.refused-tag b s n k))
 
   -- the number is 0 or one of these
   pub audit-number : r .number ∈ (0 ∷ audit.auditRefusals)
   audit-number =
-      rw (a .answer) (go (audit.auditOf (diskOf s) s n) (audit-numbers.number-listed (diskOf s) s n _ claim′ (a .call)))
+      rw (a .answer) (go (audit.auditOf (diskOf b s) s n)
+      (audit-numbers.number-listed (diskOf b s) s n _ claim′ (a .call)))
     where
       go : (x : Audited) → ((f : Refusal) → x ≡ audited.Refused f → audit.numbersOf x .number ∈ audit.auditRefusals)
           → auditNumbers x .number ∈ (0 ∷ audit.auditRefusals)
@@ -123,9 +128,9 @@ module _ (s : List ℕ) (n : ℕ) (r : AuditNumbers) (claim′ : List ℕ) (a : 
   pub audit-refused : r .number ≢ 0
       → (claim′ ≡ replicate n 0) × (r .directories ≡ 0) × (r .files ≡ 0) × (r .«list_blocks» ≡ 0)
       × (r .«data_blocks» ≡ 0) × (r .used ≡ 0) × (r .free ≡ 0)
-  audit-refused z = go (audit.auditOf (diskOf s) s n) refl (a .call .claim)
+  audit-refused z = go (audit.auditOf (diskOf b s) s n) refl (a .call .claim)
     where
-      go : (x : Audited) → audit.auditOf (diskOf s) s n ≡ x → claim′ ≡ audit.claimAfter (diskOf s) s x n
+      go : (x : Audited) → audit.auditOf (diskOf b s) s n ≡ x → claim′ ≡ audit.claimAfter (diskOf b s) s x n
           → (claim′ ≡ replicate n 0) × (r .directories ≡ 0) × (r .files ≡ 0) × (r .«list_blocks» ≡ 0)
           × (r .«data_blocks» ≡ 0) × (r .used ≡ 0) × (r .free ≡ 0)
       go (audited.Accepted p) e c = absurd (z (audit-accepts .1 (p, e)))
@@ -146,61 +151,69 @@ find-says x v k z = (there x, λ e. rw e (refl, refl))
     there (found.Refused f) (a, b) = ap₂ lookup.refuse a b
 
 -- the path leads to the directory of that key, with so many entries compared
-abbrev pub FindsDirectory : List ℕ → List ℕ → FindNumbers → Type 0
-FindsDirectory s path r =
-    let d = diskOf s in
+abbrev pub FindsDirectory : ℕ → List ℕ → List ℕ → FindNumbers → Type 0
+FindsDirectory b s path r =
+    let d = diskOf b s in
     (r .kind ≡ 2) × (r .size ≡ 0) × lookups.Opened d s path × Trail d s (rootOf d) (components path) (r .key)
     (r .compared)
 
 -- or to the file of that key and size
-abbrev pub FindsFile : List ℕ → List ℕ → FindNumbers → Type 0
-FindsFile s path r = (r .kind ≡ 0xFFFFFFFD) × lookups.IsFile (diskOf s) s path (r .key) (r .size) (r .compared)
+abbrev pub FindsFile : ℕ → List ℕ → List ℕ → FindNumbers → Type 0
+FindsFile b s path r = (r .kind ≡ 0xFFFFFFFD) × lookups.IsFile (diskOf b s) s path (r .key) (r .size) (r .compared)
 
-module _ (s path : List ℕ) (r : FindNumbers) (a : r ≡ findInImage s path) where
-  finds : lookup.Finds (diskOf s) s path (lookup.findOf (diskOf s) s path)
+module _ (b : ℕ) (s path : List ℕ) (r : FindNumbers) (a : r ≡ findInImage b s path) where
+  finds : lookup.Finds (diskOf b s) s path (lookup.findOf (diskOf b s) s path)
   finds = record { answer = refl; numbers = refl }
 
   -- the number is 0 if and only if the answer is a directory or a file
   find-answers : (r .number ≡ 0)
-      ↔ (((k : ℕ) × (c : ℕ) × (lookup.findOf (diskOf s) s path ≡ found.Directory k c))
-      ⊎ ((k : ℕ) × (z : ℕ) × (c : ℕ) × (lookup.findOf (diskOf s) s path ≡ found.File k z c)))
-  find-answers = rw a (lookup-numbers.zero-exactly (diskOf s) s path _ finds)
+      ↔ (((k : ℕ) × (c : ℕ) × (lookup.findOf (diskOf b s) s path ≡ found.Directory k c))
+      ⊎ ((k : ℕ) × (z : ℕ) × (c : ℕ) × (lookup.findOf (diskOf b s) s path ≡ found.File k z c)))
+  find-answers = rw a (lookup-numbers.zero-exactly (diskOf b s) s path _ finds)
 
   -- the number is 0 if and only if the path leads to a directory or to a file
-  pub find-zero : (r .number ≡ 0) ↔ (FindsDirectory s path r ⊎ FindsFile s path r)
+  pub find-zero : (r .number ≡ 0) ↔ (FindsDirectory b s path r ⊎ FindsFile b s path r)
   find-zero = (λ z. there (find-answers .0 z), back)
     where
-      there : ((k : ℕ) × (c : ℕ) × (lookup.findOf (diskOf s) s path ≡ found.Directory k c))
-          ⊎ ((k : ℕ) × (z : ℕ) × (c : ℕ) × (lookup.findOf (diskOf s) s path ≡ found.File k z c))
-          → FindsDirectory s path r ⊎ FindsFile s path r
+      there : ((k : ℕ) × (c : ℕ) × (lookup.findOf (diskOf b s) s path ≡ found.Directory k c))
+          ⊎ ((k : ℕ) × (z : ℕ) × (c : ℕ) × (lookup.findOf (diskOf b s) s path ≡ found.File k z c))
+          → FindsDirectory b s path r ⊎ FindsFile b s path r
       there (inl (k, c, e)) =
-          let q = finding.directory-exactly (diskOf s) s path k c .0 e in
+          let q = finding.directory-exactly (diskOf b s) s path k c .0 e in
           inl (rw (a ∙ ap findNumbers e) (refl, refl, q .0, q .1))
       there (inr (k, z, c, e)) =
-          let q = finding.file-exactly (diskOf s) s path k z c .0 e in inr (rw (a ∙ ap findNumbers e) (refl, q))
+          let q = finding.file-exactly (diskOf b s) s path k z c .0 e in inr (rw (a ∙ ap findNumbers e) (refl, q))
 
-      back : FindsDirectory s path r ⊎ FindsFile s path r → r .number ≡ 0
+      back : FindsDirectory b s path r ⊎ FindsFile b s path r → r .number ≡ 0
       back (inl (i, j, o, t)) =
-          find-answers .1 (inl (_, _, finding.directory-exactly (diskOf s) s path (r .key) (r .compared) .1 (o, t)))
+          find-answers .1 (inl (_, _, finding.directory-exactly (diskOf b s) s path (r .key) (r .compared) .1 (o, t)))
       back (inr (i, f)) =
-          find-answers .1 (inr (_, _, _, finding.file-exactly (diskOf s) s path (r .key) (r .size) (r .compared) .1 f))
+          let e = finding.file-exactly (diskOf b s) s path (r .key) (r .size) (r .compared) .1 f in
+          find-answers .1 (inr (_, _, _, e))
 
   -- another number v is given at place k if and only if `Refuses` holds of them
-  pub find-refused-at : (v k : ℕ) → v ≢ 0 → ((r .number ≡ v) × (r .place ≡ k)) ↔ lookups.Refuses (diskOf s) s path v k
+  pub find-refused-at : (v k : ℕ) → v ≢ 0 → ((r .number ≡ v) × (r .place ≡ k)) ↔ lookups.Refuses (diskOf b s) s path v k
   find-refused-at v k z =
-      rw a (chain (find-says (lookup.findOf (diskOf s) s path) v k z) (finding.refused-exactly (diskOf s) s path v k))
+      rw a (Iff·trans (find-says (lookup.findOf (diskOf b s) s path) v k z)
+      (finding.refused-exactly (diskOf b s) s path v k))
 
-  -- 3 if and only if length and path are right, and the image has the boot tag of no kind
+  -- 1 if and only if no disk fits
+  pub find-unfit : (k : ℕ) → ((r .number ≡ fault.imageLength) × (r .place ≡ k)) ↔ ((k ≡ 0) × Unfit b s)
+  find-unfit k =
+      rw a (Iff·trans (find-says (lookup.findOf (diskOf b s) s path) fault.imageLength k (λ e. omega arith))
+      (finding.refused-unfit b s path k))
+
+  -- 3 if and only if the disk fits, the path is right, and the image has the boot tag of no disk
   pub find-no-tag : (k : ℕ)
       → ((r .number ≡ fault.bootTag) × (r .place ≡ k))
-      ↔ ((k ≡ 0) × (length s ≡ 901120) × lookups.GoodForm path × NoTag s)
+      ↔ ((k ≡ 0) × Fits b s (diskOf b s) × lookups.GoodForm path × NoTag s)
   find-no-tag k =
-      rw a (chain (find-says (lookup.findOf (diskOf s) s path) fault.bootTag k (λ e. omega arith))
-      (finding.refused-tag s path k))
+      rw a (Iff·trans (find-says (lookup.findOf (diskOf b s) s path) fault.bootTag k (λ e. omega arith))
+      (finding.refused-tag b s path k))
 
   -- the number is 0 or one of these
   pub find-number : r .number ∈ (0 ∷ lookup.findRefusals)
-  find-number = rw a (go (lookup.findOf (diskOf s) s path) (lookup-numbers.number-listed (diskOf s) s path _ finds))
+  find-number = rw a (go (lookup.findOf (diskOf b s) s path) (lookup-numbers.number-listed (diskOf b s) s path _ finds))
     where
       go : (x : Found) → ((f : Refusal) → x ≡ found.Refused f → lookup.numbersOf x .number ∈ lookup.findRefusals)
           → findNumbers x .number ∈ (0 ∷ lookup.findRefusals)
@@ -210,9 +223,9 @@ module _ (s path : List ℕ) (r : FindNumbers) (a : r ≡ findInImage s path) wh
 
   -- a refused lookup gives no values
   pub find-refused : r .number ≢ 0 → (r .kind ≡ 0) × (r .key ≡ 0) × (r .size ≡ 0) × (r .compared ≡ 0)
-  find-refused z = go (lookup.findOf (diskOf s) s path) refl
+  find-refused z = go (lookup.findOf (diskOf b s) s path) refl
     where
-      go : (x : Found) → lookup.findOf (diskOf s) s path ≡ x
+      go : (x : Found) → lookup.findOf (diskOf b s) s path ≡ x
           → (r .kind ≡ 0) × (r .key ≡ 0) × (r .size ≡ 0) × (r .compared ≡ 0)
       go (found.Directory k c) e = absurd (z (find-answers .1 (inl (k, c, e))))
       go (found.File k y c) e = absurd (z (find-answers .1 (inr (k, y, c, e))))
@@ -229,41 +242,49 @@ read-says x v k z = (there x, λ e. rw e (refl, refl))
     there (reading.Bytes n) (a, b) = absurd (z (sym a))
     there (reading.Refused f) (a, b) = ap₂ read.refuse a b
 
-module _ (s path : List ℕ) (o : ℕ) (output : List ℕ) (r : ReadNumbers) (output′ : List ℕ)
-    (a : ReadsImage s path o output r output′) where
+module _ (b : ℕ) (s path : List ℕ) (o : ℕ) (output : List ℕ) (r : ReadNumbers) (output′ : List ℕ)
+    (a : ReadsImage b s path o output r output′) where
   -- the number is 0 if and only if the answer is a number of bytes
-  read-answers : (r .number ≡ 0) ↔ ((n : ℕ) × (read.readOf (diskOf s) s path o (length output) ≡ reading.Bytes n))
-  read-answers = rw (a .answer) (read-numbers.zero-exactly (diskOf s) s path o output _ output′ (a .call))
+  read-answers : (r .number ≡ 0) ↔ ((n : ℕ) × (read.readOf (diskOf b s) s path o (length output) ≡ reading.Bytes n))
+  read-answers = rw (a .answer) (read-numbers.zero-exactly (diskOf b s) s path o output _ output′ (a .call))
 
   -- the number is 0 if and only if the path leads to a whole file, of which so many bytes are given
-  pub read-zero : (r .number ≡ 0) ↔ outcomes.Gives (diskOf s) s path o (length output) (r .count)
-  read-zero = (there, λ g. read-answers .1 (_, read-exactly (diskOf s) s path o (length output) (r .count) .1 g))
+  pub read-zero : (r .number ≡ 0) ↔ outcomes.Gives (diskOf b s) s path o (length output) (r .count)
+  read-zero = (there, λ g. read-answers .1 (_, read-exactly (diskOf b s) s path o (length output) (r .count) .1 g))
     where
-      there : r .number ≡ 0 → outcomes.Gives (diskOf s) s path o (length output) (r .count)
+      there : r .number ≡ 0 → outcomes.Gives (diskOf b s) s path o (length output) (r .count)
       there z =
           let x = read-answers .0 z in
-          rw (a .answer ∙ ap readNumbers (x .1)) (read-exactly (diskOf s) s path o (length output) (x .0) .0 (x .1))
+          rw (a .answer ∙ ap readNumbers (x .1)) (read-exactly (diskOf b s) s path o (length output) (x .0) .0 (x .1))
 
   -- another number v is given at place k if and only if `Refuses` holds of them
-  pub read-refused-at : (v k : ℕ) → v ≢ 0 → ((r .number ≡ v) × (r .place ≡ k)) ↔ outcomes.Refuses (diskOf s) s path v k
+  pub read-refused-at : (v k : ℕ) → v ≢ 0
+      → ((r .number ≡ v) × (r .place ≡ k)) ↔ outcomes.Refuses (diskOf b s) s path v k
   read-refused-at v k z =
-      rw (a .answer) (chain (read-says (read.readOf (diskOf s) s path o (length output)) v k z)
-      (unread.refused-exactly (diskOf s) s path o (length output) v k))
+      rw (a .answer) (Iff·trans (read-says (read.readOf (diskOf b s) s path o (length output)) v k z)
+      (unread.refused-exactly (diskOf b s) s path o (length output) v k))
 
-  -- 3 if and only if length and path are right, and the image has the boot tag of no kind
+  -- 1 if and only if no disk fits
+  pub read-unfit : (k : ℕ) → ((r .number ≡ fault.imageLength) × (r .place ≡ k)) ↔ ((k ≡ 0) × Unfit b s)
+  read-unfit k =
+      rw (a .answer)
+      (Iff·trans (read-says (read.readOf (diskOf b s) s path o (length output)) fault.imageLength k (λ e. omega arith))
+      (unread.refused-unfit b s path o (length output) k))
+
+  -- 3 if and only if the disk fits, the path is right, and the image has the boot tag of no disk
   pub read-no-tag : (k : ℕ)
       → ((r .number ≡ fault.bootTag) × (r .place ≡ k))
-      ↔ ((k ≡ 0) × (length s ≡ 901120) × lookups.GoodForm path × NoTag s)
+      ↔ ((k ≡ 0) × Fits b s (diskOf b s) × lookups.GoodForm path × NoTag s)
   read-no-tag k =
       rw (a .answer)
-      (chain (read-says (read.readOf (diskOf s) s path o (length output)) fault.bootTag k (λ e. omega arith))
-      (unread.refused-tag s path o (length output) k))
+      (Iff·trans (read-says (read.readOf (diskOf b s) s path o (length output)) fault.bootTag k (λ e. omega arith))
+      (unread.refused-tag b s path o (length output) k))
 
   -- the number is 0 or one of these
   pub read-number : r .number ∈ (0 ∷ read.readRefusals)
   read-number =
-      rw (a .answer) (go (read.readOf (diskOf s) s path o (length output))
-      (read-numbers.number-listed (diskOf s) s path o output _ output′ (a .call)))
+      rw (a .answer) (go (read.readOf (diskOf b s) s path o (length output))
+      (read-numbers.number-listed (diskOf b s) s path o output _ output′ (a .call)))
     where
       go : (x : Reading) → ((f : Refusal) → x ≡ reading.Refused f → read.numbersOf x .number ∈ read.readRefusals)
           → readNumbers x .number ∈ (0 ∷ read.readRefusals)
@@ -272,10 +293,10 @@ module _ (s path : List ℕ) (o : ℕ) (output : List ℕ) (r : ReadNumbers) (ou
 
   -- a refused read leaves the output
   pub read-refused : r .number ≢ 0 → (output′ ≡ output) × (r .count ≡ 0)
-  read-refused z = go (read.readOf (diskOf s) s path o (length output)) refl (a .call .left)
+  read-refused z = go (read.readOf (diskOf b s) s path o (length output)) refl (a .call .left)
     where
-      go : (x : Reading) → read.readOf (diskOf s) s path o (length output) ≡ x
-          → output′ ≡ read.outputAfter (diskOf s) s path o output x → (output′ ≡ output) × (r .count ≡ 0)
+      go : (x : Reading) → read.readOf (diskOf b s) s path o (length output) ≡ x
+          → output′ ≡ read.outputAfter (diskOf b s) s path o output x → (output′ ≡ output) × (r .count ≡ 0)
       go (reading.Bytes n) e c = absurd (z (read-answers .1 (n, e)))
       go (reading.Refused f) e c = let q = a .answer ∙ ap readNumbers e in (c, rw q refl)
 
@@ -327,7 +348,7 @@ module _ (file : List ℕ) (r : ProgramNumbers) (a : r ≡ checkNumbers file) wh
   -- another number v is given at place k if and only if `Says` holds of them
   pub check-refused-at : (v k : ℕ) → v ≢ 0 → ((r .number ≡ v) × (r .place ≡ k)) ↔ Faults file (refusal v k)
   check-refused-at v k z =
-      rw a (chain (program-says (checkOf file) v k z) (refused-exactly file (refusal v k)))
+      rw a (Iff·trans (program-says (checkOf file) v k z) (refused-exactly file (refusal v k)))
 
   -- the number is 0 or one of these
   pub check-number : r .number ∈ (0 ∷ checkRefusals)
@@ -374,7 +395,7 @@ module _ (file m : List ℕ) (t : List Hunk) (w : List ℕ) (r : ProgramNumbers)
         → ((r .number ≡ v) × (r .place ≡ k)) ↔ CallWhy file (bases ∷ []) (length m) (length t) (length w)
         (refusal v k)
     load-refused-at v k z =
-        rw (a .answer) (chain (program-says (loadsAs file m t w bases) v k z)
+        rw (a .answer) (Iff·trans (program-says (loadsAs file m t w bases) v k z)
         (verdicts.load-refused file bases (length m) (length t) (length w) (refusal v k)))
 
     -- the number is 0 or one of these
@@ -419,7 +440,7 @@ module _ (file m : List ℕ) (t : List Hunk) (w : List ℕ) (r : ProgramNumbers)
         → ((r .number ≡ v) × (r .place ≡ k)) ↔ CallWhy file (old ∷ new ∷ []) (length m) (length t) (length w)
         (refusal v k)
     move-refused-at v k z =
-        rw (a .answer) (chain (program-says (movesAs file m t w old new) v k z)
+        rw (a .answer) (Iff·trans (program-says (movesAs file m t w old new) v k z)
         (verdicts.move-refused file old new (length m) (length t) (length w) (refusal v k)))
 
     -- the number is 0 or one of these

@@ -47,15 +47,18 @@ readNumbers a =
 
 -- ---- the promises: those of the call that it makes, and its answer's numbers
 
--- of an audit of image s with a claim area of n bytes
-pub record AuditsImage (s : List ℕ) (n : ℕ) (r : AuditNumbers) (claim′ : List ℕ) : Type 0 where
-  pub answer : r ≡ auditNumbers (audit.auditOf (diskOf s) s n)
-  pub call : audit.Audits (diskOf s) s n (audit.auditOf (diskOf s) s n) claim′
+-- Each call is lent an image s and names a number b of blocks.
 
-abbrev pub findInImage : List ℕ → List ℕ → FindNumbers
-findInImage s path = findNumbers (lookup.findOf (diskOf s) s path)
+-- of an audit with a claim area of n bytes
+pub record AuditsImage (b : ℕ) (s : List ℕ) (n : ℕ) (r : AuditNumbers) (claim′ : List ℕ) : Type 0 where
+  pub answer : r ≡ auditNumbers (audit.auditOf (diskOf b s) s n)
+  pub call : audit.Audits (diskOf b s) s n (audit.auditOf (diskOf b s) s n) claim′
+
+abbrev pub findInImage : ℕ → List ℕ → List ℕ → FindNumbers
+findInImage b s path = findNumbers (lookup.findOf (diskOf b s) s path)
 
 -- of a read at offset o
-pub record ReadsImage (s path : List ℕ) (o : ℕ) (output : List ℕ) (r : ReadNumbers) (output′ : List ℕ) : Type 0 where
-  pub answer : r ≡ readNumbers (read.readOf (diskOf s) s path o (length output))
-  pub call : read.Reads (diskOf s) s path o output (read.readOf (diskOf s) s path o (length output)) output′
+pub record ReadsImage (b : ℕ) (s path : List ℕ) (o : ℕ) (output : List ℕ) (r : ReadNumbers) (output′ : List ℕ)
+    : Type 0 where
+  pub answer : r ≡ readNumbers (read.readOf (diskOf b s) s path o (length output))
+  pub call : read.Reads (diskOf b s) s path o output (read.readOf (diskOf b s) s path o (length output)) output′

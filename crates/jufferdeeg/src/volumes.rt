@@ -115,32 +115,34 @@ fn read_numbers(a: Reading) -> ReadNumbers
     }
 }
 
-// Audits the image of an 880 KB floppy of the kind that its boot tag names.
+// Audits an image: that of a disk of the `named` number of blocks, or of either size where 0 is named, and of the kind
+// that its boot tag names.
 #[no_mangle]
-pub extern "C" fn jufferdeeg_audit(image: &[u8], claim: &mut [u8]) -> AuditNumbers
-    ensures { λ r. ⌜ AuditsImage (now (image .entry)) (length (now (claim .entry))) r (now (claim .exit)) ⌝ }
+pub extern "C" fn jufferdeeg_audit(named: u32, image: &[u8], claim: &mut [u8]) -> AuditNumbers
+    ensures { λ r. ⌜ AuditsImage named (now (image .entry)) (length (now (claim .entry))) r (now (claim .exit)) ⌝ }
 {
-    audit_numbers(audit::audit::audit(image, claim))
+    audit_numbers(audit::audit::audit(named, image, claim))
 }
 
-// What a path leads to on such a floppy.
+// What a path leads to on such an image.
 #[no_mangle]
-pub extern "C" fn jufferdeeg_find(image: &[u8], path: &[u8]) -> FindNumbers
-    ensures { λ r. ⌜ r ≡ findInImage (now (image .entry)) (now (path .entry)) ⌝ }
+pub extern "C" fn jufferdeeg_find(named: u32, image: &[u8], path: &[u8]) -> FindNumbers
+    ensures { λ r. ⌜ r ≡ findInImage named (now (image .entry)) (now (path .entry)) ⌝ }
 {
-    find_numbers(lookup::find::find(image, path))
+    find_numbers(lookup::find::find(named, image, path))
 }
 
-// Reads a file of such a floppy from an offset on.
+// Reads a file of such an image from an offset on.
 #[no_mangle]
 pub extern "C" fn jufferdeeg_read(
+    named: u32,
     image: &[u8],
     path: &[u8],
     offset: usize,
     output: &mut [u8],
 ) -> ReadNumbers
-    ensures { λ r. ⌜ ReadsImage (now (image .entry)) (now (path .entry)) offset (now (output .entry)) r
+    ensures { λ r. ⌜ ReadsImage named (now (image .entry)) (now (path .entry)) offset (now (output .entry)) r
         (now (output .exit)) ⌝ }
 {
-    read_numbers(reading::read::read(image, path, offset, output))
+    read_numbers(reading::read::read(named, image, path, offset, output))
 }

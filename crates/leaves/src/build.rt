@@ -1,6 +1,7 @@
 // An image of eight blocks, in which a block of each kind is built.
 use volume::block::Block;
 use volume::block::sum_of;
+use volume::disk::Disk;
 ghost use Prim.Native.Nat.{_<_};
 
 // How long the image is.
@@ -8,6 +9,14 @@ pub const IMAGE: usize = 4096;
 
 // The word that mends a block's sum.
 const SUM: usize = 5;
+
+// A disk of 880 KB and any kind.
+pub fn floppy(kind: u8) -> Disk {
+    Disk {
+        blocks: Disk::DOUBLE_DENSITY,
+        kind: kind,
+    }
+}
 
 // Stores word w of a block.
 pub fn put(image: &mut [u8; IMAGE], key: u32, w: usize, value: u32)

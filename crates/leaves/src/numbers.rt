@@ -2,6 +2,7 @@
 use crate::build::IMAGE;
 use crate::build::block;
 use crate::build::fill;
+use crate::build::floppy;
 use crate::build::mend;
 use console::say;
 use volume::bitmap::Bit;
@@ -11,7 +12,7 @@ use volume::block::sum_of;
 use volume::disk::Disk;
 use volume::file;
 ghost use Prim.Native.Nat.{_<_, _≤_};
-ghost use Rattle.volume.specs.Disks.{Sized};
+ghost use Rattle.volume.specs.Disks.{Sized, mostBlocks};
 
 // The words at 0, 2 and 4, where the middle one straddles the others.
 fn three(bytes: &[u8; 8]) {
@@ -93,6 +94,7 @@ pub fn bits() {
     bit(34);
     bit(880);
     bit(1759);
+    bit(3519);
     free(28, 0x4000, 848);
     free(28, 0x4000, 879);
     free(28, 0x4000, 880);
@@ -122,9 +124,10 @@ fn size(disk: Disk, bytes: u32)
     }
 }
 
+// The files of a disk: none, and 1, 72, 73, 144 and 145 data blocks; the largest.
 pub fn sizes() {
     let disk = Disk {
-        blocks: 1760,
+        blocks: 3520,
         kind: 0,
     };
     size(disk, 0);
@@ -136,12 +139,14 @@ pub fn sizes() {
     size(disk, 70272);
     size(disk, 70273);
     size(disk, 856440);
+    size(disk, 856441);
+    size(disk, 1715320);
 }
 
 // On a disk of the Fast File System.
 pub fn fast_sizes() {
     let disk = Disk {
-        blocks: 1760,
+        blocks: 3520,
         kind: 1,
     };
     size(disk, 0);
@@ -153,16 +158,18 @@ pub fn fast_sizes() {
     size(disk, 73728);
     size(disk, 73729);
     size(disk, 898560);
+    size(disk, 898561);
+    size(disk, 1799680);
 }
 
 // The bytes that data block n of a file holds.
 fn hold(bytes: u32, n: u32)
-    requires { ⌜ (1 ≤ n) × (n < 1760) ⌝ }
+    requires { ⌜ (1 ≤ n) × (n ≤ mostBlocks) ⌝ }
 {
     say::text(b"held");
     say::number(bytes);
     say::number(n);
-    say::number(Disk::floppy(Disk::OLD).held(bytes, n));
+    say::number(floppy(Disk::OLD).held(bytes, n));
     say::end();
 }
 
@@ -177,12 +184,19 @@ pub fn held() {
     hold(35137, 73);
     hold(856439, 1755);
     hold(856440, 1755);
+    hold(1715320, 3515);
 }
 
-fn key(k: u32) {
+// Whether a key is one of a disk of so many blocks.
+fn key(blocks: u32, k: u32) {
+    let disk = Disk {
+        blocks: blocks,
+        kind: 0,
+    };
     say::text(b"key");
+    say::number(blocks);
     say::number(k);
-    say::truth(Disk::floppy(Disk::OLD).in_range(k));
+    say::truth(disk.in_range(k));
     say::end();
 }
 
@@ -191,70 +205,91 @@ fn tagged(a: u8, b: u8, c: u8, d: u8) {
     let bytes = [a, b, c, d];
     say::text(b"tagged");
     say::word(words::word(&bytes, 0));
-    say::truth(Disk::floppy(Disk::OLD).has_tag(&bytes));
-    say::truth(Disk::floppy(Disk::FAST).has_tag(&bytes));
-    say::truth(Disk::floppy(Disk::OLD_INTERNATIONAL).has_tag(&bytes));
-    say::truth(Disk::floppy(Disk::FAST_INTERNATIONAL).has_tag(&bytes));
-    say::number(Disk::of(&bytes).kind as u32);
+    say::truth(floppy(Disk::OLD).has_tag(&bytes));
+    say::truth(floppy(Disk::FAST).has_tag(&bytes));
+    say::truth(floppy(Disk::OLD_INTERNATIONAL).has_tag(&bytes));
+    say::truth(floppy(Disk::FAST_INTERNATIONAL).has_tag(&bytes));
+    say::number(Disk::of(0, &bytes).kind as u32);
     say::end();
 }
 
-fn limits() {
-    let disk = Disk {
-        blocks: 1760,
-        kind: 0,
-    };
-    say::text(b"bit span");
-    say::number(disk.bit_span());
-    say::text(b"\nchain limit");
-    say::number(disk.chain_limit());
-    say::end();
-}
-
-// How many bytes of a file a data block holds, where they begin, and the largest size of a file.
-fn data(disk: Disk)
+// The numbers of a disk: its blocks and kind; image bytes, claim bytes, root, blocks with a bit, entries on a chain;
+// how many bytes of a file a data block holds, where they begin, and the largest size of a file.
+fn numbers(disk: Disk)
     requires { ⌜ Sized disk ⌝ }
 {
-    say::text(b"data");
+    say::text(b"disk");
+    say::number(disk.blocks);
     say::number(disk.kind as u32);
+    say::count(disk.image_bytes());
+    say::count(disk.claim_bytes());
+    say::number(disk.root());
+    say::number(disk.bit_span());
+    say::number(disk.chain_limit());
     say::number(disk.data_bytes());
     say::number(disk.data_start());
     say::number(disk.file_limit());
     say::end();
 }
 
-pub fn disk() {
-    let disk = Disk::floppy(Disk::OLD);
-    say::text(b"blocks");
-    say::number(disk.blocks);
-    say::text(b"\nroot");
-    say::number(disk.root());
-    say::text(b"\nimage bytes");
-    say::count(disk.image_bytes());
-    say::text(b"\nclaim bytes");
-    say::count(disk.claim_bytes());
-    say::end();
-    limits();
-    data(Disk {
-        blocks: 1760,
+// The disks of each kind that have so many blocks.
+fn of_size(blocks: u32)
+    requires { ⌜ (8 ≤ blocks) × (blocks ≤ mostBlocks) ⌝ }
+{
+    numbers(Disk {
+        blocks: blocks,
         kind: 0,
     });
-    data(Disk {
-        blocks: 1760,
+    numbers(Disk {
+        blocks: blocks,
         kind: 1,
     });
-    data(Disk {
-        blocks: 1760,
+    numbers(Disk {
+        blocks: blocks,
         kind: 2,
     });
-    data(Disk {
-        blocks: 1760,
+    numbers(Disk {
+        blocks: blocks,
         kind: 3,
     });
+}
+
+// The size that a call which names a number takes an image for.
+fn taken(named: u32, image: &[u8]) {
+    say::text(b"taken");
+    say::number(named);
+    say::count(image.len());
+    say::number(Disk::of(named, image).blocks);
+    say::end();
+}
+
+// Named in turn: none, each size, and a number that is no size.
+fn all_named(image: &[u8]) {
+    taken(0, image);
+    taken(1760, image);
+    taken(3520, image);
+    taken(880, image);
+}
+
+// The same of an image of so many bytes.
+fn named(bytes: isize, room: &[u8]) {
+    let n = io::count(bytes, room);
+    all_named(&room[..n]);
+}
+
+pub fn disk() {
+    of_size(1760);
+    of_size(3520);
+    let room = console::rooms::image();
+    named(1802240, &room);
+    named(1802239, &room);
+    named(901121, &room);
+    named(901120, &room);
+    named(0, &room);
     say::text(b"place 880 w127");
     say::count(Block::byte(880, 127));
     say::text(b"\ntag");
-    say::word(disk.tag());
+    say::word(floppy(Disk::OLD).tag());
     say::end();
     tagged(0x44, 0x4F, 0x53, 0x00);
     tagged(0x44, 0x4F, 0x53, 0x01);
@@ -265,10 +300,14 @@ pub fn disk() {
     tagged(0x44, 0x4F, 0x73, 0x00);
     tagged(0x44, 0x4F, 0x73, 0x02);
     tagged(0x00, 0x53, 0x4F, 0x44);
-    key(0);
-    key(1);
-    key(2);
-    key(1759);
-    key(1760);
-    key(0xFFFFFFFF);
+    key(1760, 0);
+    key(1760, 1);
+    key(1760, 2);
+    key(1760, 1759);
+    key(1760, 1760);
+    key(1760, 0xFFFFFFFF);
+    key(3520, 1);
+    key(3520, 2);
+    key(3520, 3519);
+    key(3520, 3520);
 }

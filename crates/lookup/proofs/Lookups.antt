@@ -206,5 +206,6 @@ module _ (d : Disk) (s path : List ℕ) (n : ℕ) (e : n ≡ imageBytes d) where
 
 -- ---- the disk that the image is taken for
 
-pub on-disk : (d : Disk) (s path : List ℕ) (r : Found) → d ≡ diskOf s → r ≡ findOf d s path → Finds (diskOf s) s path r
-on-disk d s path r e f = let g = rw e at f in record { answer = g; numbers = ap numbersOf g }
+pub on-disk : (b : ℕ) (d : Disk) (s path : List ℕ) (r : Found) → d ≡ diskOf b s → r ≡ findOf d s path
+    → Finds (diskOf b s) s path r
+on-disk b d s path r e f = let g = rw e at f in record { answer = g; numbers = ap numbersOf g }

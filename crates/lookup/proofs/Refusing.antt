@@ -16,10 +16,10 @@ use Rattle.answers.proofs.Clashes.{impossible}
 use Rattle.answers.proofs.Members.{unlisted}
 use Rattle.words.specs.Word.{wordAt}
 use Rattle.volume.specs.declared.disk.Disk.{Disk}
-use Rattle.volume.specs.Disks.{imageBytes, tagOf, rootOf, inRange, chainLimit, diskOf, NoTag}
+use Rattle.volume.specs.Disks.{imageBytes, tagOf, rootOf, inRange, chainLimit, diskOf, Fits, Unfit, NoTag}
 use Rattle.volume.specs.Names.{slotOf}
 use Rattle.volume.specs.Rules.{rootFault, entryFault}
-use Rattle.volume.proofs.Tags.{no-tag}
+use Rattle.volume.proofs.Disks.{long-fits, unfit, no-tag}
 use Rattle.volume.proofs.Breaks.{root-breaks, entry-breaks, key-inside, key-outside}
 use Rattle.volume.proofs.Given.{rootRefusals, entryRefusals, root-number, entry-number}
 use Rattle.lookup.specs.declared.find.Found.the-variants.{Directory, File}
@@ -200,6 +200,21 @@ module _ (d : Disk) (s path : List ℕ) where
       go (number-19 h a) = absurd (omega arith)
       go (number-20 h a) = h
 
+  -- 1 if and only if the image has another length.
+  pub length-exactly : (k : ℕ) → (findOf d s path ≡ refuse fault.imageLength k) ↔ ((k ≡ 0) × (length s ≢ imageBytes d))
+  length-exactly k = ((λ e. go (refused-exactly 1 k .0 e)), (λ (q, h). refused-exactly 1 k .1 (number-1 h refl q)))
+    where
+      go : Refuses d s path 1 k → (k ≡ 0) × (length s ≢ imageBytes d)
+      go (number-1 h a b) = (b, h)
+      go (number-18 h f a) = absurd (omega arith)
+      go (number-3 h p u a b) = absurd (omega arith)
+      go (of-root h p u z b) = unlisted rootRefusals 1 1 tt (root-number z) refl
+      go (number-5 h y a) = absurd (omega arith)
+      go (number-6 h y l a) = absurd (omega arith)
+      go (of-entry h y l z) = unlisted entryRefusals 1 1 tt (entry-number z) refl
+      go (number-19 h a) = absurd (omega arith)
+      go (number-20 h a) = absurd (omega arith)
+
   -- 3 if and only if length and path are right, and the image has not the disk's tag.
   pub untagged-exactly : (k : ℕ)
       → (findOf d s path ≡ refuse fault.bootTag k)
@@ -278,11 +293,17 @@ module _ (d : Disk) (s path : List ℕ) where
       go (leads-to o (missing w p f q)) e = impossible cc
       go (leads-to o (failing w p f q)) e = impossible cc
 
--- On the disk that the image is taken for: 3 if and only if it has the boot tag of no kind.
-pub refused-tag : (s path : List ℕ) (k : ℕ)
-    → (findOf (diskOf s) s path ≡ refuse fault.bootTag k)
-    ↔ ((k ≡ 0) × (length s ≡ imageBytes (diskOf s)) × GoodForm path × NoTag s)
-refused-tag s path k =
-    let r = untagged-exactly (diskOf s) s path k in
-    let t = no-tag s in
-    (λ e. let (q, h, p, u) = r .0 e in (q, h, p, t .0 u), λ (q, h, p, u). r .1 (q, h, p, t .1 u))
+-- Of a call that names b: 1 if and only if no disk fits, and 3 if and only if the image has the boot tag of none.
+module _ (b : ℕ) (s path : List ℕ) (k : ℕ) where
+  pub refused-unfit : (findOf (diskOf b s) s path ≡ refuse fault.imageLength k) ↔ ((k ≡ 0) × Unfit b s)
+  refused-unfit =
+      let r = length-exactly (diskOf b s) s path k in
+      let u = unfit b s in
+      (λ e. let (q, l) = r .0 e in (q, u .0 l), λ (q, l). r .1 (q, u .1 l))
+
+  pub refused-tag : (findOf (diskOf b s) s path ≡ refuse fault.bootTag k)
+      ↔ ((k ≡ 0) × Fits b s (diskOf b s) × GoodForm path × NoTag s)
+  refused-tag =
+      let r = untagged-exactly (diskOf b s) s path k in
+      let t = no-tag b s in
+      (λ e. let (q, l, p, u) = r .0 e in (q, long-fits b s l, p, t .0 u), λ (q, f, p, u). r .1 (q, f .long, p, t .1 u))

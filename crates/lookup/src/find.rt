@@ -107,10 +107,11 @@ pub fn find_on(disk: Disk, image: &[u8], path: &[u8]) -> Found
     refused(Fault::BOOT_TAG, 0)
 }
 
-// What a path leads to on an 880 KB floppy of the kind that its boot tag names.
-pub fn find(image: &[u8], path: &[u8]) -> Found
-    ensures { λ r. ⌜ Finds (diskOf (now (image .entry))) (now (image .entry)) (now (path .entry)) r ⌝ }
+// What a path leads to on an image: that of a disk of the `named` number of blocks, or of either size where 0 is named,
+// and of the kind that its boot tag names.
+pub fn find(named: u32, image: &[u8], path: &[u8]) -> Found
+    ensures { λ r. ⌜ Finds (diskOf named (now (image .entry))) (now (image .entry)) (now (path .entry)) r ⌝ }
 {
-    let disk = Disk::of(image);
+    let disk = Disk::of(named, image);
     find_on(disk, image, path)
 }

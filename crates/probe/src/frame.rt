@@ -1,13 +1,16 @@
 // The frame of a request, bodies, and the answers that every request may get.
 use console::say;
 use libc::STDIN_FILENO;
+use volume::disk::Disk;
 
 // How many bytes `io::buffer` has.
 const PIECE: u32 = 4096;
 
-// What is kept from one request to the next: the lengths of the held image and of the held file, the bytes of memory
-// and the records that the last load was lent, and whether there may be another request.
+// What is kept from one request to the next: the number of blocks that calls name, the lengths of the held image and of
+// the held file, the bytes of memory and the records that the last load was lent, and whether there may be another
+// request.
 pub struct State {
+    pub named: u32,
     pub image: u32,
     pub file: u32,
     pub memory: u32,
@@ -15,9 +18,10 @@ pub struct State {
     pub more: bool,
 }
 
-// Before the first request nothing is held.
+// Before the first request nothing is held, and calls name double density.
 pub fn start() -> State {
     State {
+        named: Disk::DOUBLE_DENSITY,
         image: 0,
         file: 0,
         memory: 0,
@@ -27,6 +31,12 @@ pub fn start() -> State {
 }
 
 impl State {
+    // Calls name so many blocks from now on.
+    pub fn with_named(mut self, blocks: u32) -> State {
+        self.named = blocks;
+        self
+    }
+
     // An image of so many bytes is held now.
     pub fn with_image(mut self, length: u32) -> State {
         self.image = length;

@@ -14,6 +14,9 @@ use loader::table::RECORD_LENGTH;
 ghost use mathlib.Core.Path.{_≡_};
 ghost use lib.ListN.{length};
 
+// The longest program file that is held, and the longest output of a read.
+const FILE_ROOM: usize = 1048576;
+
 // The most memory, and the largest work area, that a program is lent.
 const AREA_ROOM: usize = 524288;
 
@@ -36,6 +39,8 @@ const FILE: u32 = 6;
 const LOAD: u32 = 7;
 
 const MOVE: u32 = 8;
+
+const DISK: u32 = 9;
 
 // Reads the body of a request and answers it.
 fn answer(
@@ -72,6 +77,9 @@ fn answer(
     }
     if number == MOVE {
         return programs::call(true, length, state, file, memory, table, work);
+    }
+    if number == DISK {
+        return volumes::disk(length, state);
     }
     state.refused(length)
 }
@@ -123,7 +131,14 @@ fn all(
     }
 }
 
-// Room for memory or a work area. The `ensures` gives only the length, so that no proof computes the list.
+// The rooms. An `ensures` gives only the length, so that no proof computes the list.
+fn file_room() -> [u8; FILE_ROOM]
+    ensures { λ r. ⌜ 1048576 ≡ length r ⌝ }
+{
+    [0; FILE_ROOM]
+}
+
+// For memory or a work area.
 fn area_room() -> [u8; AREA_ROOM]
     ensures { λ r. ⌜ 524288 ≡ length r ⌝ }
 {
@@ -132,8 +147,8 @@ fn area_room() -> [u8; AREA_ROOM]
 
 fn main() {
     let mut image = rooms::image();
-    let mut output = rooms::file();
-    let mut file = rooms::file();
+    let mut output = file_room();
+    let mut file = file_room();
     let mut memory = area_room();
     let mut work = area_room();
     let mut table = [0u32; TABLE_NUMBERS];

@@ -1,4 +1,4 @@
-// Requests 3, 4 and 5: the audit of the held image, its paths, and reads.
+// Requests 3, 4, 5 and 9: the audit of the held image, its paths, reads, and the number of blocks that they name.
 use crate::checksum::fill_bytes;
 use crate::checksum::of_bytes;
 use crate::frame::State;
@@ -38,9 +38,9 @@ fn say_audit(answer: Audited, claim: &[u8]) {
 }
 
 // Fills the claim area, audits the image and answers.
-fn audit_with(image: &[u8], claim: &mut [u8]) {
+fn audit_with(named: u32, image: &[u8], claim: &mut [u8]) {
     fill_bytes(claim, CLAIM);
-    let answer = audit::audit::audit(image, claim);
+    let answer = audit::audit::audit(named, image, claim);
     say_audit(answer, claim);
 }
 
@@ -58,7 +58,7 @@ pub fn audit_held(length: u32, state: State, room: &[u8]) -> State {
             return state.bad();
         }
         let held = io::count(state.image as isize, room);
-        audit_with(&room[..held], &mut claim[..n]);
+        audit_with(state.named, &room[..held], &mut claim[..n]);
         return state;
     }
     state.broken()
@@ -85,7 +85,7 @@ fn say_found(found: Found) {
 // Fills `path`, looks for it and answers.
 fn find_path(state: State, image: &[u8], path: &mut [u8]) -> State {
     if fill(path) {
-        say_found(lookup::find::find(image, path));
+        say_found(lookup::find::find(state.named, image, path));
         return state;
     }
     state.broken()
@@ -116,9 +116,9 @@ fn say_reading(reading: Reading, output: &[u8]) {
 }
 
 // Fills the output, reads and answers.
-fn read_into(image: &[u8], path: &[u8], offset: u32, output: &mut [u8]) {
+fn read_into(named: u32, image: &[u8], path: &[u8], offset: u32, output: &mut [u8]) {
     fill_bytes(output, OUTPUT);
-    let reading = reading::read::read(image, path, offset as usize, output);
+    let reading = reading::read::read(named, image, path, offset as usize, output);
     say_reading(reading, output);
 }
 
@@ -136,7 +136,7 @@ fn read_path(
         if n as u64 != asked as u64 {
             return state.bad();
         }
-        read_into(image, path, offset, &mut output[..n]);
+        read_into(state.named, image, path, offset, &mut output[..n]);
         return state;
     }
     state.broken()
@@ -175,6 +175,22 @@ pub fn read_held(length: u32, state: State, room: &[u8], output: &mut [u8]) -> S
             room,
             output,
         );
+    }
+    state.broken()
+}
+
+// Request 9: the number of blocks that later requests name.
+pub fn disk(length: u32, state: State) -> State {
+    if length != 4 {
+        return state.refused(length);
+    }
+    let mut body = [0u8; 4];
+    if fill(&mut body) {
+        let blocks = words::word(&body, 0);
+        say::text(b"disk");
+        say::number(blocks);
+        say::end();
+        return state.with_named(blocks);
     }
     state.broken()
 }

@@ -1,39 +1,27 @@
 -- The answer of a read as numbers: which numbers a refusal has, and that 0 is no refusal. Assumes nothing.
 use Prim.Native.Nat.{ℕ}
 use mathlib.Core.Path.{_≡_, refl, sym, _∙_}
-use mathlib.Core.Logic.{_↔_}
+use mathlib.Core.Logic.{_↔_, ⊎-elim}
 use mathlib.Core.List.{List}
 use lib.ListN.{length}
-use Rattle.answers.specs.Numbers as fault
 use Rattle.answers.specs.declared.Refusal.{Refusal}
 use Rattle.answers.specs.Members.{_∈_}
-use Rattle.answers.proofs.Members.{listed, unlisted, in-part}
+use Rattle.answers.proofs.Members.{unlisted, in-part}
 use Rattle.answers.proofs.Clashes.{impossible}
 use Rattle.volume.specs.declared.disk.Disk.{Disk}
-use Rattle.volume.proofs.Given.{headerRefusals, listRefusals, dataRefusals, header-number, list-number, data-number}
 use Rattle.lookup.specs.Lookup.{findRefusals}
 use Rattle.lookup.proofs.AsNumbers as lookup
 use Rattle.reading.specs.declared.read.Reading.{Reading}
 use Rattle.reading.specs.declared.read.Reading.the-variants.{Bytes, Refused}
 use Rattle.reading.specs.Reads.{numbersOf, readRefusals, refuse, readOf, Reads}
-use Rattle.reading.specs.Outcomes.{data-key, data-itself, list-key, list-itself, at-data, at-list, Refuses}
-use Rattle.reading.specs.Outcomes.{of-lookup, of-directory, of-header, of-block}
-use Rattle.reading.proofs.Refusing.{refused-exactly}
+use Rattle.reading.proofs.Refusing.{refused-exactly, afterLookup, after-lookup}
 
 module _ (d : Disk) (s path : List ℕ) (o n v k : ℕ) where
   -- a refusal's number is one of these
   pub refused-number : readOf d s path o n ≡ refuse v k → v ∈ readRefusals
-  refused-number e = go (refused-exactly d s path o n v k .0 e)
-    where
-      go : Refuses d s path v k → v ∈ readRefusals
-      go (of-lookup f) = in-part findRefusals readRefusals v tt (lookup.refused-number d s path v k f)
-      go (of-directory t c f a b) = rw a (listed readRefusals fault.wrongKind tt)
-      go (of-header z c f b) = in-part headerRefusals readRefusals v tt (header-number b)
-      go (of-block h z c f g (at-data i x a y (data-key q w))) = rw w (listed readRefusals fault.badKey tt)
-      go (of-block h z c f g (at-data i x a y (data-itself q o b))) =
-          in-part dataRefusals readRefusals v tt (data-number b)
-      go (of-block h z c f g (at-list j a y (list-key q w))) = rw w (listed readRefusals fault.badKey tt)
-      go (of-block h z c f g (at-list j a y (list-itself q b))) = in-part listRefusals readRefusals v tt (list-number b)
+  refused-number e =
+      ⊎-elim (λ f. in-part findRefusals readRefusals v tt (lookup.refused-number d s path v k f))
+      (λ m. in-part afterLookup readRefusals v tt m) (after-lookup d s path v k (refused-exactly d s path o n v k .0 e))
 
 module _ (d : Disk) (s path : List ℕ) (o : ℕ) (output : List ℕ) (r : Reading) (output′ : List ℕ)
     (a : Reads d s path o output r output′) where

@@ -163,9 +163,9 @@ module _ (d : Disk) (s path : List ℕ) (o : ℕ) (output : List ℕ) (f : Found
       go (found.Refused x) e h q = promised r output (q ∙ rw (← e) refl) (rw q refl)
 
 -- on the disk that the image is taken for
-pub on-disk : (d : Disk) (s path : List ℕ) (o : ℕ) (output : List ℕ) (r : Reading) (a : List ℕ) → d ≡ diskOf s
-    → Reads d s path o output r a → Reads (diskOf s) s path o output r a
-on-disk d s path o output r a e h = rw e at h
+pub on-disk : (b : ℕ) (d : Disk) (s path : List ℕ) (o : ℕ) (output : List ℕ) (r : Reading) (a : List ℕ)
+    → d ≡ diskOf b s → Reads d s path o output r a → Reads (diskOf b s) s path o output r a
+on-disk b d s path o output r a e h = rw e at h
 
 -- one input has one outcome
 pub read-determined : (d : Disk) (s path : List ℕ) (o : ℕ) (output : List ℕ) (r r′ : Reading) (a a′ : List ℕ)

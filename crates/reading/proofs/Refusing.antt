@@ -1,12 +1,11 @@
 -- Each refusal of a read is given exactly then, with that number and place (`refused-exactly`). Assumes nothing.
 use Prim.Native.Nat.{ℕ, zero, suc, _+_, _-_, _*_, _/_, _<_}
 use mathlib.Core.Path.{_≡_, refl, sym, ap, _∙_}
-use mathlib.Core.Logic.{_≢_, _↔_}
-use mathlib.Core.Bool.{Bool, true, false}
-use mathlib.Core.List.{List, [], _∷_}
+use mathlib.Core.Logic.{_≢_, _⊎_, _↔_, inl, inr, ⊎-elim, Iff·trans}
+use mathlib.Core.Bool.{Bool, true, false, not}
+use mathlib.Core.List.{List, [], _∷_, _++_}
 use native.Mathlib.Omega.{arith}
-use lib.Dec.{eqb}
-use lib.ListN.{length}
+use lib.Dec.{T, eqb}
 use borrow.Author.Tests.{eq-eqb, ne-eqb, eqb-true, eqb-false}
 use Rattle.answers.specs.Numbers as fault
 use Rattle.answers.specs.Tests.{pick, must, first}
@@ -15,10 +14,11 @@ use Rattle.answers.specs.declared.Tested.{Tested}
 use Rattle.answers.specs.declared.Tested.the-variants.{Passed, Failed}
 use Rattle.answers.proofs.Tests.{first-zero}
 use Rattle.answers.proofs.Clashes.{impossible}
-use Rattle.answers.proofs.Members.{unlisted}
+use Rattle.answers.specs.Members.{_∈_, has}
+use Rattle.answers.proofs.Members.{unlisted, in-part}
 use Rattle.reach.specs.References.{At}
 use Rattle.volume.specs.declared.disk.Disk.{Disk}
-use Rattle.volume.specs.Disks.{imageBytes, inRange, diskOf, NoTag}
+use Rattle.volume.specs.Disks.{inRange, diskOf, Fits, Unfit, NoTag}
 use Rattle.volume.specs.Blocks.{slots, wordOf}
 use Rattle.volume.specs.Files.{sizeOf, blocksOf}
 use Rattle.volume.specs.Rules.{fileFault, listFault, dataFault}
@@ -273,24 +273,41 @@ module _ (d : Disk) (s path : List ℕ) (o n v k : ℕ) where
   unfolding readOf
   refused-exactly = (read-why (findOf d s path) refl, why-read)
 
--- On the disk that the image is taken for: 3 is the lookup's, so it is given if and only if the image has the boot tag
--- of no kind.
-pub refused-tag : (s path : List ℕ) (o n k : ℕ)
-    → (readOf (diskOf s) s path o n ≡ refuse fault.bootTag k)
-    ↔ ((k ≡ 0) × (length s ≡ imageBytes (diskOf s)) × GoodForm path × NoTag s)
-refused-tag s path o n k = (
-  (λ e. lookup.refused-tag s path k .0 (go (refused-exactly d s path o n 3 k .0 e))),
-  (λ h. refused-exactly d s path o n 3 k .1 (of-lookup (lookup.refused-tag s path k .1 h))),
-)
-  where
-    d : Disk
-    d = diskOf s
+-- ---- the lookup's numbers, and those after it
 
-    go : Refuses d s path 3 k → findOf d s path ≡ found.Refused (refusal 3 k)
-    go (of-lookup e) = e
-    go (of-directory t c e a b) = absurd (omega arith)
-    go (of-header z c e b) = unlisted headerRefusals 3 3 tt (header-number b) refl
-    go (of-block h z c e f (at-data i x p y (data-key q w))) = absurd (omega arith)
-    go (of-block h z c e f (at-data i x p y (data-itself q o b))) = unlisted dataRefusals 3 3 tt (data-number b) refl
-    go (of-block h z c e f (at-list j p y (list-key q w))) = absurd (omega arith)
-    go (of-block h z c e f (at-list j p y (list-itself q b))) = unlisted listRefusals 3 3 tt (list-number b) refl
+abbrev pub afterLookup : List ℕ
+afterLookup = fault.wrongKind ∷ fault.badKey ∷ (headerRefusals ++ dataRefusals ++ listRefusals)
+
+module _ (d : Disk) (s path : List ℕ) (v k : ℕ) where
+  pub after-lookup : Refuses d s path v k → (findOf d s path ≡ found.Refused (refusal v k)) ⊎ (v ∈ afterLookup)
+  after-lookup (of-lookup e) = inl e
+  after-lookup (of-directory t c e a b) = inr (inl a)
+  after-lookup (of-header z c e b) = inr (in-part headerRefusals afterLookup v tt (header-number b))
+  after-lookup (of-block h z c e f (at-data i x p y (data-key q w))) = inr (inr (inl w))
+  after-lookup (of-block h z c e f (at-data i x p y (data-itself q o b))) =
+      inr (in-part dataRefusals afterLookup v tt (data-number b))
+  after-lookup (of-block h z c e f (at-list j p y (list-key q w))) = inr (inr (inl w))
+  after-lookup (of-block h z c e f (at-list j p y (list-itself q b))) =
+      inr (in-part listRefusals afterLookup v tt (list-number b))
+
+  -- a number that is given only before the tests of the file is given exactly when the lookup gives it
+  as-lookup : T (not (has afterLookup v)) → (o n : ℕ)
+      → (readOf d s path o n ≡ refuse v k) ↔ (findOf d s path ≡ found.Refused (refusal v k))
+  as-lookup t o n = (
+    (λ e.
+        let w = after-lookup (refused-exactly d s path o n v k .0 e) in
+        ⊎-elim (λ q. q) (λ m. unlisted afterLookup v v t m refl) w),
+    (λ e. refused-exactly d s path o n v k .1 (of-lookup e)),
+  )
+
+-- Of a call that names b: 1 if and only if no disk fits, and 3 if and only if the image has the boot tag of none.
+module _ (b : ℕ) (s path : List ℕ) (o n k : ℕ) where
+  abbrev d : Disk
+  d = diskOf b s
+
+  pub refused-unfit : (readOf d s path o n ≡ refuse fault.imageLength k) ↔ ((k ≡ 0) × Unfit b s)
+  refused-unfit = Iff·trans (as-lookup d s path fault.imageLength k tt o n) (lookup.refused-unfit b s path k)
+
+  pub refused-tag : (readOf d s path o n ≡ refuse fault.bootTag k)
+      ↔ ((k ≡ 0) × Fits b s d × GoodForm path × NoTag s)
+  refused-tag = Iff·trans (as-lookup d s path fault.bootTag k tt o n) (lookup.refused-tag b s path k)

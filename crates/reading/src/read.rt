@@ -80,11 +80,12 @@ fn read_on(disk: Disk, image: &[u8], path: &[u8], offset: usize, output: &mut [u
     }
 }
 
-// Reads a file of an 880 KB floppy of the kind that its boot tag names.
-pub fn read(image: &[u8], path: &[u8], offset: usize, output: &mut [u8]) -> Reading
-    ensures { λ r. ⌜ Reads (diskOf (now (image .entry))) (now (image .entry)) (now (path .entry)) offset
+// Reads a file of an image: that of a disk of the `named` number of blocks, or of either size where 0 is named, and of
+// the kind that its boot tag names.
+pub fn read(named: u32, image: &[u8], path: &[u8], offset: usize, output: &mut [u8]) -> Reading
+    ensures { λ r. ⌜ Reads (diskOf named (now (image .entry))) (now (image .entry)) (now (path .entry)) offset
         (now (output .entry)) r (now (output .exit)) ⌝ }
 {
-    let disk = Disk::of(image);
+    let disk = Disk::of(named, image);
     read_on(disk, image, path, offset, output)
 }

@@ -1,8 +1,10 @@
 -- Laws of what specs/ defines, for this crate and those above it.
 -- a disk's numbers, and a file's
 pub mod Sizes
--- boot tags: the kind and the disk of an image
+-- boot tags: the kind of an image
 pub mod Tags
+-- the disk that a call takes an image for
+pub mod Disks
 -- how many data keys a file has
 pub mod Keys
 -- the rule of a table, by one test over it
@@ -20,7 +22,7 @@ pub mod Breaks
 pub mod Passes
 -- the starred cases hold
 pub mod Stars
--- the floppy's numbers
-pub mod Floppy
+-- the numbers of each disk
+pub mod Numerals
 -- which numbers the tests of each kind of block give
 pub mod Given

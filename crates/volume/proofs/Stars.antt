@@ -4,11 +4,15 @@ use mathlib.Core.Path.{refl}
 use Rattle.answers.specs.Members.{_∈_}
 use Rattle.answers.specs.Tests.{pick}
 use Rattle.answers.proofs.Members.{each-in}
-use Rattle.volume.specs.Disks.{kinds, isOld, foldsAccents, floppy, dataBytes}
+use Rattle.volume.specs.declared.disk.Disk.{Disk}
+use Rattle.volume.specs.Disks.{kinds, Exists, isOld, foldsAccents, dataBytes}
 use Rattle.volume.specs.Names.{slotOf, hashFrom, foldOf, foldInternational, accented, foldPlain}
 use Rattle.volume.specs.Stars.{answer, stars, Hold}
 
--- on a disk of each kind
-pub stars-hold : (k : ℕ) → k ∈ kinds → Hold (floppy k) (stars (floppy k))
+-- on every disk that exists: by its kind, whatever its size
+pub stars-hold : (d : Disk) → Exists d → Hold d (stars d)
 unfolding answer slotOf hashFrom foldOf foldsAccents foldInternational accented foldPlain pick isOld dataBytes
-stars-hold = each-in (λ k. Hold (floppy k) (stars (floppy k))) kinds (refl, (refl, (refl, (refl, tt))))
+stars-hold d x = each-in (λ k. Hold (of k) (stars (of k))) kinds (refl, (refl, (refl, (refl, tt)))) (d .kind) (x .kind)
+  where
+    of : ℕ → Disk
+    of k = record { blocks = d .blocks; kind = k }

@@ -1,7 +1,7 @@
--- Laws of boot tags: the kind that an image's tag names, and the disk that the image is taken for. Assumes nothing.
+-- Laws of boot tags: the kind that an image's tag names. Assumes nothing.
 use Prim.Native.Nat.{ℕ, zero, suc, _%_, _≤_, _<_}
-use mathlib.Core.Path.{_≡_, refl, ap, sym, _∙_, subst}
-use mathlib.Core.Logic.{_≢_, _↔_, inl}
+use mathlib.Core.Path.{_≡_, refl, ap, sym}
+use mathlib.Core.Logic.{inl}
 use mathlib.Core.Bool.{Bool, true, false}
 use mathlib.Core.List.{List}
 use native.Mathlib.Omega.{arith}
@@ -12,16 +12,11 @@ use Rattle.answers.proofs.Members.{listed, found, each-in}
 use Rattle.answers.specs.Tests.{pick}
 use Rattle.words.specs.Word.{wordAt}
 use Rattle.volume.specs.declared.disk.Disk.{Disk}
-use Rattle.volume.specs.Law.{Volume, IsVolume}
-use Rattle.volume.specs.Disks.{old, fastInternational, kinds, floppy, Sized, tagOf, tagByte, kindIn, diskOf}
-use Rattle.volume.specs.Disks.{NoTag}
+use Rattle.volume.specs.Disks.{old, fastInternational, kinds, tagOf, tagByte, kindIn}
 
-true-is : (b : Bool) → T b → b ≡ true
+pub true-is : (b : Bool) → T b → b ≡ true
 true-is true h = refl
 true-is false h = absurd h
-
-pub floppy-sized : (k : ℕ) → k ∈ kinds → Sized (floppy k)
-floppy-sized k m = record { least = omega arith; most = omega arith; kind = true-is (has kinds k) (found kinds k m) }
 
 -- the kinds are 0 to 3
 kind-small : (k : ℕ) → k ∈ kinds → k ≤ fastInternational
@@ -36,7 +31,7 @@ kind-listed (suc (suc (suc zero))) h = tt
 kind-listed (suc (suc (suc (suc k)))) h = absurd (omega arith)
 
 module _ (s : List ℕ) where
-  -- ---- the kind, from the word that code reads
+  -- ---- from the word that code reads
 
   named : {w : ℕ} → tagByte s ≡ w → T (has kinds w) → w ≡ kindIn s
   unfolding kindIn pick
@@ -57,7 +52,7 @@ module _ (s : List ℕ) where
       go false e = refl
       go true e = absurd (omega (arith, kind-small (tagByte s) (listed kinds (tagByte s) (rw e tt)), q))
 
-  -- ---- the disk of an image
+  -- ---- the kind of an image
 
   pub kind-known : kindIn s ∈ kinds
   unfolding kindIn pick
@@ -67,28 +62,6 @@ module _ (s : List ℕ) where
       go true e = listed kinds (tagByte s) (rw e tt)
       go false e = inl refl
 
-  pub disk-sized : (d : Disk) → d ≡ diskOf s → Sized d
-  disk-sized d e = rw e (floppy-sized (kindIn s) kind-known)
-
-  -- an image with the boot tag of a kind is taken for a disk of that kind
-  pub tag-disk : (k : ℕ) → k ∈ kinds → wordAt s 0 ≡ tagOf (floppy k) → diskOf s ≡ floppy k
-  tag-disk k m t = ap floppy (sym (named (last k m t) (found kinds k m)))
-    where
-      last : (k : ℕ) → k ∈ kinds → wordAt s 0 ≡ tagOf (floppy k) → tagByte s ≡ k
-      last k m t = omega (arith, t, kind-small k m)
-
-  -- it has not the tag of the disk that it is taken for if and only if it has that of no kind: 3
-  pub no-tag : (wordAt s 0 ≢ tagOf (diskOf s)) ↔ NoTag s
-  no-tag = ((λ n k m e. n (e ∙ ap tagOf (sym (tag-disk k m e)))), λ n e. n (kindIn s) kind-known e)
-
-  -- what says that the image has the disk's tag holds of the disk that it is taken for if and only if it holds of a
-  -- disk of some kind
-  pub of-kind : (P : Disk → Type 0) → ((d : Disk) → P d → wordAt s 0 ≡ tagOf d)
-      → P (diskOf s) ↔ ((k : ℕ) × (k ∈ kinds) × P (floppy k))
-  of-kind P t = (
-    (λ p. (kindIn s, kind-known, p)),
-    λ (k, m, p). subst P (sym (tag-disk k m (t (floppy k) p))) p,
-  )
-
-  pub volume-of-kind : Volume (diskOf s) s ↔ IsVolume s
-  volume-of-kind = of-kind (λ d. Volume d s) (λ d v. v .tree .tag)
+  -- an image with the boot tag of a disk has that disk's kind
+  pub tag-kind : (d : Disk) → d .kind ∈ kinds → wordAt s 0 ≡ tagOf d → kindIn s ≡ d .kind
+  tag-kind d m t = sym (named (omega (arith, t, kind-small (d .kind) m)) (found kinds (d .kind) m))

@@ -1,12 +1,12 @@
 -- A disk has a number of blocks and a kind, the last byte of its boot tag. All its other numbers follow from these
--- two (docs/FORMAT.md, "What is built"): nothing above this file knows them as numbers, but `Floppy` and what is said
--- of the exported calls.
+-- two (docs/FORMAT.md, "What is built"): nothing above this file knows them as numbers, but `Numerals`.
 use Prim.Native.Nat.{ℕ, _+_, _-_, _*_, _/_, _%_, _≤_}
 use mathlib.Core.Path.{_≡_}
-use mathlib.Core.Logic.{_≢_}
+use mathlib.Core.Logic.{_≢_, _⊎_}
 use mathlib.Core.Bool.{Bool, true, false}
 use mathlib.Core.List.{List, [], _∷_}
-use lib.Dec.{ltb}
+use lib.Dec.{eqb, ltb}
+use lib.ListN.{length}
 use Rattle.answers.specs.Members.{_∈_, has}
 use Rattle.answers.specs.Tests.{pick}
 use Rattle.words.specs.Word.{four, wordAt}
@@ -43,11 +43,25 @@ isOld d = has (old ∷ oldInternational ∷ []) (d .kind)
 unfoldable pub foldsAccents : Disk → Bool
 foldsAccents d = has (oldInternational ∷ fastInternational ∷ []) (d .kind)
 
--- ---- a disk's numbers
+-- ---- sizes, each by its number of blocks
 
--- 880 KB, of any kind
-abbrev pub floppy : ℕ → Disk
-floppy kind = record { blocks = 1760; kind = kind }
+-- 880 KB
+abbrev pub doubleDensity : ℕ
+doubleDensity = 1760
+
+-- 1,760 KB
+abbrev pub highDensity : ℕ
+highDensity = 3520
+
+abbrev pub sizes : List ℕ
+sizes = doubleDensity ∷ highDensity ∷ []
+
+-- a disk that exists, which is of such a size and kind
+pub record Exists (d : Disk) : Type 0 where
+  pub size : d .blocks ∈ sizes
+  pub kind : d .kind ∈ kinds
+
+-- ---- a disk's numbers
 
 -- the two boot blocks have no key
 abbrev pub firstKey : ℕ
@@ -57,12 +71,11 @@ firstKey = 2
 abbrev pub mostBlocks : ℕ
 mostBlocks = firstKey + 32 * 127
 
--- the disks that the definitions are meant for: boot blocks, root, bitmap block and a file fit, one bitmap block
--- serves them, and their kind exists
+-- the disks of which the code is proved: boot blocks, root, bitmap block and a file fit, and one bitmap block serves
+-- them
 pub record Sized (d : Disk) : Type 0 where
   pub least : 8 ≤ d .blocks
   pub most : d .blocks ≤ mostBlocks
-  pub kind : has kinds (d .kind) ≡ true
 
 abbrev pub imageBytes : Disk → ℕ
 imageBytes d = d .blocks * blockBytes
@@ -103,6 +116,23 @@ fileLimit d = (d .blocks - 5) * dataBytes d
 
 -- ---- the disk of an image
 
+-- a call names a number of blocks, or none by this number
+abbrev pub anySize : ℕ
+anySize = 0
+
+-- the size that image s has by its length. Where that is of no size, `doubleDensity` is taken: an image of that size
+-- has another length, so this one is refused by 1.
+unfoldable pub sizeIn : List ℕ → ℕ
+sizeIn s = pick (eqb (length s) (highDensity * blockBytes)) highDensity doubleDensity
+
+unfoldable pub otherSize : ℕ → ℕ
+otherSize b = pick (eqb b doubleDensity) highDensity doubleDensity
+
+-- the size for a call that names b: the image's own, where it is named or none is. Else the other one: the image does
+-- not have its length, so it is refused by 1.
+unfoldable pub sizeFor : ℕ → List ℕ → ℕ
+sizeFor b s = pick (has (anySize ∷ sizeIn s ∷ []) b) (sizeIn s) (otherSize (sizeIn s))
+
 -- the last byte of the first word of image s
 abbrev pub tagByte : List ℕ → ℕ
 tagByte s = wordAt s 0 % 256
@@ -111,10 +141,25 @@ tagByte s = wordAt s 0 % 256
 unfoldable pub kindIn : List ℕ → ℕ
 kindIn s = pick (has kinds (tagByte s)) (tagByte s) old
 
--- what every call that is lent an image takes it for
-abbrev pub diskOf : List ℕ → Disk
-diskOf s = floppy (kindIn s)
+-- what every call that is lent image s and names b takes it for
+abbrev pub diskOf : ℕ → List ℕ → Disk
+diskOf b s = record { blocks = sizeFor b s; kind = kindIn s }
 
--- the first word of image s is the boot tag of no kind
+-- ---- when it is refused by 1 or 3
+
+-- the number b of a call is that of the disk's blocks, or names none
+abbrev pub Names : ℕ → Disk → Type 0
+Names b d = (b ≡ anySize) ⊎ (b ≡ d .blocks)
+
+-- a disk that exists, is named and is as long as the image
+pub record Fits (b : ℕ) (s : List ℕ) (d : Disk) : Type 0 where
+  pub exists : Exists d
+  pub named : Names b d
+  pub long : length s ≡ imageBytes d
+
+abbrev pub Unfit : ℕ → List ℕ → Type 0
+Unfit b s = (d : Disk) → Fits b s d → ⊥
+
+-- the first word of image s is the boot tag of no disk
 abbrev pub NoTag : List ℕ → Type 0
-NoTag s = (k : ℕ) → k ∈ kinds → wordAt s 0 ≢ tagOf (floppy k)
+NoTag s = (d : Disk) → Exists d → wordAt s 0 ≢ tagOf d

@@ -10,7 +10,7 @@ use lib.ListN.{length}
 use Rattle.words.specs.Word.{wordAt}
 use Rattle.reach.specs.References.{At, _∈_, Reached, Owned}
 use Rattle.volume.specs.declared.disk.Disk.{Disk}
-use Rattle.volume.specs.Disks.{kinds, isOld, floppy, firstKey, imageBytes, tagOf, rootOf, fileLimit}
+use Rattle.volume.specs.Disks.{isOld, Exists, firstKey, imageBytes, tagOf, rootOf, fileLimit, Names}
 use Rattle.volume.specs.Blocks.{slots, wordOf, sumOf, slotWord, directory, headerType, listType, dataType}
 use Rattle.volume.specs.Blocks.{rootKind, directoryKind, fileKind}
 use Rattle.volume.specs.Names.{folded, slotOf, nameOf, nameGood}
@@ -157,6 +157,6 @@ pub record Volume (d : Disk) (s : List ℕ) : Type 0 where
   pub valid : Valid d s
   pub bits : (k : ℕ) → firstKey ≤ k → k < d .blocks → BitRight d s k
 
--- of a kind that exists: the one whose tag the image has
-abbrev pub IsVolume : List ℕ → Type 0
-IsVolume s = (k : ℕ) × (k ∈ kinds) × Volume (floppy k) s
+-- of a disk that exists and that the number b of a call names
+abbrev pub IsVolume : ℕ → List ℕ → Type 0
+IsVolume b s = (d : Disk) × Exists d × Names b d × Volume d s

@@ -21,5 +21,5 @@ pub mod Rules
 pub mod Breaks
 -- the worked cases
 pub mod Stars
--- the floppy's numbers, as docs/FORMAT.md writes them
-pub mod Floppy
+-- the numbers of each disk, as docs/FORMAT.md writes them
+pub mod Numerals

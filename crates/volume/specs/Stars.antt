@@ -51,6 +51,7 @@ stars d =
     ∷ case (bit 2) (1 ∷ 0 ∷ [])
     ∷ case (bit 880) (28 ∷ 14 ∷ [])
     ∷ case (bit 1759) (55 ∷ 29 ∷ [])
+    ∷ case (bit 3519) (110 ∷ 29 ∷ [])
     ∷ pick (isOld d) (sizes 488 489 35136 35137) (sizes 512 513 36864 36865)
 
 -- every case has its answer

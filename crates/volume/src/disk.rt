@@ -5,15 +5,48 @@ ghost use Prim.Native.Nat.{_+_, _-_, _*_, _/_, _<_, _≤_};
 ghost use lib.ListN.{length};
 ghost use lib.Dec.{eqb};
 ghost use Rattle.words.specs.Word.{wordAt};
-ghost use Rattle.volume.specs.Disks.{Sized, mostBlocks, isOld, foldsAccents, floppy, imageBytes, claimBytes};
+ghost use Rattle.volume.specs.Disks.{Sized, mostBlocks, isOld, foldsAccents, imageBytes, claimBytes};
 ghost use Rattle.volume.specs.Disks.{tagOf, rootOf, inRange, bitSpan, chainLimit, dataBytes, dataStart};
-ghost use Rattle.volume.specs.Disks.{fileLimit, kindIn, diskOf};
+ghost use Rattle.volume.specs.Disks.{fileLimit, sizeIn, otherSize, sizeFor, kindIn, diskOf};
 ghost use Rattle.volume.specs.Files.{dataBlocks, heldOf};
 
 // The number of its blocks, and the last byte of its boot tag.
 pub struct Disk {
     pub blocks: u32,
     pub kind: u8,
+}
+
+// The size that an image has by its length; that of double density where its length is of no size.
+fn size_in(image: &[u8]) -> u32
+    ensures { λ r. ⌜ r ≡ sizeIn (now (image .entry)) ⌝ }
+{
+    if image.len() == Disk::HIGH_DENSITY as usize * Block::BYTES {
+        return Disk::HIGH_DENSITY;
+    }
+    Disk::DOUBLE_DENSITY
+}
+
+fn other_size(blocks: u32) -> u32
+    ensures { λ r. ⌜ r ≡ otherSize blocks ⌝ }
+{
+    if blocks == Disk::DOUBLE_DENSITY {
+        return Disk::HIGH_DENSITY;
+    }
+    Disk::DOUBLE_DENSITY
+}
+
+// The size for a call that names `named`: the image's own, where it is named or none is, else the other one.
+fn size_for(named: u32, image: &[u8]) -> u32
+    ensures { λ r. ⌜ r ≡ sizeFor named (now (image .entry)) ⌝ }
+{
+    let own = size_in(image);
+    if named == Disk::ANY_SIZE {
+        return own;
+    }
+    if named == own {
+        return named;
+    }
+    other_size(own)
 }
 
 // The kind that an image's first word names by its last byte, and the old file system where it names none.
@@ -42,25 +75,28 @@ impl Disk {
 
     pub const FAST_INTERNATIONAL: u8 = 3;
 
+    // 880 KB, in blocks.
+    pub const DOUBLE_DENSITY: u32 = 1760;
+
+    // 1,760 KB; there are no further sizes.
+    pub const HIGH_DENSITY: u32 = 3520;
+
+    // What a call names in place of a size, to take either.
+    pub const ANY_SIZE: u32 = 0;
+
     // The two boot blocks have no key.
     pub const FIRST_KEY: u32 = 2;
 
-    // 880 KB, of any kind.
-    pub fn floppy(kind: u8) -> Disk
-        ensures { λ r. ⌜ r ≡ floppy kind ⌝ }
+    // The disk that a call that names `named` takes an image for, by the image's length and the last byte of its
+    // first word. Where the length does not fit, the image is not as long as that disk; where the tag is of no kind, it
+    // does not have that disk's tag.
+    pub fn of(named: u32, image: &[u8]) -> Disk
+        ensures { λ r. ⌜ r ≡ diskOf named (now (image .entry)) ⌝ }
     {
         Disk {
-            blocks: 1760,
-            kind: kind,
+            blocks: size_for(named, image),
+            kind: kind_in(image),
         }
-    }
-
-    // The disk that an image is taken for, by the last byte of its first word; of kind 00 where that is of no kind. An
-    // image with the tag of no kind does not have the tag of that disk.
-    pub fn of(image: &[u8]) -> Disk
-        ensures { λ r. ⌜ r ≡ diskOf (now (image .entry)) ⌝ }
-    {
-        Disk::floppy(kind_in(image))
     }
 
     // Whether it is of the old file system, whose data blocks have words of their own.

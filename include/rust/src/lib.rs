@@ -1,5 +1,6 @@
-//! Audits images of 880 KB floppies of the old file system or of the Fast File System, plain or international, finds
-//! and reads their files, checks program files, loads them into memory and moves loaded programs to other addresses.
+//! Audits images of floppies of 880 KB and 1,760 KB, of the old file system or of the Fast File System, plain or
+//! international, finds and reads their files, checks program files, loads them into memory and moves loaded programs
+//! to other addresses.
 //!
 //! These are the calls of `include/jufferdeeg.h` as safe functions: a slice is just what they ask for. Whatever its
 //! bytes, every call ends and stays inside what it is lent. The header says what each call is lent, what it leaves and
@@ -7,8 +8,8 @@
 //!
 //! ```no_run
 //! let image = std::fs::read("disk.adf")?;
-//! let mut claim = vec![0; jufferdeeg::CLAIM_BYTES];
-//! let answer = jufferdeeg::audit(&image, &mut claim);
+//! let mut claim = vec![0; jufferdeeg::MOST_CLAIM_BYTES];
+//! let answer = jufferdeeg::audit(jufferdeeg::ANY_SIZE, &image, &mut claim);
 //! if answer.number == jufferdeeg::fault::BLOCK_SUM {
 //!     println!("block {} is damaged", answer.place);
 //! } else if answer.number != 0 {
@@ -20,10 +21,16 @@
 /// The version of this crate, as `JUFFERDEEG_VERSION` of the header.
 pub const VERSION: &str = env!("CARGO_PKG_VERSION");
 
-/// The length of an image.
-pub const IMAGE_BYTES: usize = 901_120;
-/// The length of the shortest claim area.
-pub const CLAIM_BYTES: usize = 1_760;
+/// The number of blocks that a call names to take an image of either size.
+pub const ANY_SIZE: u32 = 0;
+/// The blocks of an image of 880 KB.
+pub const DOUBLE_DENSITY: u32 = 1_760;
+/// The blocks of an image of 1,760 KB.
+pub const HIGH_DENSITY: u32 = 3_520;
+/// The bytes of the largest image.
+pub const MOST_IMAGE_BYTES: usize = 1_802_240;
+/// The bytes of a claim area that is never short; a byte for each block is enough.
+pub const MOST_CLAIM_BYTES: usize = 3_520;
 /// The most hunks of a program: a table of so many records is never short.
 pub const MOST_HUNKS: usize = 64;
 /// The most bytes of a loaded program: memory and a work area of so many are never short.
@@ -52,17 +59,18 @@ pub const CHIP_MEMORY: u32 = 1;
 pub const FAST_MEMORY: u32 = 2;
 
 /// The numbers of refusals. In brackets the place: the key of a block, or a key just as it was read; a component of
-/// the path, counted from 0; the byte of a word of the program file; an entry of the bases, counted from 0.
+/// the path, counted from 0; the byte of a word of the program file; an entry of the bases, counted from 0. The root is
+/// block 880 of 1,760 blocks, and block 1,760 of 3,520.
 pub mod fault {
-    /// `[0]` the image is not 901,120 bytes long.
+    /// `[0]` the image's length does not fit the number of blocks that is named.
     pub const IMAGE_LENGTH: u32 = 1;
     /// `[0]` the claim area is short.
     pub const CLAIM_AREA: u32 = 2;
     /// `[0]` the boot tag is not 44 4F 53 and 00, 01, 02 or 03.
     pub const BOOT_TAG: u32 = 3;
-    /// `[880]` a word of the root that has one value only is wrong.
+    /// `[root]` a word of the root that has one value only is wrong.
     pub const ROOT_WORDS: u32 = 4;
-    /// `[key]` it is not in 2 to 1,759.
+    /// `[key]` it is not in 2 to the last block of the disk.
     pub const BAD_KEY: u32 = 5;
     /// `[key]` audit: it is claimed already; find, read: its chain is too long.
     pub const CLAIMED_TWICE: u32 = 6;
@@ -84,7 +92,7 @@ pub mod fault {
     pub const FILE_LAYOUT: u32 = 14;
     /// `[block]` the words of a data block; or the one before it names another.
     pub const DATA_LAYOUT: u32 = 15;
-    /// `[880]` the root's bitmap words are wrong.
+    /// `[root]` the root's bitmap words are wrong.
     pub const BITMAP_WORDS: u32 = 16;
     /// `[block]` the lowest whose bit of the bitmap is wrong.
     pub const WRONG_BIT: u32 = 17;
@@ -144,7 +152,7 @@ pub struct AuditNumbers {
     pub data_blocks: u32,
     /** Blocks in use, the root and the bitmap block among them. */
     pub used: u32,
-    /** Free blocks: used and free are 1,758 together. */
+    /** Free blocks: used and free are together the blocks of the disk, less 2. */
     pub free: u32,
 }
 
@@ -214,12 +222,12 @@ mod c {
     #[rustfmt::skip]
     extern "C" {
         pub fn jufferdeeg_reason(number: u32, output: *mut u8, output_bytes: usize) -> usize;
-        pub fn jufferdeeg_audit(image: *const u8, image_bytes: usize,
+        pub fn jufferdeeg_audit(disk_blocks: u32, image: *const u8, image_bytes: usize,
             claim: *mut u8, claim_bytes: usize) -> AuditNumbers;
-        pub fn jufferdeeg_find(image: *const u8, image_bytes: usize,
+        pub fn jufferdeeg_find(disk_blocks: u32, image: *const u8, image_bytes: usize,
             path: *const u8, path_bytes: usize) -> FindNumbers;
-        pub fn jufferdeeg_read(image: *const u8, image_bytes: usize, path: *const u8, path_bytes: usize, offset: usize,
-            output: *mut u8, output_bytes: usize) -> ReadNumbers;
+        pub fn jufferdeeg_read(disk_blocks: u32, image: *const u8, image_bytes: usize,
+            path: *const u8, path_bytes: usize, offset: usize, output: *mut u8, output_bytes: usize) -> ReadNumbers;
         pub fn jufferdeeg_check(file: *const u8, file_bytes: usize) -> ProgramNumbers;
         pub fn jufferdeeg_load(file: *const u8, file_bytes: usize, bases: *const u32, bases_count: usize,
             memory: *mut u8, memory_bytes: usize, table: *mut Hunk, table_records: usize,
@@ -246,26 +254,33 @@ pub fn reason(number: u32) -> String {
     String::from_utf8_lossy(&room[..bytes]).into_owned()
 }
 
-/// Audits an image. Deep directories take stack: up to 0.70 MiB was measured, for the deepest volume that there can
-/// be, so lend it 1 MiB.
-pub fn audit(image: &[u8], claim: &mut [u8]) -> AuditNumbers {
-    unsafe { c::jufferdeeg_audit(image.as_ptr(), image.len(), claim.as_mut_ptr(), claim.len()) }
+/// Audits an image. It names the number of blocks that the image's disk is to have, [`DOUBLE_DENSITY`] or
+/// [`HIGH_DENSITY`], or takes either with [`ANY_SIZE`].
+///
+/// Deep directories take stack: up to 0.70 MiB was measured for the deepest volume of 1,760 blocks that there can be,
+/// and up to 1.35 MiB for that of 3,520. So lend it 1 MiB if 1,760 are named, else 2 MiB.
+pub fn audit(disk_blocks: u32, image: &[u8], claim: &mut [u8]) -> AuditNumbers {
+    unsafe { c::jufferdeeg_audit(disk_blocks, image.as_ptr(), image.len(), claim.as_mut_ptr(), claim.len()) }
 }
 
-/// Finds what a path leads to.
+/// Finds what a path leads to. The number of blocks is as for [`audit`].
 ///
 /// A path is components with one `/` between two of them, none before the first or after the last, and has at most 255
 /// bytes. A component has 1 to 30 bytes, none of them `/` or `:`. The empty path has no component: it is the root.
 /// Upper and lower case of a to z are the same, and on an international disk, whose boot tag ends with 02 or 03, those
 /// of the letters with accents of ISO 8859-1 too. A path is just its bytes: text in UTF-8 is for the caller to convert.
-pub fn find(image: &[u8], path: &[u8]) -> FindNumbers {
-    unsafe { c::jufferdeeg_find(image.as_ptr(), image.len(), path.as_ptr(), path.len()) }
+pub fn find(disk_blocks: u32, image: &[u8], path: &[u8]) -> FindNumbers {
+    unsafe { c::jufferdeeg_find(disk_blocks, image.as_ptr(), image.len(), path.as_ptr(), path.len()) }
 }
 
-/// Reads a file from an offset on, until the file or the output ends. The path is as for [`find`].
-pub fn read(image: &[u8], path: &[u8], offset: usize, output: &mut [u8]) -> ReadNumbers {
-    let (room, bytes) = (output.as_mut_ptr(), output.len());
-    unsafe { c::jufferdeeg_read(image.as_ptr(), image.len(), path.as_ptr(), path.len(), offset, room, bytes) }
+/// Reads a file from an offset on, until the file or the output ends. The path is as for [`find`], and the number of
+/// blocks as for [`audit`].
+#[rustfmt::skip]
+pub fn read(disk_blocks: u32, image: &[u8], path: &[u8], offset: usize, output: &mut [u8]) -> ReadNumbers {
+    unsafe {
+        c::jufferdeeg_read(disk_blocks, image.as_ptr(), image.len(), path.as_ptr(), path.len(), offset,
+            output.as_mut_ptr(), output.len())
+    }
 }
 
 /// Checks a program file: its hunks, and the bytes that a load needs for them.

@@ -1,5 +1,5 @@
 -- `audit::audit::audit` meets its contract. Assumes nothing.
-use Rattle.volume.proofs.Tags.{disk-sized}
+use Rattle.volume.proofs.Disks.{disk-sized}
 use Rattle.audit.proofs.Auditing.{on-disk}
 use borrow.Author.Needs.{needs}
 use Rattle.audit.proofs.audit.audit.Statement.{statement}

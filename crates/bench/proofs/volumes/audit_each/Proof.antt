@@ -1,5 +1,5 @@
 -- `bench::volumes::audit_each` meets its contract. The room keeps its length; it goes over the arguments once.
-use Prim.Native.Nat.{_-_}
+use Prim.Native.Nat.{_+_, _-_}
 use mathlib.Core.Path.{_≡_}
 use borrow.Author.Needs.{needs}
 use lib.ListN.{length}
@@ -8,10 +8,10 @@ use Rattle.bench.proofs.volumes.audit_each.Tie as tie
 use Rattle.bench.specs.Tallies.{Below}
 
 abbrev Inv-loop : tie.InvT-loop
-Inv-loop count room₀ tally₀ i₀ room tally i = (length room ≡ length room₀) × (Below tally i)
+Inv-loop asked count room₀ tally₀ i₀ room tally i = (length room ≡ length room₀) × (Below tally (i + 1))
 
 abbrev μ-loop : tie.MeasureT-loop
-μ-loop count room₀ tally₀ i₀ room tally i = count - i
+μ-loop asked count room₀ tally₀ i₀ room tally i = count - i
 
 loop-holds : tie.Need-loop-holds Inv-loop μ-loop
 loop-holds c = search needs

@@ -5,10 +5,10 @@ use Rattle.bench.proofs.volumes.find_each.Statement.{statement}
 use Rattle.bench.proofs.volumes.find_each.Tie as tie
 
 abbrev Inv-loop : tie.InvT-loop
-Inv-loop count image all₀ i₀ all i = Unit
+Inv-loop asked count image all₀ i₀ all i = Unit
 
 abbrev μ-loop : tie.MeasureT-loop
-μ-loop count image all₀ i₀ all i = count - i
+μ-loop asked count image all₀ i₀ all i = count - i
 
 loop-holds : tie.Need-loop-holds Inv-loop μ-loop
 loop-holds c = search needs

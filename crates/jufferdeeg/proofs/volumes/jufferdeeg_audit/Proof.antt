@@ -14,7 +14,7 @@ same-length : tie.Need-same-length
 same-length c = search needs
 
 returns : tie.Need-returns
-returns c = audits-image _ _ _ _ _ (c .before .before .before .audit .ensures) (c .audit-numbers .ensures)
+returns c = audits-image _ _ _ _ _ _ (c .before .before .before .audit .ensures) (c .audit-numbers .ensures)
 
 pub jufferdeeg-audit-spec : {M : Type 1} → statement M
 jufferdeeg-audit-spec =

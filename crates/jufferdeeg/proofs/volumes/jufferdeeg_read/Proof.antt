@@ -14,7 +14,7 @@ same-length : tie.Need-same-length
 same-length c = search needs
 
 returns : tie.Need-returns
-returns c = reads-image _ _ _ _ _ _ _ (c .before .before .before .read .ensures) (c .read-numbers .ensures)
+returns c = reads-image _ _ _ _ _ _ _ _ (c .before .before .before .read .ensures) (c .read-numbers .ensures)
 
 pub jufferdeeg-read-spec : {M : Type 1} → statement M
 jufferdeeg-read-spec = tie.close (tie.spec read-requires read-numbers-requires same-length returns)

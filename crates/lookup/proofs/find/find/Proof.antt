@@ -1,5 +1,5 @@
 -- `lookup::find::find` meets its contract. Assumes nothing.
-use Rattle.volume.proofs.Tags.{disk-sized}
+use Rattle.volume.proofs.Disks.{disk-sized}
 use Rattle.lookup.proofs.Lookups.{on-disk}
 use borrow.Author.Needs.{needs}
 use Rattle.lookup.proofs.find.find.Statement.{statement}

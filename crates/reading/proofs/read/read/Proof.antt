@@ -1,5 +1,5 @@
 -- `reading::read::read` meets its contract. Assumes nothing.
-use Rattle.volume.proofs.Tags.{disk-sized}
+use Rattle.volume.proofs.Disks.{disk-sized}
 use Rattle.reading.proofs.Readings.{on-disk}
 use borrow.Author.Needs.{needs}
 use Rattle.reading.proofs.read.read.Statement.{statement}
