@@ -20,23 +20,27 @@ pub fn is_free(bitmap: &[u8], key: u32) -> bool {
 #[cfg(test)]
 mod tests {
     use super::*;
+    use crate::disk::{FLOPPY, HIGH_DENSITY};
     use crate::words::{put, BLOCK_BYTES};
 
     #[test]
     fn every_block_has_a_bit_of_its_own_in_rising_order() {
-        let places: Vec<_> = Disk::OLD.keys().map(place).collect();
-        assert_eq!(places[..3], [(1, 0), (1, 1), (1, 2)]);
-        assert!(places.windows(2).all(|pair| pair[0] < pair[1]));
-        assert!(places.iter().all(|&(_, bit)| bit < 32));
+        for (blocks, last) in [(FLOPPY, (55, 29)), (HIGH_DENSITY, (110, 29))] {
+            let places: Vec<_> = Disk::OLD.with_blocks(blocks).keys().map(place).collect();
+            assert_eq!(places[..3], [(1, 0), (1, 1), (1, 2)]);
+            assert_eq!(places.last(), Some(&last));
+            assert!(places.windows(2).all(|pair| pair[0] < pair[1]));
+            assert!(places.iter().all(|&(_, bit)| bit < 32));
+        }
     }
 
     #[test]
     fn a_block_is_free_by_its_bit_alone() {
-        for key in [2, 3, 33, 34, 65, 66, 880, 1759] {
+        for key in [2, 3, 33, 34, 65, 66, 880, 1759, 1760, 1761, 3519] {
             let (index, bit) = place(key);
             let mut bitmap = [0; BLOCK_BYTES];
             put(&mut bitmap, index, 1 << bit);
-            for other in Disk::OLD.keys() {
+            for other in Disk::OLD.with_blocks(HIGH_DENSITY).keys() {
                 assert_eq!(is_free(&bitmap, other), other == key, "{other} of {key}");
             }
         }

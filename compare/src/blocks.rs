@@ -436,6 +436,10 @@ mod tests {
             (Disk::FAST, 512, 36_864, 898_560),
             (Disk::OLD_INTERNATIONAL, 488, 35_136, 856_440),
             (Disk::FAST_INTERNATIONAL, 512, 36_864, 898_560),
+            (Disk::OLD.with_blocks(3_520), 488, 35_136, 1_715_320),
+            (Disk::FAST.with_blocks(3_520), 512, 36_864, 1_799_680),
+            (Disk::OLD_INTERNATIONAL.with_blocks(3_520), 488, 35_136, 1_715_320),
+            (Disk::FAST_INTERNATIONAL.with_blocks(3_520), 512, 36_864, 1_799_680),
         ] {
             for (size, w2, more) in [
                 (0, 0, false),
@@ -466,6 +470,11 @@ mod tests {
             }
         }
         assert_eq!(Disk::FLOPPIES.map(|disk| file(&disk, &good_file(856_441, 72, 1))), [14, 0, 14, 0]);
+        assert_eq!(Disk::ALL.map(|disk| file(&disk, &good_file(898_561, 72, 1))), [14, 14, 14, 14, 0, 0, 0, 0]);
+        assert_eq!(
+            Disk::ALL.map(|disk| file(&disk, &good_file(1_715_321, 72, 1))),
+            [14, 14, 14, 14, 14, 0, 14, 0]
+        );
         assert_eq!(Disk::FLOPPIES.map(|disk| file(&disk, &good_file(36_864, 72, 0))), [14, 0, 14, 0]);
         assert_eq!(Disk::FLOPPIES.map(|disk| file(&disk, &good_file(36_864, 72, 1))), [0, 14, 0, 14]);
     }

@@ -2,25 +2,31 @@
 
 use crate::audit::{audit, Report};
 use crate::counter::SENTENCES;
-use crate::disk::FLOPPY;
 use crate::loader::{load, relocate, Lent, Loaded};
 use crate::lookup::{find, Found};
 use crate::program::{read as read_program, Refusal};
 use crate::reading::read;
 
-/// Who makes calls.
+/// Who makes calls. Those that are lent an image name its number of blocks, or none by 0.
 pub trait Calls {
     /// Whether it could do with a lent area what it may not.
     const WATCHED: bool;
 
     /// Audits an image.
-    fn audit(&mut self, image: &[u8], claim: &mut [u8]) -> Result<Report, Refusal>;
+    fn audit(&mut self, named: u32, image: &[u8], claim: &mut [u8]) -> Result<Report, Refusal>;
 
     /// Finds a path.
-    fn find(&mut self, image: &[u8], path: &[u8]) -> Result<Found, Refusal>;
+    fn find(&mut self, named: u32, image: &[u8], path: &[u8]) -> Result<Found, Refusal>;
 
     /// Reads a file from an offset on.
-    fn read(&mut self, image: &[u8], path: &[u8], offset: usize, output: &mut [u8]) -> Result<usize, Refusal>;
+    fn read(
+        &mut self,
+        named: u32,
+        image: &[u8],
+        path: &[u8],
+        offset: usize,
+        output: &mut [u8],
+    ) -> Result<usize, Refusal>;
 
     /// Checks a program file.
     fn check(&mut self, file: &[u8]) -> Result<Loaded, Refusal>;
@@ -47,16 +53,23 @@ pub struct Opinion;
 impl Calls for Opinion {
     const WATCHED: bool = false;
 
-    fn audit(&mut self, image: &[u8], claim: &mut [u8]) -> Result<Report, Refusal> {
-        audit(FLOPPY, image, claim)
+    fn audit(&mut self, named: u32, image: &[u8], claim: &mut [u8]) -> Result<Report, Refusal> {
+        audit(named, image, claim)
     }
 
-    fn find(&mut self, image: &[u8], path: &[u8]) -> Result<Found, Refusal> {
-        find(FLOPPY, image, path)
+    fn find(&mut self, named: u32, image: &[u8], path: &[u8]) -> Result<Found, Refusal> {
+        find(named, image, path)
     }
 
-    fn read(&mut self, image: &[u8], path: &[u8], offset: usize, output: &mut [u8]) -> Result<usize, Refusal> {
-        read(FLOPPY, image, path, offset, output)
+    fn read(
+        &mut self,
+        named: u32,
+        image: &[u8],
+        path: &[u8],
+        offset: usize,
+        output: &mut [u8],
+    ) -> Result<usize, Refusal> {
+        read(named, image, path, offset, output)
     }
 
     fn check(&mut self, file: &[u8]) -> Result<Loaded, Refusal> {

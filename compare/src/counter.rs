@@ -5,7 +5,7 @@
 
 use crate::audit::{audit, Report};
 use crate::blocks::DIRECTORY;
-use crate::disk::{claim_length, image_length, FLOPPY};
+use crate::disk::{claim_length, image_length, HIGH_DENSITY};
 use crate::loader::{load, relocate, Lent, Loaded, RECORD};
 use crate::lookup::{find, Found};
 use crate::program::{read as read_program, Refusal, HUNKS};
@@ -24,11 +24,14 @@ pub const BASES: usize = 256;
 
 /// What each refusal means, in words; to that of 41 belong two numbers.
 pub const SENTENCES: [(u32, &str); 34] = [
-    (1, "the image is not 901120 bytes long"),
+    (
+        1,
+        "the image's length does not fit the named number of blocks: 901120 bytes are 1760 blocks, 1802240 are 3520",
+    ),
     (2, "the claim area is too short"),
     (3, "the image does not begin with a boot tag DOS 0 to DOS 3"),
     (4, "a fixed word of the root block is wrong"),
-    (5, "a key is not in 2 to 1759"),
+    (5, "a key is not in 2 to the last block of the disk"),
     (6, "a block is claimed twice, or a chain is too long"),
     (7, "the sum of the block is not 0"),
     (8, "a type word of the block is wrong"),
@@ -110,10 +113,15 @@ pub fn line(name: &[u8], text: &str) -> Vec<u8> {
     [name, b": ", text.as_bytes(), b"\n"].concat()
 }
 
+/// The claim area that the tool lends, long enough for every disk.
+const CLAIM: usize = claim_length(HIGH_DENSITY);
+
+/// An output that no file is longer than: none is as long as its image.
+const OUTPUT: usize = image_length(HIGH_DENSITY);
+
 /// What an audit says of an image, and whether it accepts it.
-pub fn audited(image: &[u8]) -> (String, bool) {
-    let mut claim = vec![0; claim_length(FLOPPY)];
-    match audit(FLOPPY, image, &mut claim) {
+pub fn audited(named: u32, image: &[u8]) -> (String, bool) {
+    match audit(named, image, &mut vec![0; CLAIM]) {
         Ok(Report { directories, files, list_blocks, data_blocks, used, free }) => {
             let entries = format!("{directories} directories, {files} files");
             let blocks = format!("{list_blocks} list blocks, {data_blocks} data blocks, {used} used, {free} free");
@@ -124,8 +132,8 @@ pub fn audited(image: &[u8]) -> (String, bool) {
 }
 
 /// What a lookup says of a path, and whether it leads anywhere.
-pub fn looked_up(image: &[u8], path: &[u8]) -> (String, bool) {
-    match find(FLOPPY, image, path) {
+pub fn looked_up(named: u32, image: &[u8], path: &[u8]) -> (String, bool) {
+    match find(named, image, path) {
         Ok(Found { kind, key, compared, .. }) if kind == DIRECTORY => {
             (format!("directory, key {key}, compared {compared}"), true)
         }
@@ -137,17 +145,16 @@ pub fn looked_up(image: &[u8], path: &[u8]) -> (String, bool) {
 }
 
 /// All bytes of a file on an image.
-pub fn bytes_of(image: &[u8], path: &[u8]) -> Result<Vec<u8>, Refusal> {
-    // no file is as long as its image
-    let mut output = vec![0; image_length(FLOPPY)];
-    let count = read(FLOPPY, image, path, 0, &mut output)?;
+pub fn bytes_of(named: u32, image: &[u8], path: &[u8]) -> Result<Vec<u8>, Refusal> {
+    let mut output = vec![0; OUTPUT];
+    let count = read(named, image, path, 0, &mut output)?;
     output.truncate(count);
     Ok(output)
 }
 
 /// What a read says: the bytes of the file, or on the other side why not.
-pub fn read_out(image: &[u8], path: &[u8]) -> Said {
-    match bytes_of(image, path) {
+pub fn read_out(named: u32, image: &[u8], path: &[u8]) -> Said {
+    match bytes_of(named, image, path) {
         Ok(out) => Said::answer(out, true),
         Err(refusal) => {
             let err = [b"bench: ", &line(path, &refused(refusal))[..]].concat();
@@ -212,18 +219,18 @@ pub fn moved(name: &[u8], file: &[u8], old: &[u32], new: &[u32]) -> Said {
 }
 
 /// What a reset says: a line for each step, and whether the last of them is no refusal.
-fn steps(image: &[u8], path: &[u8], bases: &[u32]) -> (Vec<(&'static str, String)>, bool) {
-    let (text, accepted) = audited(image);
+fn steps(named: u32, image: &[u8], path: &[u8], bases: &[u32]) -> (Vec<(&'static str, String)>, bool) {
+    let (text, accepted) = audited(named, image);
     let mut steps = vec![("audit", text)];
     if !accepted {
         return (steps, false);
     }
-    let (text, accepted) = looked_up(image, path);
+    let (text, accepted) = looked_up(named, image, path);
     steps.push(("find", text));
     if !accepted {
         return (steps, false);
     }
-    let file = match bytes_of(image, path) {
+    let file = match bytes_of(named, image, path) {
         Ok(file) => file,
         Err(refusal) => {
             steps.push(("read", refused(refusal)));
@@ -240,14 +247,15 @@ fn steps(image: &[u8], path: &[u8], bases: &[u32]) -> (Vec<(&'static str, String
 }
 
 /// What a reset says of the program with this path.
-pub fn reset(image: &[u8], path: &[u8], bases: &[u32]) -> Said {
-    let (steps, accepted) = steps(image, path, bases);
+pub fn reset(named: u32, image: &[u8], path: &[u8], bases: &[u32]) -> Said {
+    let (steps, accepted) = steps(named, image, path, bases);
     Said::answer(steps.iter().flat_map(|(step, text)| line(step.as_bytes(), text)).collect(), accepted)
 }
 
 #[cfg(test)]
 mod tests {
     use super::*;
+    use crate::disk::FLOPPY;
     use crate::programs::worked_file;
     use crate::samples::{damaged, title, titles, SETTINGS, TITLE};
     use std::collections::BTreeSet;
@@ -263,20 +271,20 @@ mod tests {
 
     #[test]
     fn lines_of_the_samples() {
-        let (text, accepted) = audited(&titles());
+        let (text, accepted) = audited(FLOPPY, &titles());
         assert_eq!(text, "accepted, 4 directories, 3 files, 1 list blocks, 76 data blocks, 86 used, 1672 free");
         assert!(accepted);
-        let (text, accepted) = audited(&damaged());
+        let (text, accepted) = audited(FLOPPY, &damaged());
         assert_eq!((&text[..12], accepted), ("refused 7 at", false));
         assert!(text.ends_with(" (the sum of the block is not 0)"), "{text}");
-        assert_eq!(looked_up(&titles(), b""), ("directory, key 880, compared 0".to_string(), true));
+        assert_eq!(looked_up(FLOPPY, &titles(), b""), ("directory, key 880, compared 0".to_string(), true));
         let size = title().len();
-        let (text, _) = looked_up(&titles(), TITLE.as_bytes());
+        let (text, _) = looked_up(FLOPPY, &titles(), TITLE.as_bytes());
         assert!(text.ends_with(&format!(", size {size}, compared 2")), "{text}");
-        let said = read_out(&titles(), b"s/nobody");
+        let said = read_out(FLOPPY, &titles(), b"s/nobody");
         assert_eq!(said.err, b"bench: s/nobody: refused 19 at 1 (there is no such name)\n");
         assert_eq!(said.status, REFUSED);
-        let said = read_out(&titles(), SETTINGS.as_bytes());
+        let said = read_out(FLOPPY, &titles(), SETTINGS.as_bytes());
         assert_eq!((&said.err[..], said.status), (&b""[..], ACCEPTED));
     }
 
@@ -316,7 +324,7 @@ mod tests {
     #[test]
     fn a_reset_ends_at_the_first_refusal() {
         let lines = |image: &[u8], path: &[u8], bases: &[u32]| {
-            let (steps, accepted) = steps(image, path, bases);
+            let (steps, accepted) = steps(FLOPPY, image, path, bases);
             (steps.len(), accepted)
         };
         assert_eq!(lines(&titles(), TITLE.as_bytes(), &[0x1000, 0x2000, 0x3000]), (4, true));

@@ -10,7 +10,7 @@ use std::collections::{BTreeMap, BTreeSet};
 
 use crate::audit::{audit, Report};
 use crate::bitmap::is_free;
-use crate::disk::{image_length, Disk};
+use crate::disk::{settled, Disk};
 use crate::names::{folded, name, slot};
 use crate::program::Refusal;
 use crate::words::{key_word, slot_word, sum, word, BLOCK_BYTES, TABLE};
@@ -32,10 +32,19 @@ impl Finding {
     }
 }
 
-/// What an audit answers, which has to go with what an examination finds: panics where the two differ.
-pub fn agreed(blocks: u32, image: &[u8], claim: &mut [u8]) -> Result<Report, Refusal> {
-    let answer = audit(blocks, image, claim);
-    examine(blocks, image).hold(answer, claim);
+/// What an audit answers that names this number of blocks, or none, which has to go with what an examination finds:
+/// panics where the two differ.
+pub fn agreed(named: u32, image: &[u8], claim: &mut [u8]) -> Result<Report, Refusal> {
+    let answer = audit(named, image, claim);
+    examine(named, image).hold(answer, claim);
+    answer
+}
+
+/// The same for an image that has so many blocks, be it a number that disks have or not.
+#[cfg(test)]
+pub(crate) fn agreed_of(blocks: u32, image: &[u8], claim: &mut [u8]) -> Result<Report, Refusal> {
+    let answer = crate::audit::audit_of(blocks, image, claim);
+    examine_of(blocks, image).hold(answer, claim);
     answer
 }
 
@@ -61,15 +70,19 @@ impl Finding {
     }
 }
 
-/// Examines an image that is to have so many blocks. What is of no kind has no other faults.
-pub fn examine(blocks: u32, image: &[u8]) -> Finding {
-    let only = |number| {
-        let faults = vec![Refusal::at(number, 0)];
-        Finding { faults, reached: BTreeSet::new(), report: Report::default() }
-    };
-    if image.len() != image_length(blocks) {
-        return only(1);
-    }
+/// The finding on an image that has this fault, and of which nothing else is asked.
+fn only(number: u32) -> Finding {
+    let faults = vec![Refusal::at(number, 0)];
+    Finding { faults, reached: BTreeSet::new(), report: Report::default() }
+}
+
+/// Examines an image of which this number of blocks is named, or none. What is of no size or kind has no other faults.
+pub fn examine(named: u32, image: &[u8]) -> Finding {
+    settled(named, image.len()).map_or_else(|| only(1), |blocks| examine_of(blocks, image))
+}
+
+/// Examines an image that has so many blocks.
+fn examine_of(blocks: u32, image: &[u8]) -> Finding {
     let Some(disk) = Disk::of(blocks, image) else { return only(3) };
     let view = View { disk: &disk, image };
     let references = view.references();
@@ -113,7 +126,7 @@ struct Reference {
     asked: Asked,
 }
 
-/// An image of the right length.
+/// An image of a length that fits its disk.
 #[derive(Clone, Copy)]
 struct View<'a> {
     disk: &'a Disk,
@@ -370,7 +383,7 @@ impl Check<'_> {
 #[cfg(test)]
 mod tests {
     use super::*;
-    use crate::disk::{claim_length, FLOPPY};
+    use crate::disk::{claim_length, HIGH_DENSITY};
     use crate::rng::Rng;
     use crate::volumes::{any_style, mixed, Kind, Part, Plan, Volume};
     use crate::words::{mend, put};
@@ -378,7 +391,7 @@ mod tests {
 
     /// A file of 200 data blocks in a directory, and one more file, on a disk of any kind.
     fn volume(rng: &mut Rng) -> Volume {
-        let disk = rng.pick(&Disk::FLOPPIES);
+        let disk = rng.pick(&Disk::ALL);
         volume_on(rng, &disk)
     }
 
@@ -392,7 +405,7 @@ mod tests {
     }
 
     fn faults(image: &[u8]) -> Vec<(u32, usize)> {
-        examine(FLOPPY, image).faults.iter().map(|fault| (fault.number, fault.place)).collect()
+        examine(0, image).faults.iter().map(|fault| (fault.number, fault.place)).collect()
     }
 
     /// The image with other words in one of its blocks, and its sum mended.
@@ -407,11 +420,11 @@ mod tests {
     #[test]
     fn a_volume_is_what_it_was_planned_to_be() {
         let mut rng = Rng::new(100);
-        for disk in [Disk::FLOPPIES; 10].concat() {
+        for disk in [&[Disk::FLOPPIES; 8].concat()[..], &Disk::of_blocks(HIGH_DENSITY)].concat() {
             let plan = mixed(&mut rng, &disk, 150);
             let style = any_style(&mut rng);
             let volume = Volume::new(&mut rng, &plan, style);
-            let finding = examine(FLOPPY, &volume.image);
+            let finding = examine(disk.blocks, &volume.image);
             assert_eq!(finding.faults, []);
             assert!(finding.is_volume());
             assert_eq!(finding.report, volume.report());
@@ -422,7 +435,7 @@ mod tests {
     #[test]
     fn every_fault_is_noted_and_no_other() {
         let mut rng = Rng::new(101);
-        for disk in Disk::FLOPPIES {
+        for disk in Disk::ALL {
             hold_faults(&volume_on(&mut rng, &disk));
         }
     }
@@ -466,6 +479,10 @@ mod tests {
             assert_eq!(found, wanted, "block {key}, {words:?}");
         }
         assert_eq!(faults(&volume.image[1..]), [(1, 0)]);
+        let other = volume.disk.other_sizes().next().expect("another size").blocks;
+        for named in [other, 1, volume.disk.blocks + 1, u32::MAX] {
+            assert_eq!(examine(named, &volume.image).faults, [Refusal::at(1, 0)], "{named}");
+        }
         for (place, byte) in [(0, 0), (3, 4), (3, 5), (3, 0x80), (3, 0xFF)] {
             let mut untagged = volume.image.clone();
             untagged[place] = byte;
@@ -523,16 +540,17 @@ mod tests {
     fn differences_are_not_agreed_to() {
         let mut rng = Rng::new(104);
         let volume = volume(&mut rng);
-        let mut claim = vec![0xAA; claim_length(FLOPPY)];
-        let answer = agreed(FLOPPY, &volume.image, &mut claim);
+        let (blocks, root) = (volume.disk.blocks, volume.disk.root() as usize);
+        let mut claim = vec![0xAA; claim_length(blocks)];
+        let answer = agreed(blocks, &volume.image, &mut claim);
         let complaint = |image: &[u8], answer, claim: &[u8]| {
-            let finding = examine(FLOPPY, image);
+            let finding = examine(blocks, image);
             let held = catch_unwind(AssertUnwindSafe(|| finding.hold(answer, claim)));
             held.err().and_then(|panic| panic.downcast_ref::<String>().cloned()).unwrap_or_default()
         };
         assert_eq!(complaint(&volume.image, answer, &claim), "");
         let report = answer.map(|report| Report { files: report.files + 1, ..report });
-        let bad = changed(&volume, 880, &[(3, 71)]);
+        let bad = changed(&volume, volume.disk.root(), &[(3, 71)]);
         let (cleared, mut more) = (vec![0; claim.len()], claim.clone());
         more[0] = 1;
         let refused = |number, place| Err(Refusal::at(number, place));
@@ -540,16 +558,16 @@ mod tests {
             (&volume.image, report, &claim, "the counts"),
             (&volume.image, answer, &more, "the claimed blocks"),
             (&volume.image, answer, &cleared, "the claimed blocks"),
-            (&volume.image, answer, &vec![0xAA; 1760], "zeros and ones"),
-            (&volume.image, refused(4, 880), &cleared, "not among the faults"),
+            (&volume.image, answer, &vec![0xAA; claim.len()], "zeros and ones"),
+            (&volume.image, refused(4, root), &cleared, "not among the faults"),
             (&bad, answer, &claim, "an accepted volume"),
-            (&bad, refused(4, 879), &cleared, "not among the faults"),
-            (&bad, refused(8, 880), &cleared, "not among the faults"),
-            (&bad, refused(4, 880), &claim, "a refused volume"),
+            (&bad, refused(4, root - 1), &cleared, "not among the faults"),
+            (&bad, refused(8, root), &cleared, "not among the faults"),
+            (&bad, refused(4, root), &claim, "a refused volume"),
         ] {
             let complaint = complaint(image, answer, claim);
             assert!(complaint.contains(said), "{complaint:?}, not {said:?}");
         }
-        assert_eq!(complaint(&bad, refused(4, 880), &cleared), "");
+        assert_eq!(complaint(&bad, refused(4, root), &cleared), "");
     }
 }

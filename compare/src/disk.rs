@@ -1,14 +1,31 @@
 //! What follows from how many blocks a disk has and what kind it is.
 //!
 //! docs/FORMAT.md gives most of these as plain numbers, scattered over its sections. Here each is said once, as
-//! a consequence of the block count; outside of tests no other module writes one of them down. The size is told to a
-//! call, the kind is read off the image by [`Disk::of`].
+//! a consequence of the block count; outside of tests no other module writes one of them down. The size follows from
+//! the number of blocks that a call names and from the image's length, see [`settled`]; the kind is read off the image
+//! by [`Disk::of`].
 
 use crate::words::BLOCK_BYTES;
 use std::ops::Range;
 
 /// How many blocks the 880 KB floppy has.
 pub const FLOPPY: u32 = 1760;
+
+/// How many blocks a high-density disk has.
+pub const HIGH_DENSITY: u32 = 3520;
+
+/// The numbers of blocks that a disk can have.
+pub const SIZES: [u32; 2] = [FLOPPY, HIGH_DENSITY];
+
+/// What a call names if it names no number of blocks.
+pub const ANY: u32 = 0;
+
+/// How many blocks an image of this length has for a call that names this number of them. `None` is for refusal 1: such
+/// an image fits no number that a disk can have, or not the one that is named.
+pub fn settled(named: u32, length: usize) -> Option<u32> {
+    let fitting = SIZES.into_iter().find(|&blocks| image_length(blocks) == length)?;
+    [ANY, fitting].contains(&named).then_some(fitting)
+}
 
 /// The length in bytes of an image of so many blocks. It is asked for before the kind of the disk is.
 pub const fn image_length(blocks: u32) -> usize {
@@ -21,7 +38,7 @@ pub const fn claim_length(blocks: u32) -> usize {
 }
 
 /// A size and kind of disk.
-#[derive(Clone, Copy, Debug, PartialEq, Eq)]
+#[derive(Clone, Copy, Debug, PartialEq, Eq, PartialOrd, Ord)]
 pub struct Disk {
     /// How many blocks its image has.
     pub blocks: u32,
@@ -45,25 +62,59 @@ impl Disk {
     /// The floppies of all kinds, by their kind.
     pub const FLOPPIES: [Disk; 4] = [Disk::OLD, Disk::FAST, Disk::OLD_INTERNATIONAL, Disk::FAST_INTERNATIONAL];
 
+    /// The disks of all sizes and kinds, by size and then by kind.
+    pub const ALL: [Disk; 8] = {
+        let [old, fast, old_international, fast_international] = Disk::FLOPPIES;
+        [
+            old,
+            fast,
+            old_international,
+            fast_international,
+            old.with_blocks(HIGH_DENSITY),
+            fast.with_blocks(HIGH_DENSITY),
+            old_international.with_blocks(HIGH_DENSITY),
+            fast_international.with_blocks(HIGH_DENSITY),
+        ]
+    };
+
     /// The first block that belongs to the volume; those below it are for booting and have no bit.
     pub const FIRST_KEY: u32 = 2;
 
+    /// The disk of the same kind that has so many blocks.
+    pub const fn with_blocks(self, blocks: u32) -> Disk {
+        Disk { blocks, ..self }
+    }
+
+    /// The disks of so many blocks, by their kind.
+    pub fn of_blocks(blocks: u32) -> [Disk; 4] {
+        Disk::FLOPPIES.map(|floppy| floppy.with_blocks(blocks))
+    }
+
     /// The disk of so many blocks that an image is of, by its boot tag; `None` if that is the tag of no kind.
     pub fn of(blocks: u32, image: &[u8]) -> Option<Disk> {
-        let all = Disk::FLOPPIES.map(|floppy| Disk { blocks, ..floppy });
-        all.into_iter().find(|disk| image.starts_with(&disk.boot_tag()))
+        Disk::of_blocks(blocks).into_iter().find(|disk| image.starts_with(&disk.boot_tag()))
+    }
+
+    /// The disk that an image is for a call that names this number of blocks; `None` if the call has to refuse it by 1
+    /// or by 3.
+    pub fn named(named: u32, image: &[u8]) -> Option<Disk> {
+        Disk::of(settled(named, image.len())?, image)
     }
 
     /// The disks of the same size and of other kinds.
     pub fn others(self) -> impl Iterator<Item = Disk> {
-        let all = Disk::FLOPPIES.into_iter().map(move |floppy| Disk { blocks: self.blocks, ..floppy });
-        all.filter(move |&disk| disk != self)
+        Disk::of_blocks(self.blocks).into_iter().filter(move |&disk| disk != self)
+    }
+
+    /// The disks of the same kind and of other sizes.
+    pub fn other_sizes(self) -> impl Iterator<Item = Disk> {
+        SIZES.into_iter().filter(move |&blocks| blocks != self.blocks).map(move |blocks| self.with_blocks(blocks))
     }
 
     /// The disk in the old file system that folds names as this one does.
     pub const fn old(self) -> Disk {
         let old = if self.is_international() { Disk::OLD_INTERNATIONAL } else { Disk::OLD };
-        Disk { blocks: self.blocks, ..old }
+        old.with_blocks(self.blocks)
     }
 
     /// Whether letters with accents have two cases.
@@ -142,10 +193,48 @@ mod tests {
         assert_eq!(disk.bitmap_span(), 98);
     }
 
+    /// Every named number of interest with every length of interest: an image has a size for a call in four cases.
+    #[test]
+    fn the_named_number_and_the_length_settle_the_size() {
+        let numbers =
+            [1, 2, 512, 880, 1_759, 1_761, 3_519, 3_521, 5_280, 901_120, 1 << 31, (1 << 31) + 1_760, u32::MAX];
+        let bytes = [0, 1, 3, 512, 450_560, 900_608, 901_119, 901_121, 901_632, 1_801_728, 1_802_239, 1_802_241];
+        for named in [0, 1_760, 3_520].into_iter().chain(numbers) {
+            for length in [901_120, 1_802_240, 1_802_752, 3_604_480, usize::MAX].into_iter().chain(bytes) {
+                let wanted = match (named, length) {
+                    (0 | 1_760, 901_120) => Some(1_760),
+                    (0 | 3_520, 1_802_240) => Some(3_520),
+                    _ => None,
+                };
+                assert_eq!(settled(named, length), wanted, "{length} bytes, {named} named");
+            }
+        }
+        // a length that is right in its low 32 bits alone
+        assert_eq!([0, 1_760, 3_520].map(|named| settled(named, (1 << 32) + 901_120)), [None; 3]);
+    }
+
+    #[test]
+    fn the_disk_of_an_image_by_size_and_tag() {
+        let image = |length: usize, kind: u8| [&[0x44, 0x4F, 0x53, kind][..], &vec![0; length - 4]].concat();
+        for kind in 0..=4 {
+            let [floppy, high] = [FLOPPY, HIGH_DENSITY].map(|blocks| image(image_length(blocks), kind));
+            let [small, large] = [1_760, 3_520].map(|blocks| (kind < 4).then_some(Disk { blocks, kind }));
+            assert_eq!(
+                [0, 1_760, 3_520, 1_761].map(|named| Disk::named(named, &floppy)),
+                [small, small, None, None]
+            );
+            assert_eq!(
+                [0, 3_520, 1_760, 3_519].map(|named| Disk::named(named, &high)),
+                [large, large, None, None]
+            );
+            assert_eq!([0, 1_760].map(|named| Disk::named(named, &floppy[..901_119])), [None; 2]);
+        }
+    }
+
     /// All tags that are the letters DOS and one byte, and all that differ from one of them in one bit of a letter.
     #[test]
     fn the_boot_tag_says_the_kind() {
-        for blocks in [100, FLOPPY] {
+        for blocks in [100, FLOPPY, HIGH_DENSITY] {
             for kind in 0..=255 {
                 let wanted = (kind < 4).then_some(Disk { blocks, kind });
                 assert_eq!(Disk::of(blocks, &[0x44, 0x4F, 0x53, kind, 1, 2, 3]), wanted, "{kind}");
@@ -169,6 +258,15 @@ mod tests {
         let found = Disk::FLOPPIES.map(|disk| (disk.data_start(), disk.data_bytes(), disk.file_limit()));
         let [old, fast] = [(24, 488, 856_440), (0, 512, 898_560)];
         assert_eq!(found, [old, fast, old, fast]);
+        let found = Disk::ALL.map(|disk| (disk.blocks, disk.kind));
+        assert_eq!(found[..4], [(1_760, 0), (1_760, 1), (1_760, 2), (1_760, 3)]);
+        assert_eq!(found[4..], [(3_520, 0), (3_520, 1), (3_520, 2), (3_520, 3)]);
+        assert_eq!(Disk::of_blocks(HIGH_DENSITY), Disk::ALL[4..]);
+        assert_eq!(
+            Disk::ALL[4..].iter().map(Disk::file_limit).collect::<Vec<_>>(),
+            [1_715_320, 1_799_680].repeat(2)
+        );
+        assert!(Disk::ALL[2].other_sizes().eq([Disk::ALL[6]]) && Disk::ALL[7].other_sizes().eq([Disk::ALL[3]]));
         let small = Disk { blocks: 9, kind: 2 };
         assert!(small.others().eq([0, 1, 3].map(|kind| Disk { blocks: 9, kind })));
         let old = [0, 1, 2, 3].map(|kind| Disk { blocks: 9, kind }.old());

@@ -7,19 +7,22 @@ use std::collections::{BTreeMap, BTreeSet};
 use std::rc::Rc;
 
 use crate::bad_programs::{bad_bases, scratch as scratch_program, short_room, CAUSES};
-use crate::bad_volumes::{apply, causes, harmless, scratch, wrong_lengths, Cause, Harm, Patch};
+use crate::bad_volumes::{apply, causes, harmless, scratch, wrong_lengths, Cause, Harm, Patch, NO_SIZES};
 use crate::calls::{Calls, Opinion};
-use crate::disk::{image_length, Disk, FLOPPY};
+use crate::disk::{image_length, settled, Disk, ANY, FLOPPY, HIGH_DENSITY};
 use crate::driver::Request;
 use crate::kinds::retagged;
-use crate::model::{load_body, move_body, read_request, Model, AUDIT, FILE, FIND, IMAGE, LOAD, MOVE, PATCH};
+use crate::model::{
+    load_body, move_body, read_request, Model, AUDIT, DISK, FILE, FIND, IMAGE, IMAGE_ROOM, LOAD, MOVE, PATCH,
+};
 use crate::native::Exports;
 use crate::paths::{bad_forms, telling_offsets, telling_rooms, Paths};
 use crate::programs::{file, good_bases, good_program, Room};
 use crate::rng::Rng;
 use crate::sizes::largest_file;
 use crate::volumes::{
-    alike, any_style, chain, empty, files, full, mixed, nested, shuffle, telling_sizes, Kind, Part, Volume,
+    alike, any_style, both_sizes, chain, empty, files, full, mixed, nested, shuffle, telling_sizes, Kind, Part,
+    Volume,
 };
 use crate::words::{BLOCK_BYTES, TABLE};
 
@@ -75,8 +78,8 @@ impl Call {
 /// Something to ask.
 #[derive(Clone, Debug)]
 pub enum Case {
-    /// A question about an image, which is another one patched.
-    Image { good: Rc<Vec<u8>>, patches: Vec<Patch>, asked: Asked },
+    /// A question about an image, which is another one patched, and the number of blocks that the call names.
+    Image { named: u32, good: Rc<Vec<u8>>, patches: Vec<Patch>, asked: Asked },
     /// Calls with a program file.
     Program { file: Vec<u8>, calls: Vec<Call> },
 }
@@ -91,13 +94,18 @@ fn undoing(good: &[u8], patches: &[Patch]) -> Vec<Patch> {
 }
 
 /// The requests for these cases one after the other, each with the number of its case. An image that several cases in a
-/// row begin with is sent once.
+/// row begin with is sent once, and a number of blocks is named where it changes.
 fn numbered_requests(cases: &[Case]) -> Vec<(usize, Request)> {
     let mut held: Option<&Rc<Vec<u8>>> = None;
+    let mut now = FLOPPY;
     let mut all = Vec::new();
     for (number, case) in cases.iter().enumerate() {
         match case {
-            Case::Image { good, patches, asked } => {
+            Case::Image { named, good, patches, asked } => {
+                if *named != now {
+                    all.push((number, (DISK, named.to_be_bytes().to_vec())));
+                    now = *named;
+                }
                 if !held.is_some_and(|held| Rc::ptr_eq(held, good)) {
                     all.push((number, (IMAGE, good.to_vec())));
                     held = Some(good);
@@ -180,8 +188,10 @@ pub fn differ(case: &Case, one: &mut Answerer, other: &mut Answerer) -> bool {
     compare(std::slice::from_ref(case), one, other).is_err()
 }
 
+/// A volume of any kind, one in three on a high-density disk.
 fn any_volume(rng: &mut Rng) -> Volume {
-    let disk = &rng.pick(&Disk::FLOPPIES);
+    let blocks = rng.pick(&[FLOPPY, FLOPPY, HIGH_DENSITY]);
+    let disk = &rng.pick(&Disk::of_blocks(blocks));
     let few = 1 + rng.below(60) as u32;
     let full_block = disk.data_bytes();
     let plan = match rng.below(40) {
@@ -195,6 +205,11 @@ fn any_volume(rng: &mut Rng) -> Volume {
         15 => files(rng, disk, &[largest_file(disk)]),
         16..18 => full(rng, disk),
         18..22 => alike(rng, disk, few, if disk.is_international() { 0 } else { few / 8 }),
+        22 => {
+            // cut to a floppy's length it is one
+            let [_, large] = both_sizes(rng, disk.kind, few);
+            return large;
+        }
         _ => {
             let blocks = rng.pick(&[10, 30, 80, 200, 400]);
             mixed(rng, disk, blocks)
@@ -307,30 +322,59 @@ fn any_read(rng: &mut Rng, disk: &Disk, path: &[u8]) -> Asked {
     Asked::Read { offset, room, path: path.to_vec() }
 }
 
+/// A number of blocks to name for such a disk: mostly its own, or none.
+fn any_named(rng: &mut Rng, disk: &Disk) -> u32 {
+    let wrong = rng.pick(&NO_SIZES);
+    let other = disk.other_sizes().next().map_or(wrong, |other| other.blocks);
+    let right = rng.pick(&[disk.blocks, disk.blocks, ANY]);
+    rng.pick(&[right, right, right, right, right, right, right, right, right, right, other, wrong])
+}
+
+/// A claim area for such a disk: mostly long enough for it.
+fn any_claim(rng: &mut Rng, disk: &Disk) -> u32 {
+    let blocks = disk.blocks;
+    let other = disk.other_sizes().next().map_or(blocks, |other| other.blocks);
+    rng.pick(&[blocks, blocks, blocks, blocks + 1, 4_096, blocks - 1, other])
+}
+
 /// Cases about one volume with so many damages, one after the other.
 fn image_cases(rng: &mut Rng, damages: usize) -> Vec<Case> {
     let volume = any_volume(rng);
+    let disk = &volume.disk;
     let (good, paths) = (Rc::new(volume.image.clone()), Paths::new(&volume));
     let others = any_paths(rng, &paths);
     let mut cases = Vec::new();
     for _ in 0..damages {
         let patches = damage(rng, &volume);
-        let claim = rng.pick(&[1_760, 1_760, 1_760, 1_761, 4_096, 1_759]);
-        let mut questions = vec![Asked::Audit(claim)];
+        let mut questions = vec![Asked::Audit(any_claim(rng, disk))];
         for path in concerned(rng, &paths, &patches, &others) {
-            questions.push(any_read(rng, &volume.disk, &path));
+            questions.push(any_read(rng, disk, &path));
             questions.push(Asked::Find(path));
         }
-        let case = |asked| Case::Image { good: good.clone(), patches: patches.clone(), asked };
+        let named = any_named(rng, disk);
+        let case = |asked| Case::Image { named, good: good.clone(), patches: patches.clone(), asked };
         cases.extend(questions.into_iter().map(case));
     }
-    if rng.below(10) == 0 {
-        let mut image = volume.image.clone();
-        image.resize(rng.pick(&wrong_lengths(FLOPPY)), 0);
-        let good = Rc::new(image);
-        let read = any_read(rng, &volume.disk, &others[0]);
-        let asked = [Asked::Audit(1_760), Asked::Find(others[0].clone()), read];
-        cases.extend(asked.map(|asked| Case::Image { good: good.clone(), patches: Vec::new(), asked }));
+    if rng.below(8) == 0 {
+        cases.extend(resized_cases(rng, &volume, &others));
+    }
+    cases
+}
+
+/// Cases about the bytes of a volume cut or made longer: to the length of another size of disk, or to one that fits no
+/// disk.
+fn resized_cases(rng: &mut Rng, volume: &Volume, paths: &[Vec<u8>]) -> Vec<Case> {
+    let other = volume.disk.other_sizes().next().unwrap_or(volume.disk);
+    let wrong: Vec<usize> = wrong_lengths(ANY).into_iter().filter(|&length| length <= IMAGE_ROOM).collect();
+    let length = [rng.pick(&wrong), image_length(other.blocks)][rng.below(2) as usize];
+    let mut image = volume.image.clone();
+    image.resize(length, 0);
+    let good = Rc::new(image);
+    let mut cases = Vec::new();
+    for path in paths.iter().take(4) {
+        let named = [any_named(rng, &volume.disk), any_named(rng, &other)][rng.below(2) as usize];
+        let asked = [Asked::Audit(any_claim(rng, &other)), Asked::Find(path.clone()), any_read(rng, &other, path)];
+        cases.extend(asked.map(|asked| Case::Image { named, good: good.clone(), patches: Vec::new(), asked }));
     }
     cases
 }
@@ -396,15 +440,16 @@ pub fn patched(good: &[u8], patches: &[Patch]) -> Vec<u8> {
     image
 }
 
-/// The kinds that the image of a case says it is of: as it was drawn, and as it is asked about.
-pub fn kinds(case: &Case) -> Option<[Option<u8>; 2]> {
-    let Case::Image { good, patches, .. } = case else { return None };
+/// The disks that the image of a case is: as it was drawn, by its length and tag alone, and as it is asked about, also
+/// by the number of blocks that is named.
+pub fn disks(case: &Case) -> Option<[Option<Disk>; 2]> {
+    let Case::Image { named, good, patches, .. } = case else { return None };
     let mut tag: Vec<u8> = good.iter().copied().take(4).collect();
     for (place, bytes) in patches {
         tag.iter_mut().skip(*place).zip(bytes).for_each(|(byte, &new)| *byte = new);
     }
-    let kind = |image: &[u8]| Disk::of(FLOPPY, image).map(|disk| disk.kind);
-    Some([kind(good), kind(&tag)])
+    let asked = settled(*named, good.len()).and_then(|blocks| Disk::of(blocks, &tag));
+    Some([Disk::named(ANY, good), asked])
 }
 
 /// The words in which two images differ, as patches of one word each that make the first the second.
@@ -417,7 +462,7 @@ pub fn differing_words(one: &[u8], other: &[u8]) -> Vec<Patch> {
 pub fn told(case: &Case) -> String {
     let hex = |bytes: &[u8]| bytes.iter().map(|byte| format!("{byte:02X}")).collect::<String>();
     match case {
-        Case::Image { good, patches, asked } => {
+        Case::Image { named, good, patches, asked } => {
             let word = |(place, new): &Patch| {
                 let old = &good[*place..][..new.len()];
                 let (block, index) = (place / BLOCK_BYTES, place % BLOCK_BYTES / 4);
@@ -427,10 +472,8 @@ pub fn told(case: &Case) -> String {
             let blank = |block: &&[u8]| block.iter().all(|&byte| byte == 0);
             let blocks = good.chunks(BLOCK_BYTES).filter(|block| !blank(block)).count();
             let (length, tag) = (good.len(), hex(&good[..good.len().min(4)]));
-            format!(
-                "an image of {length} bytes, boot tag {tag}, {blocks} blocks not blank\n{words}{}\n",
-                asked.told()
-            )
+            let image = format!("an image of {length} bytes, boot tag {tag}, {blocks} blocks not blank");
+            format!("{image}\n{words}{}, {named} blocks named\n", asked.told())
         }
         Case::Program { file, calls } => {
             let words: String = file.chunks(4).map(|word| hex(word) + " ").collect();
@@ -443,6 +486,7 @@ pub fn told(case: &Case) -> String {
 #[cfg(test)]
 mod tests {
     use super::*;
+    use crate::disk::SIZES;
     use crate::model::READ;
     use crate::shrink::shrink;
     use crate::words::word;
@@ -453,9 +497,9 @@ mod tests {
     #[test]
     fn a_round_follows_from_its_seed_and_has_everything() {
         let (mut sum, mut asked) = (Tally::new(), BTreeMap::new());
-        for seed in 0..16 {
+        for seed in 0..24 {
             let cases = round(seed);
-            cases.iter().filter_map(kinds).for_each(|kinds| *asked.entry(kinds).or_insert(0) += 1);
+            cases.iter().filter_map(disks).for_each(|disks| *asked.entry(disks).or_insert(0) += 1);
             // the first few are enough for the answers
             if seed >= 6 {
                 continue;
@@ -471,11 +515,20 @@ mod tests {
             assert!(accepted > 30 && refused > 30, "{call}: {accepted} accepted, {refused} refused");
         }
         // of each kind; of each, but by a patch of another; and of each, but by a patch of none
+        let kinds_of = |[drawn, now]: [Option<Disk>; 2]| [drawn, now].map(|disk| disk.map(|disk| disk.kind));
+        let times = |drawn, now| -> usize {
+            asked.iter().filter(|(&disks, _)| kinds_of(disks) == [drawn, now]).map(|(_, &times)| times).sum()
+        };
         for (drawn, now) in (0..4).flat_map(|drawn| (0..4).map(move |now| (drawn, now))) {
-            let times = asked.get(&[Some(drawn), Some(now)]).copied().unwrap_or(0);
+            let times = times(Some(drawn), Some(now));
             assert!(times >= if drawn == now { 200 } else { 5 }, "{drawn} {now} {times} times: {asked:?}");
         }
-        assert!((0..4).all(|kind| asked.contains_key(&[Some(kind), None])), "{asked:?}");
+        assert!((0..4).all(|kind| times(Some(kind), None) > 0), "{asked:?}");
+        // of each size and kind, and where that is the image's, not so for the call
+        for disk in Disk::ALL {
+            let [right, wrong] = [Some(disk), None].map(|now| asked.get(&[Some(disk), now]).copied().unwrap_or(0));
+            assert!(right >= 100 && wrong >= 5, "{disk:?} {right} and {wrong} times: {asked:?}");
+        }
     }
 
     /// A wrong answerer: the model, but for one kind of line.
@@ -550,6 +603,48 @@ mod tests {
         move |requests| due(&requests.iter().map(changed).collect::<Vec<Request>>())
     }
 
+    /// The kind of the disk that a case asks about.
+    fn kind_asked(case: &Case) -> Option<u8> {
+        disks(case).and_then(|disks| disks[1]).map(|disk| disk.kind)
+    }
+
+    /// The lines that are due if each named number of blocks were another.
+    fn with_names(other: fn(u32) -> u32) -> impl Fn(&[Request]) -> Vec<String> {
+        move |requests| {
+            let changed = |(number, body): &Request| match *number {
+                DISK => (DISK, other(word(body, 0)).to_be_bytes().to_vec()),
+                _ => (*number, body.clone()),
+            };
+            let lines = due(&requests.iter().map(changed).collect::<Vec<Request>>());
+            // what is named is said as it was given
+            let said = |(line, (number, body)): (String, &Request)| match *number {
+                DISK => format!("disk {}", word(body, 0)),
+                _ => line,
+            };
+            lines.into_iter().zip(requests).map(said).collect()
+        }
+    }
+
+    /// A reader that takes no number for the floppy's, one that takes every number for none, one that takes whatever is
+    /// no number of a disk for none, and one that knows floppies alone. The image need have nothing but its length for
+    /// that, if a path of bad form is asked for; else a tag, or a root.
+    #[test]
+    fn slips_of_sizes_are_caught_and_made_small() {
+        let slips: [(fn(u32) -> u32, fn(u32) -> bool); 4] = [
+            (|named| if named == ANY { FLOPPY } else { named }, |named| named == ANY),
+            (|_| ANY, |named| named != ANY),
+            (|named| if SIZES.contains(&named) { named } else { ANY }, |named| NO_SIZES.contains(&named)),
+            (|named| if named == HIGH_DENSITY { FLOPPY } else { named }, |named| named == HIGH_DENSITY),
+        ];
+        for (other, is_met) in slips {
+            let case = caught_from(&mut with_names(other));
+            let (words, blocks) = image_size(&case);
+            assert!(words == 0 && blocks <= 3, "{}", told(&case));
+            let Case::Image { named, .. } = case else { panic!("a case about an image") };
+            assert!(is_met(named), "{}", told(&case));
+        }
+    }
+
     /// A reader that knows no accents is caught at an entry with one.
     #[test]
     fn slips_of_folding_are_caught_and_made_small() {
@@ -557,7 +652,7 @@ mod tests {
         let (words, blocks) = image_size(&case);
         // the tag, the root and the entry, for an audit the bitmap block too; at most the tag and a name are patched
         assert!(words <= 4 && blocks <= 4, "{}", told(&case));
-        let kind = kinds(&case).and_then(|kinds| kinds[1]);
+        let kind = kind_asked(&case);
         assert!([Some(2), Some(3)].contains(&kind), "{}", told(&case));
     }
 
@@ -569,13 +664,13 @@ mod tests {
             let (words, blocks) = image_size(&case);
             // the tag, the root, the header and a table, and the directories above
             assert!(words <= 4 && blocks <= 12, "{}", told(&case));
-            let kind = kinds(&case).and_then(|kinds| kinds[1]);
+            let kind = kind_asked(&case);
             assert!(caught_at.map(Some).contains(&kind), "{}", told(&case));
         }
         let case = caught_from(&mut with_kinds([0, 4, 2, 4]));
         // the root is enough
         assert!(image_size(&case).1 <= 2, "{}", told(&case));
-        assert!([Some(1), Some(3)].contains(&kinds(&case).and_then(|kinds| kinds[1])), "{}", told(&case));
+        assert!([Some(1), Some(3)].contains(&kind_asked(&case)), "{}", told(&case));
     }
 
     #[test]

@@ -111,7 +111,7 @@ mod tests {
     use super::*;
     use crate::bad_volumes::apply;
     use crate::declared::agreed;
-    use crate::disk::{claim_length, FLOPPY};
+    use crate::disk::{claim_length, SIZES};
     use crate::rng::Rng;
     use crate::volumes::{alike, any_style, chain, empty, files, mixed, Filling, Kind, Order, Plan, Style};
     use crate::words::{mend, put, BLOCK_BYTES};
@@ -121,7 +121,8 @@ mod tests {
     fn judged(volume: &Volume, patches: &[Patch]) -> Result<Report, Refusal> {
         let mut image = volume.image.clone();
         apply(patches, &mut image);
-        agreed(FLOPPY, &image, &mut vec![0xAA; claim_length(FLOPPY)])
+        let blocks = volume.disk.blocks;
+        agreed(blocks, &image, &mut vec![0xAA; claim_length(blocks)])
     }
 
     fn laid_out(rng: &mut Rng, plan: &Plan) -> Volume {
@@ -153,7 +154,9 @@ mod tests {
         let mut rng = Rng::new(89);
         let mut met: BTreeMap<(u8, u8), BTreeMap<u32, u32>> = BTreeMap::new();
         for round in 0..120 {
-            for disk in &Disk::FLOPPIES {
+            // one round in four on larger disks
+            let blocks = SIZES[usize::from(round / 6 % 4 == 3)];
+            for disk in &Disk::of_blocks(blocks) {
                 let pairs = if disk.is_international() { 0 } else { round / 6 % 3 };
                 let small = 1 + rng.below(900) as u32;
                 let plan = match round % 6 {
@@ -198,17 +201,20 @@ mod tests {
     #[test]
     fn one_file_in_either_file_system() {
         let mut rng = Rng::new(66);
-        let [old, fast] = [Disk::OLD, Disk::FAST];
-        for (size, counts_agree) in [(0, true), (1, true), (488, true), (489, false), (512, false), (513, true)] {
-            for (from, to) in [(old, fast), (fast, old)] {
-                let plan = files(&mut rng, &from, &[size]);
-                let style = Style { filling: Filling::Old, order: Order::Shuffled };
-                let volume = Volume::new(&mut rng, &plan, style);
-                let key = volume.entries[0].key;
-                let due = if counts_agree { Ok(volume.report()) } else { Err(Refusal::at(14, key as usize)) };
-                let (patch, known) = retagged(&volume, &to);
-                assert_eq!(known, due, "{size} bytes");
-                assert_eq!(judged(&volume, &[patch]), due, "{size} bytes");
+        for (old, fast) in SIZES.map(|blocks| (Disk::OLD.with_blocks(blocks), Disk::FAST.with_blocks(blocks))) {
+            for (size, counts_agree) in
+                [(0, true), (1, true), (488, true), (489, false), (512, false), (513, true)]
+            {
+                for (from, to) in [(old, fast), (fast, old)] {
+                    let plan = files(&mut rng, &from, &[size]);
+                    let style = Style { filling: Filling::Old, order: Order::Shuffled };
+                    let volume = Volume::new(&mut rng, &plan, style);
+                    let key = volume.entries[0].key;
+                    let due = if counts_agree { Ok(volume.report()) } else { Err(Refusal::at(14, key as usize)) };
+                    let (patch, known) = retagged(&volume, &to);
+                    assert_eq!(known, due, "{size} bytes");
+                    assert_eq!(judged(&volume, &[patch]), due, "{size} bytes");
+                }
             }
         }
     }

@@ -12,7 +12,8 @@
 //! - The work area of a move is lent anew and bound by its room alone, not by the last load.
 //! - Each list of bases may have 256 entries, so a move's two lists together 512.
 //! - A new file leaves memory and table alone.
-//! - A body that is not whole numbers is a bad request with 7 and 8.
+//! - A body that is not whole numbers is a bad request with 7 and 8; that of 9 is one number and nothing else.
+//! - Any number may be named with 9. It is for the calls after it to refuse an image by it.
 
 use std::hint::black_box;
 
@@ -20,6 +21,7 @@ use crate::areas::{Area, Shown, Watched};
 use crate::audit::Report;
 use crate::blocks::{DIRECTORY, FILE as FILE_KIND};
 use crate::calls::{Calls, Opinion};
+use crate::disk::FLOPPY;
 use crate::driver::{checksum, Request};
 use crate::loader::{Lent, Loaded, RECORD};
 use crate::lookup::Found;
@@ -35,6 +37,7 @@ pub const READ: u32 = 5;
 pub const FILE: u32 = 6;
 pub const LOAD: u32 = 7;
 pub const MOVE: u32 = 8;
+pub const DISK: u32 = 9;
 
 /// Requests that `probe` does not have: a read with an offset of eight bytes, and a check of the held file.
 pub const FAR_READ: u32 = 101;
@@ -67,6 +70,8 @@ pub const MOST: Room = Room { memory: AREA_ROOM, records: RECORDS, work: AREA_RO
 /// What `probe` remembers between requests, and who makes the calls that are asked for.
 pub struct Model<C = Opinion> {
     calls: C,
+    /// The number of blocks that calls name.
+    named: u32,
     /// The held image.
     image: Shown<u8>,
     /// The held program file.
@@ -118,10 +123,11 @@ impl<C: Calls + Default> Default for Model<C> {
 }
 
 impl<C: Calls> Model<C> {
-    /// Nothing is held yet.
+    /// Nothing is held yet, and the floppy's number of blocks is named.
     pub fn new(calls: C) -> Model<C> {
         let (image, file) = (Shown::new(&[], 0), Shown::new(&[], 0));
-        Model { calls, image, file, memory: Area::new(&[], 0), table: Area::new(&[], 0), areas: 0 }
+        let (memory, table) = (Area::new(&[], 0), Area::new(&[], 0));
+        Model { calls, named: FLOPPY, image, file, memory, table, areas: 0 }
     }
 
     /// The line for a request.
@@ -161,6 +167,10 @@ impl<C: Calls> Model<C> {
                 let (old, new) = lists.split_at_checked(count as usize)?;
                 (old.len() <= BASES && new.len() <= BASES).then(|| self.relocate(room, old, new))
             }
+            DISK => {
+                let (named, rest) = number_first(body)?;
+                rest.is_empty().then(|| self.name(named as u32))
+            }
             _ => None,
         }
     }
@@ -181,6 +191,12 @@ impl<C: Calls> Model<C> {
         line + &faults.map(|fault| format!(", {fault}")).collect::<String>()
     }
 
+    /// Lets the calls after this one name a number of blocks.
+    pub fn name(&mut self, named: u32) -> String {
+        self.named = named;
+        format!("disk {named}")
+    }
+
     /// Holds an image of any length.
     pub fn take_image(&mut self, image: &[u8]) -> String {
         self.image = Shown::new(image, self.shift());
@@ -196,7 +212,7 @@ impl<C: Calls> Model<C> {
     /// An audit with a claim area of any length.
     pub fn audit(&mut self, length: usize) -> String {
         let mut claim = Area::filled(BEFORE, length, self.shift());
-        let answer = match self.calls.audit(&self.image, &mut claim) {
+        let answer = match self.calls.audit(self.named, &self.image, &mut claim) {
             Ok(Report { directories, files, list_blocks, data_blocks, used, free }) => {
                 format!("accepted {directories} {files} {list_blocks} {data_blocks} {used} {free}")
             }
@@ -209,7 +225,7 @@ impl<C: Calls> Model<C> {
     /// A lookup of a path of any length.
     pub fn find(&mut self, path: &[u8]) -> String {
         let path = Shown::new(path, self.shift());
-        let line = match self.calls.find(&self.image, &path) {
+        let line = match self.calls.find(self.named, &self.image, &path) {
             Ok(Found { kind: DIRECTORY, key, size, compared }) => format!("directory {key} {size} {compared}"),
             Ok(Found { kind: FILE_KIND, key, size, compared }) => format!("file {key} {size} {compared}"),
             Ok(other) => format!("{other:?}"),
@@ -228,7 +244,7 @@ impl<C: Calls> Model<C> {
     pub fn read(&mut self, path: &[u8], offset: usize, room: usize) -> String {
         let path = Shown::new(path, self.shift());
         let mut output = Area::filled(BEFORE, room, self.shift());
-        let answer = self.calls.read(&self.image, &path, offset, &mut output);
+        let answer = self.calls.read(self.named, &self.image, &path, offset, &mut output);
         let answer = answer.map_or_else(refused, |count| format!("bytes {count}"));
         let line = format!("{answer} out {}", checksum(&output));
         self.told(line, &[("image", &self.image), ("path", &path), ("output", &output)])

@@ -14,9 +14,9 @@ use crate::program::Refusal;
 /// The functions, as the crate for Rust has them; tests put others in their place.
 #[derive(Clone, Copy)]
 pub(crate) struct Functions {
-    pub(crate) audit: fn(&[u8], &mut [u8]) -> AuditNumbers,
-    pub(crate) find: fn(&[u8], &[u8]) -> FindNumbers,
-    pub(crate) read: fn(&[u8], &[u8], usize, &mut [u8]) -> ReadNumbers,
+    pub(crate) audit: fn(u32, &[u8], &mut [u8]) -> AuditNumbers,
+    pub(crate) find: fn(u32, &[u8], &[u8]) -> FindNumbers,
+    pub(crate) read: fn(u32, &[u8], &[u8], usize, &mut [u8]) -> ReadNumbers,
     pub(crate) check: fn(&[u8]) -> ProgramNumbers,
     pub(crate) load: fn(&[u8], &[u32], &mut [u8], &mut [Hunk], &mut [u8]) -> ProgramNumbers,
     pub(crate) relocate: fn(&[u8], &[u32], &[u32], &mut [u8], &mut [Hunk], &mut [u8]) -> ProgramNumbers,
@@ -83,22 +83,29 @@ impl Exports {
 impl Calls for Exports {
     const WATCHED: bool = true;
 
-    fn audit(&mut self, image: &[u8], claim: &mut [u8]) -> Result<Report, Refusal> {
+    fn audit(&mut self, named: u32, image: &[u8], claim: &mut [u8]) -> Result<Report, Refusal> {
         let AuditNumbers { number, place, directories, files, list_blocks, data_blocks, used, free } =
-            (self.functions.audit)(image, claim);
+            (self.functions.audit)(named, image, claim);
         let report = Report { directories, files, list_blocks, data_blocks, used, free };
         let all = [directories, files, list_blocks, data_blocks, used, free];
         self.answer(number, place, report, &all.map(|number| number as usize))
     }
 
-    fn find(&mut self, image: &[u8], path: &[u8]) -> Result<Found, Refusal> {
-        let FindNumbers { number, place, kind, key, size, compared } = (self.functions.find)(image, path);
+    fn find(&mut self, named: u32, image: &[u8], path: &[u8]) -> Result<Found, Refusal> {
+        let FindNumbers { number, place, kind, key, size, compared } = (self.functions.find)(named, image, path);
         let found = Found { kind, key, size, compared };
         self.answer(number, place, found, &[kind, key, size, compared].map(|number| number as usize))
     }
 
-    fn read(&mut self, image: &[u8], path: &[u8], offset: usize, output: &mut [u8]) -> Result<usize, Refusal> {
-        let ReadNumbers { number, place, count } = (self.functions.read)(image, path, offset, output);
+    fn read(
+        &mut self,
+        named: u32,
+        image: &[u8],
+        path: &[u8],
+        offset: usize,
+        output: &mut [u8],
+    ) -> Result<usize, Refusal> {
+        let ReadNumbers { number, place, count } = (self.functions.read)(named, image, path, offset, output);
         self.answer(number, place, count, &[count])
     }
 
@@ -147,7 +154,8 @@ mod tests {
         Volume::new(&mut rng, &plan, style).image
     }
 
-    /// The lines of every call, accepted and refused; the room of a move is less than that of the load.
+    /// The lines of every call, accepted and refused, with the image's number of blocks named, with another and with
+    /// none; the room of a move is less than that of the load.
     fn lines<C: Calls>(mut model: Model<C>) -> Vec<String> {
         let room = Room { memory: 51, records: 4, work: 45 };
         let less = Room { memory: 43, records: 3, work: 45 };
@@ -160,6 +168,14 @@ mod tests {
             model.find(b"b"),
             model.read(b"a", 10, 2_000),
             model.read(b"b", 10, 2_000),
+            model.name(3_520),
+            model.audit(1_770),
+            model.find(b"A"),
+            model.read(b"a", 10, 2_000),
+            model.name(0),
+            model.audit(1_770),
+            model.find(b"A"),
+            model.read(b"a", 10, 2_000),
             model.check(),
             model.load(room, &BASES),
             model.relocate(less, &BASES, &[0, 0x1000]),
@@ -215,19 +231,19 @@ mod tests {
     fn writing_where_nothing_may_be_written_is_seen() {
         const ZERO: Hunk = Hunk { kind: 0, place: 0, size: 0, base: 0, memory: 0 };
         for (name, functions) in [
-            ("image", with!(audit(image, claim), image, 5, !image[5])),
-            ("image", with!(audit(image, claim), image, -1, 0)),
-            ("image", with!(audit(image, claim), image, end(image), 0)),
-            ("claim area", with!(audit(image, claim), claim, -1, 0)),
-            ("claim area", with!(audit(image, claim), claim, end(claim), 1)),
-            ("image", with!(find(image, path), image, 901_119, !image[901_119])),
-            ("path", with!(find(image, path), path, 0, !path[0])),
-            ("path", with!(find(image, path), path, -1, 0)),
-            ("path", with!(find(image, path), path, end(path), 0)),
-            ("image", with!(read(image, path, offset, output), image, 0, !image[0])),
-            ("path", with!(read(image, path, offset, output), path, end(path), 0)),
-            ("output", with!(read(image, path, offset, output), output, -1, 0)),
-            ("output", with!(read(image, path, offset, output), output, end(output), 0)),
+            ("image", with!(audit(blocks, image, claim), image, 5, !image[5])),
+            ("image", with!(audit(blocks, image, claim), image, -1, 0)),
+            ("image", with!(audit(blocks, image, claim), image, end(image), 0)),
+            ("claim area", with!(audit(blocks, image, claim), claim, -1, 0)),
+            ("claim area", with!(audit(blocks, image, claim), claim, end(claim), 1)),
+            ("image", with!(find(blocks, image, path), image, 901_119, !image[901_119])),
+            ("path", with!(find(blocks, image, path), path, 0, !path[0])),
+            ("path", with!(find(blocks, image, path), path, -1, 0)),
+            ("path", with!(find(blocks, image, path), path, end(path), 0)),
+            ("image", with!(read(blocks, image, path, offset, output), image, 0, !image[0])),
+            ("path", with!(read(blocks, image, path, offset, output), path, end(path), 0)),
+            ("output", with!(read(blocks, image, path, offset, output), output, -1, 0)),
+            ("output", with!(read(blocks, image, path, offset, output), output, end(output), 0)),
             ("file", with!(check(file), file, 99, !file[99])),
             ("file", with!(check(file), file, -1, 0)),
             ("file", with!(check(file), file, end(file), 0)),
@@ -280,16 +296,27 @@ mod tests {
     #[test]
     fn wrong_answers_are_seen() {
         for (number, functions) in [
-            changed!(audit(image, claim), answer, answer.free ^= 1),
-            changed!(audit(image, claim), answer, answer.number ^= 3),
-            changed!(audit(image, claim), answer, answer.place += 1),
-            changed!(audit(image, claim), answer, claim[1_699] ^= 1),
-            changed!(find(image, path), answer, answer.kind += 1),
-            changed!(find(image, path), answer, answer.compared += 1),
-            changed!(find(image, path), answer, answer.place += usize::from(answer.number > 0)),
-            changed!(read(image, path, offset, output), answer, answer.count += 1),
-            changed!(read(image, path, offset, output), answer, output[990] ^= 1),
-            changed!(read(image, path, offset, output), answer, output[0] ^= 1),
+            // whatever is named is taken for another number
+            Functions { audit: |_, image, claim| (ARCHIVE.audit)(1_760, image, claim), ..ARCHIVE },
+            Functions { find: |_, image, path| (ARCHIVE.find)(1_760, image, path), ..ARCHIVE },
+            Functions {
+                read: |_, image, path, o, output| (ARCHIVE.read)(1_760, image, path, o, output),
+                ..ARCHIVE
+            },
+            Functions { audit: |_, image, claim| (ARCHIVE.audit)(0, image, claim), ..ARCHIVE },
+            Functions { find: |_, image, path| (ARCHIVE.find)(0, image, path), ..ARCHIVE },
+            Functions { read: |_, image, path, o, output| (ARCHIVE.read)(0, image, path, o, output), ..ARCHIVE },
+            Functions { audit: |blocks, image, claim| (ARCHIVE.audit)(blocks.max(1), image, claim), ..ARCHIVE },
+            changed!(audit(blocks, image, claim), answer, answer.free ^= 1),
+            changed!(audit(blocks, image, claim), answer, answer.number ^= 3),
+            changed!(audit(blocks, image, claim), answer, answer.place += 1),
+            changed!(audit(blocks, image, claim), answer, claim[1_699] ^= 1),
+            changed!(find(blocks, image, path), answer, answer.kind += 1),
+            changed!(find(blocks, image, path), answer, answer.compared += 1),
+            changed!(find(blocks, image, path), answer, answer.place += usize::from(answer.number > 0)),
+            changed!(read(blocks, image, path, offset, output), answer, answer.count += 1),
+            changed!(read(blocks, image, path, offset, output), answer, output[990] ^= 1),
+            changed!(read(blocks, image, path, offset, output), answer, output[0] ^= 1),
             changed!(check(file), answer, answer.hunks += 1),
             changed!(check(file), answer, answer.bytes += 1),
             changed!(check(file), answer, answer.place += usize::from(answer.number > 0)),
@@ -316,10 +343,10 @@ mod tests {
     #[test]
     fn answers_of_a_wrong_form_are_seen() {
         for (fault, functions) in [
-            ("accepted with place 7", changed!(find(image, path), answer, answer.place = 7)),
+            ("accepted with place 7", changed!(find(blocks, image, path), answer, answer.place = 7)),
             (
                 "refused with numbers [2, 0, 0, 0]",
-                changed!(find(image, path), answer, {
+                changed!(find(blocks, image, path), answer, {
                     answer.kind = if answer.number == 0 { answer.kind } else { 2 }
                 }),
             ),

@@ -314,7 +314,7 @@ pub fn telling_rooms(disk: &Disk, left: usize) -> Vec<usize> {
 #[cfg(test)]
 mod tests {
     use super::*;
-    use crate::disk::FLOPPY;
+    use crate::disk::{ANY, FLOPPY, HIGH_DENSITY};
     use crate::lookup::find;
     use crate::names::valid;
     use crate::reading::read;
@@ -361,7 +361,7 @@ mod tests {
     fn every_question_is_answered_as_is_due() {
         let mut rng = Rng::new(111);
         let mut met = BTreeMap::new();
-        for disk in [Disk::FLOPPIES; 6].concat() {
+        for disk in [&[Disk::FLOPPIES; 5].concat()[..], &Disk::of_blocks(HIGH_DENSITY)].concat() {
             let volume = volume(&mut rng, &disk);
             let paths = Paths::new(&volume);
             let mut questions = vec![paths.root()];
@@ -376,7 +376,8 @@ mod tests {
             }
             questions.extend(paths.missing(&mut rng, None));
             for Question { what, path, due } in &questions {
-                assert_eq!(find(FLOPPY, &volume.image, path), *due, "{what}: {path:?}");
+                let named = rng.pick(&[ANY, disk.blocks]);
+                assert_eq!(find(named, &volume.image, path), *due, "{what}: {path:?}");
                 *met.entry((disk.kind, *what)).or_insert(0) += 1;
             }
         }
@@ -390,7 +391,7 @@ mod tests {
     fn paths_on_a_disk_of_another_kind() {
         let mut rng = Rng::new(114);
         let mut met = BTreeMap::new();
-        for disk in [Disk::FLOPPIES; 8].concat() {
+        for disk in [&[Disk::FLOPPIES; 7].concat()[..], &Disk::of_blocks(HIGH_DENSITY)].concat() {
             let volume = volume(&mut rng, &disk);
             let paths = Paths::new(&volume);
             for kind in disk.others().chain([disk]) {
@@ -401,7 +402,7 @@ mod tests {
                     let again: Vec<_> = components.iter().map(|name| recased(&mut rng, &kind, name)).collect();
                     for components in [&components, &again] {
                         let due = paths.on(&kind, components);
-                        assert_eq!(find(FLOPPY, &image, &components.join(&b'/')), due, "{components:?}");
+                        assert_eq!(find(disk.blocks, &image, &components.join(&b'/')), due, "{components:?}");
                         let number = due.map_or_else(|refusal| refusal.number, |_| 0);
                         *met.entry((disk.is_international(), kind.is_international(), number)).or_insert(0) += 1;
                     }
@@ -420,7 +421,7 @@ mod tests {
     fn files_on_a_disk_of_another_kind() {
         let mut rng = Rng::new(115);
         let mut met: BTreeMap<(bool, bool), BTreeMap<u32, u32>> = BTreeMap::new();
-        for disk in [Disk::FLOPPIES; 20].concat() {
+        for disk in [&[Disk::FLOPPIES; 18].concat()[..], &Disk::of_blocks(HIGH_DENSITY)].concat() {
             let volume = volume(&mut rng, &disk);
             let paths = Paths::new(&volume);
             for kind in disk.others().chain([disk]) {
@@ -436,7 +437,7 @@ mod tests {
                     }
                     let due = paths.contents_on(&kind, number);
                     let mut output = vec![0xAA; found.size as usize + 5];
-                    let count = read(FLOPPY, &image, &path, 0, &mut output);
+                    let count = read(ANY, &image, &path, 0, &mut output);
                     assert_eq!(count, due.as_ref().map(Vec::len).map_err(|refusal| *refusal), "{path:?}");
                     let bytes = due.as_deref().unwrap_or(&[]);
                     assert!(

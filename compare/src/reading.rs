@@ -12,9 +12,9 @@ use crate::sizes::{data_blocks, held, list_blocks};
 use crate::words::{key_word, word, TABLE};
 
 /// Copies a file's bytes from an offset on into the output, until one of them ends, and answers how many. The rest
-/// of the output stays, and all of it if the read is refused.
-pub fn read(blocks: u32, image: &[u8], path: &[u8], offset: usize, output: &mut [u8]) -> Result<usize, Refusal> {
-    let (disk, found) = find_on(blocks, image, path)?;
+/// of the output stays, and all of it if the read is refused. The call names the image's number of blocks or none.
+pub fn read(named: u32, image: &[u8], path: &[u8], offset: usize, output: &mut [u8]) -> Result<usize, Refusal> {
+    let (disk, found) = find_on(named, image, path)?;
     if found.kind == DIRECTORY {
         let slashes = path.iter().filter(|&&byte| byte == b'/').count();
         return Err(Refusal::at(20, slashes));
@@ -70,8 +70,9 @@ fn tables<'a>(disk: &Disk, image: &'a [u8], header: u32) -> (Vec<&'a [u8]>, Resu
 mod tests {
     use super::*;
     use crate::audit::audit;
-    use crate::disk::FLOPPY;
+    use crate::disk::{ANY, SIZES};
     use crate::rng::Rng;
+    use crate::sizes::largest_file;
     use crate::volumes::{any_style, telling_sizes, Entry, Filling, Kind, Order, Plan, Style, Volume};
     use crate::words::{mend, put, BLOCK_BYTES};
 
@@ -90,8 +91,18 @@ mod tests {
         Volume::new(&mut rng, &plan, style)
     }
 
-    fn volume() -> Volume {
-        volume_on(&Disk::OLD)
+    /// The number of blocks that an image has as it stands.
+    fn blocks(image: &[u8]) -> u32 {
+        (image.len() / BLOCK_BYTES) as u32
+    }
+
+    /// What a read answers, whether it names the image's number of blocks or none.
+    fn fetch(image: &[u8], path: &[u8], offset: usize, output: &mut [u8]) -> Result<usize, Refusal> {
+        let mut other = output.to_vec();
+        let answer = read(blocks(image), image, path, offset, output);
+        assert_eq!(read(ANY, image, path, offset, &mut other), answer, "{path:?}, no number named");
+        assert!(*output == other, "{path:?}, no number named");
+        answer
     }
 
     fn entry<'a>(volume: &'a Volume, name: &[u8]) -> &'a Entry {
@@ -111,7 +122,7 @@ mod tests {
     fn hold_refused(image: &[u8], path: &[u8], number: u32, place: u32) {
         for (offset, room) in [(0, 40_000), (0, 1), (0, 0), (900, 600), (usize::MAX, 5)] {
             let mut output = vec![0xAA; room];
-            let answer = read(FLOPPY, image, path, offset, &mut output);
+            let answer = fetch(image, path, offset, &mut output);
             assert_eq!(answer, Err(Refusal::at(number, place as usize)), "{path:?} from {offset}");
             assert!(output.iter().all(|&byte| byte == 0xAA), "{path:?}: {number} with an output of {room}");
         }
@@ -120,26 +131,31 @@ mod tests {
     /// An image made word by word: directory a with file c of 492 bytes, in two blocks out of order.
     #[test]
     fn a_file_made_by_hand() {
-        let mut image = vec![0; 901_120];
+        file_made_by_hand(901_120, 880);
+        file_made_by_hand(1_802_240, 1_760);
+    }
+
+    fn file_made_by_hand(bytes: usize, middle: u32) {
+        let mut image = vec![0; bytes];
         image[..3].copy_from_slice(b"DOS");
         let root = [(0, 2), (3, 72), (12, 4), (108, 0x0141_0000), (127, 1)];
-        let directory = [(0, 2), (1, 4), (14, 5), (108, 0x0141_0000), (125, 880), (127, 2)];
+        let directory = [(0, 2), (1, 4), (14, 5), (108, 0x0141_0000), (125, middle), (127, 2)];
         let sizes = [(2, 2), (4, 9), (76, 7), (77, 9), (81, 492)];
         let header = [(0, 2), (1, 5), (108, 0x0143_0000), (125, 4), (127, 0xFFFF_FFFD)];
         let first = [(0, 8), (1, 5), (2, 1), (3, 488), (4, 7), (6, 0x6669_7273), (127, 0x656E_6431)];
         let second = [(0, 8), (1, 5), (2, 2), (3, 4), (6, 0x6C61_7374), (7, 0x4E4F_5045)];
         let file = [sizes, header].concat();
-        for (key, words) in [(880, &root[..]), (4, &directory), (5, &file), (9, &first), (7, &second)] {
+        for (key, words) in [(middle, &root[..]), (4, &directory), (5, &file), (9, &first), (7, &second)] {
             image = changed(&image, key, words);
         }
         let mut output = [0xAA; 500];
-        assert_eq!(read(FLOPPY, &image, b"A/c", 0, &mut output), Ok(492));
+        assert_eq!(fetch(&image, b"A/c", 0, &mut output), Ok(492));
         assert_eq!((&output[..4], &output[4..484]), (&b"firs"[..], &[0; 480][..]));
         assert_eq!(&output[484..], b"end1last\xAA\xAA\xAA\xAA\xAA\xAA\xAA\xAA");
-        assert_eq!(read(FLOPPY, &image, b"a/C", 486, &mut output[..3]), Ok(3));
+        assert_eq!(fetch(&image, b"a/C", 486, &mut output[..3]), Ok(3));
         assert_eq!(&output[..5], b"d1ls\0");
         image[3] = 2;
-        assert_eq!(read(FLOPPY, &image, b"A/c", 484, &mut output), Ok(8));
+        assert_eq!(fetch(&image, b"A/c", 484, &mut output), Ok(8));
         assert_eq!(&output[..8], b"end1last");
     }
 
@@ -147,13 +163,18 @@ mod tests {
     /// bytes, no sum is mended, and the header names no data block.
     #[test]
     fn a_fast_file_made_by_hand() {
-        let mut image = vec![0; 901_120];
+        fast_file_made_by_hand(901_120, 880);
+        fast_file_made_by_hand(1_802_240, 1_760);
+    }
+
+    fn fast_file_made_by_hand(bytes: usize, middle: u32) {
+        let mut image = vec![0; bytes];
         image[..4].copy_from_slice(b"DOS\x01");
         let root = [(0, 2), (3, 72), (12, 4), (108, 0x0141_0000), (127, 1)];
-        let directory = [(0, 2), (1, 4), (14, 5), (108, 0x0141_0000), (125, 880), (127, 2)];
+        let directory = [(0, 2), (1, 4), (14, 5), (108, 0x0141_0000), (125, middle), (127, 2)];
         let header = [(0, 2), (1, 5), (2, 2), (4, 0xDEAD_BEEF), (76, 7), (77, 9), (81, 516), (108, 0x0143_0000)];
         let header = [&header[..], &[(125, 4), (127, 0xFFFF_FFFD)]].concat();
-        for (key, words) in [(880, &root[..]), (4, &directory), (5, &header)] {
+        for (key, words) in [(middle, &root[..]), (4, &directory), (5, &header)] {
             image = changed(&image, key, words);
         }
         image[9 * 512..][..8].copy_from_slice(b"first512");
@@ -162,7 +183,7 @@ mod tests {
         for (kind, path) in [(1, b"A/c"), (3, b"a/C")] {
             image[3] = kind;
             let mut output = [0xAA; 520];
-            assert_eq!(read(FLOPPY, &image, path, 0, &mut output), Ok(516));
+            assert_eq!(fetch(&image, path, 0, &mut output), Ok(516));
             assert_eq!((&output[..8], &output[8..508]), (&b"first512"[..], &[0; 500][..]));
             assert_eq!(&output[508..], b"end1last\xAA\xAA\xAA\xAA");
             for (offset, room, bytes) in [
@@ -178,7 +199,7 @@ mod tests {
                 (517, 9, b""),
             ] {
                 let mut output = vec![0xAA; room];
-                assert_eq!(read(FLOPPY, &image, path, offset, &mut output), Ok(bytes.len()), "{offset}");
+                assert_eq!(fetch(&image, path, offset, &mut output), Ok(bytes.len()), "{offset}");
                 assert_eq!(&output[..bytes.len()], bytes, "{offset}");
                 assert!(output[bytes.len()..].iter().all(|&byte| byte == 0xAA), "{offset}");
             }
@@ -193,14 +214,14 @@ mod tests {
     /// What a read from this offset on makes of an output of this length.
     fn got(volume: &Volume, path: &[u8], offset: usize, room: usize) -> (usize, Vec<u8>) {
         let mut output = vec![0xAA; room];
-        let count = read(FLOPPY, &volume.image, path, offset, &mut output).expect("a good file");
+        let count = fetch(&volume.image, path, offset, &mut output).expect("a good file");
         (count, output)
     }
 
     #[test]
     fn pieces_make_the_whole() {
         let mut rng = Rng::new(131);
-        let all = Disk::FLOPPIES.into_iter().flat_map(|disk| {
+        let all = Disk::ALL.into_iter().flat_map(|disk| {
             let sizes = telling_sizes(&disk).into_iter().chain([1_000, 2 * 72 * disk.data_bytes() + 1]);
             sizes.map(move |size| (disk, size))
         });
@@ -229,7 +250,7 @@ mod tests {
 
     #[test]
     fn a_refused_lookup_is_handed_on() {
-        Disk::FLOPPIES.iter().for_each(|disk| hold_lookups(&volume_on(disk)));
+        Disk::ALL.iter().for_each(|disk| hold_lookups(&volume_on(disk)));
     }
 
     fn hold_lookups(volume: &Volume) {
@@ -249,7 +270,8 @@ mod tests {
         image[2] = 0;
         hold_refused(&image, b"Mary/box", 3, 0);
         hold_refused(&image, b":", 18, 0);
-        hold_refused(&changed(&volume.image, 880, &[(3, 71)]), b"Mary/box", 4, 880);
+        let root = volume.disk.root();
+        hold_refused(&changed(&volume.image, root, &[(3, 71)]), b"Mary/box", 4, root);
         image[2] = b'S';
         for kind in [4, 5, 0x80, 0xFF] {
             image[3] = kind;
@@ -265,7 +287,7 @@ mod tests {
     /// Every rule about a file's blocks, broken far after what is asked for too.
     #[test]
     fn every_block_of_the_file_is_tested() {
-        for disk in &Disk::FLOPPIES {
+        for disk in &Disk::ALL {
             let volume = volume_on(disk);
             hold_tables(&volume);
             hold_data(&volume);
@@ -294,10 +316,12 @@ mod tests {
                 (b"one", header, (81, disk.file_limit() + 1), 14, header),
                 (b"one", header, (2, 71), 14, header),
                 (b"one", header, (126, 0), 14, header),
-                (b"one", header, (126, 1_760), 5, 1_760),
+                (b"one", header, (126, disk.blocks), 5, disk.blocks),
+                (b"one", header, (126, 3_520), 5, 3_520),
                 (b"one", header, (77 - 40, 0), 5, 0),
                 (b"one", header, (77 - 40, 1), 5, 1),
-                (b"one", header, (77, 1_760), 5, 1_760),
+                (b"one", header, (77, disk.blocks), 5, disk.blocks),
+                (b"one", header, (77, 3_520), 5, 3_520),
                 (b"one", list, (0, 2), 8, list),
                 (b"one", list, (1, header), 10, list),
                 (b"one", list, (2, 4), 14, list),
@@ -317,7 +341,7 @@ mod tests {
         let (first, middle, last, header) = (one.data[0], one.data[40], one.data[74], one.key);
         let broken: [Broken; 12] = [
             (b"one", header, (4, 0), 15, first),
-            (b"one", header, (77 - 40, 880), 8, 880),
+            (b"one", header, (77 - 40, volume.disk.root()), 8, volume.disk.root()),
             (b"one", header, (77 - 40, last), 15, last),
             (b"one", middle, (0, 16), 8, middle),
             (b"one", middle, (1, 0), 15, middle),
@@ -336,12 +360,12 @@ mod tests {
             let image = changed(&volume.image, key, &[words]);
             let bytes: Vec<u8> = listed(&image, entry(volume, path));
             let mut output = vec![0xAA; 40_000];
-            assert_eq!(read(FLOPPY, &image, path, 0, &mut output), Ok(bytes.len()), "{key} {words:?}");
+            assert_eq!(fetch(&image, path, 0, &mut output), Ok(bytes.len()), "{key} {words:?}");
             assert!(output[..bytes.len()] == bytes && output[bytes.len()..].iter().all(|&byte| byte == 0xAA));
             if one.data.contains(&key) {
                 let mut unsummed = image;
                 unsummed[key as usize * BLOCK_BYTES + 23] ^= 1;
-                assert_eq!(read(FLOPPY, &unsummed, path, 0, &mut output), Ok(bytes.len()), "{key} {words:?}");
+                assert_eq!(fetch(&unsummed, path, 0, &mut output), Ok(bytes.len()), "{key} {words:?}");
             }
         }
     }
@@ -360,8 +384,11 @@ mod tests {
     /// The data of a table come before the next table, whatever is wrong with that.
     #[test]
     fn tables_and_data_in_turn() {
-        let volume = volume();
-        let file = entry(&volume, b"three");
+        SIZES.iter().for_each(|&blocks| hold_tables_and_data(&volume_on(&Disk::OLD.with_blocks(blocks))));
+    }
+
+    fn hold_tables_and_data(volume: &Volume) {
+        let file = entry(volume, b"three");
         let harms = [
             (file.data[71], 15),
             (file.lists[0], 10),
@@ -382,15 +409,19 @@ mod tests {
     /// The same where only the keys of data are asked for.
     #[test]
     fn tables_and_keys_in_turn() {
-        let volume = volume_on(&Disk::FAST);
-        let file = entry(&volume, b"three");
+        SIZES.iter().for_each(|&blocks| hold_tables_and_keys(&volume_on(&Disk::FAST.with_blocks(blocks))));
+    }
+
+    fn hold_tables_and_keys(volume: &Volume) {
+        let beyond = volume.disk.blocks;
+        let file = entry(volume, b"three");
         let [first, second, third] = [0, 1, 2].map(|index| file.lists[index]);
         // the word of each key, a key that no block has, and what is due for it; of lists the own key
         let harms = [
-            (file.key, 6, 1_760, (5, 1_760)),
+            (file.key, 6, beyond, (5, beyond)),
             (first, 1, 0, (10, first)),
             (first, 77, 1, (5, 1)),
-            (first, 6, 1_761, (5, 1_761)),
+            (first, 6, beyond + 1, (5, beyond + 1)),
             (second, 1, 0, (10, second)),
             (second, 77 - 6, 0, (5, 0)),
             (third, 1, 0, (10, third)),
@@ -408,12 +439,12 @@ mod tests {
     /// have none: data and lists may be met twice, and the bytes come twice.
     #[test]
     fn nothing_is_claimed() {
-        for disk in &Disk::FLOPPIES {
+        for disk in &Disk::ALL {
             let volume = volume_on(disk);
             let file = entry(&volume, b"three");
             let [first, second] = [file.lists[0], file.lists[1]];
             let image = changed(&volume.image, first, &[(126, first)]);
-            let answer = audit(FLOPPY, &image, &mut [0; 1_760]);
+            let answer = audit(disk.blocks, &image, &mut [0; 3_520]);
             assert_eq!(answer, Err(Refusal::at(6, first as usize)));
             if disk.has_data_words() {
                 hold_refused(&image, b"three", 15, file.data[72]);
@@ -421,12 +452,13 @@ mod tests {
             }
             // the third list is asked whether it is the last, and the first is not
             hold_refused(&image, b"three", 14, first);
-            let image = changed(&volume.image, second, &[(77, file.data[0]), (76, 880), (75, volume.bitmap)]);
-            assert_eq!(audit(FLOPPY, &image, &mut [0; 1_760]), Err(Refusal::at(6, file.data[0] as usize)));
+            let image =
+                changed(&volume.image, second, &[(77, file.data[0]), (76, disk.root()), (75, volume.bitmap)]);
+            assert_eq!(audit(disk.blocks, &image, &mut [0; 3_520]), Err(Refusal::at(6, file.data[0] as usize)));
             let mut output = vec![0xAA; 3 * 512];
-            assert_eq!(read(FLOPPY, &image, b"three", 144 * 512, &mut output), Ok(3 * 512));
+            assert_eq!(fetch(&image, b"three", 144 * 512, &mut output), Ok(3 * 512));
             let block = |key: u32| &image[key as usize * BLOCK_BYTES..][..BLOCK_BYTES];
-            assert!(output == [file.data[0], 880, volume.bitmap].map(block).concat());
+            assert!(output == [file.data[0], disk.root(), volume.bitmap].map(block).concat());
         }
     }
 
@@ -434,7 +466,8 @@ mod tests {
     #[test]
     fn the_end_of_the_largest_file() {
         let mut rng = Rng::new(132);
-        for (disk, size) in Disk::FLOPPIES.iter().zip([844_728, 886_272, 844_728, 886_272]) {
+        let sizes = [844_728, 886_272, 844_728, 886_272, 1_691_896, 1_775_104, 1_691_896, 1_775_104];
+        for (disk, size) in Disk::ALL.iter().zip(sizes) {
             let mut plan = Plan::new(disk);
             plan.add_named(None, b"big", Kind::File(size as u32));
             let volume = Volume::new(&mut rng, &plan, Style { filling: Filling::Random, order: Order::Shuffled });
@@ -444,6 +477,58 @@ mod tests {
             assert_eq!(got(&volume, b"big", size - 2, 3), (2, vec![end[0], end[1], 0xAA]));
             assert_eq!(got(&volume, b"big", size, 1), (0, vec![0xAA]));
             assert_eq!(got(&volume, b"big", size + 1, 1), (0, vec![0xAA]));
+        }
+    }
+    /// The largest size that a header may state, in the Fast File System: its lists leave too few blocks for so much
+    /// data, so some blocks come twice, which an audit does not accept and a read does not mind.
+    #[test]
+    fn the_largest_size_that_can_be_read() {
+        let mut rng = Rng::new(133);
+        for (disk, blocks, size) in [
+            (Disk::FAST, 1_755, 898_560),
+            (Disk::FAST.with_blocks(3_520), 3_515, 1_799_680),
+            (Disk::FAST_INTERNATIONAL.with_blocks(3_520), 3_515, 1_799_680),
+        ] {
+            let largest = largest_file(&disk);
+            let mut plan = Plan::new(&disk);
+            plan.add_named(None, b"big", Kind::File(largest));
+            let volume = Volume::new(&mut rng, &plan, Style { filling: Filling::Random, order: Order::Shuffled });
+            let file = entry(&volume, b"big");
+            let more = blocks - file.data.len();
+            let last = *file.lists.last().expect("a list");
+            let listed = file.data.len() - 72 * file.lists.len();
+            let mut words = vec![(2, (listed + more) as u32)];
+            words.extend((0..more).map(|index| (77 - listed - index, file.data[index])));
+            let image = changed(&volume.image, last, &words);
+            // the header still states what fits
+            hold_refused(&image, b"big", 14, last);
+            let image = changed(&image, file.key, &[(81, size)]);
+            let mut output = vec![0xAA; size as usize + 9];
+            assert_eq!(fetch(&image, b"big", 0, &mut output), Ok(size as usize));
+            let (contents, start) = (&output[..size as usize], largest as usize);
+            assert!(contents[start..] == contents[..more * 512] && output[size as usize..] == [0xAA; 9]);
+            assert_eq!(audit(disk.blocks, &image, &mut [0; 3_520]), Err(Refusal::at(6, file.data[0] as usize)));
+            hold_refused(&changed(&image, file.key, &[(81, size + 1)]), b"big", 14, file.key);
+        }
+    }
+
+    /// What is named is asked before the path, and leaves the output alone.
+    #[test]
+    fn the_named_number_is_asked_first() {
+        for disk in &Disk::ALL {
+            let volume = volume_on(disk);
+            let other = disk.other_sizes().next().expect("another size").blocks;
+            for named in [other, 1, 880, disk.blocks - 1, disk.blocks + 1, 2 * disk.blocks, u32::MAX] {
+                for path in [&b"one"[..], b"", b"a//b", b"nobody"] {
+                    let mut output = [0xAA; 90];
+                    assert_eq!(
+                        read(named, &volume.image, path, 0, &mut output),
+                        Err(Refusal::at(1, 0)),
+                        "{named}"
+                    );
+                    assert_eq!(output, [0xAA; 90]);
+                }
+            }
         }
     }
 }

@@ -1,11 +1,11 @@
 //! The files of the folder `samples`: a volume with a title program on it, the same volume damaged, a volume of the
-//! international kind, one in the Fast File System, and the program alone.
+//! international kind, one in the Fast File System, one on a high-density disk, and the program alone.
 //!
 //! They are made by the generators of this package, and the same in every run.
 
 use std::collections::BTreeMap;
 
-use crate::disk::Disk;
+use crate::disk::{Disk, HIGH_DENSITY};
 use crate::names::put_name;
 use crate::program::Memory;
 use crate::programs::{file, Block, Body, Hunk, Program};
@@ -21,6 +21,8 @@ pub const SETTINGS: &str = "s/settings";
 pub const FONT: &str = "fonts/lower-third";
 /// The path of such a file on the volume in the Fast File System, whose blocks hold more.
 pub const LOGO: &str = "logos/station";
+/// The path of a file on the high-density disk that no floppy has room for.
+pub const PICTURE: &str = "pictures/black";
 /// Paths on the international volume.
 pub const SUMMER: &str = "Météo/Été";
 pub const WINTER: &str = "Météo/Hiver";
@@ -42,6 +44,15 @@ line1     CLOSE DOWN 00:30
 logo      station
 colour    grey on black
 fade      25 frames
+";
+
+/// The settings on the high-density disk.
+const WIDE_TEXT: &[u8] = b"; title board 7, opening night
+station   Channel 4
+line1     LIVE FROM THE HALL
+picture   black
+colour    gold on black
+fade      50 frames
 ";
 
 /// The texts of the international volume.
@@ -137,6 +148,11 @@ fn logo() -> Vec<u8> {
     Rng::new(5).bytes(40_000)
 }
 
+/// The points of a black picture, 640 by 512 of them with three bytes each.
+fn picture() -> Vec<u8> {
+    vec![0; 640 * 512 * 3]
+}
+
 /// What a volume is to be.
 struct Sample {
     disk: Disk,
@@ -165,6 +181,12 @@ fn of_broadcaster() -> Sample {
 fn of_fast_board() -> Sample {
     let files = vec![(TITLE, title()), (SETTINGS, LATE_TEXT.to_vec()), (LOGO, logo())];
     Sample { disk: Disk::FAST, name: "Late Titles", files, bare: "t" }
+}
+
+/// The volume of a board with a high-density drive: the same title program, other settings, and a picture.
+fn of_large_board() -> Sample {
+    let files = vec![(TITLE, title()), (SETTINGS, WIDE_TEXT.to_vec()), (PICTURE, picture())];
+    Sample { disk: Disk::FAST.with_blocks(HIGH_DENSITY), name: "Opening Night", files, bare: "t" }
 }
 
 impl Sample {
@@ -248,13 +270,19 @@ pub fn fast() -> Vec<u8> {
     of_fast_board().volume().image
 }
 
+/// The image of the volume on a high-density disk.
+pub fn high_density() -> Vec<u8> {
+    of_large_board().volume().image
+}
+
 /// All files by their names.
-pub fn all() -> [(&'static str, Vec<u8>); 5] {
+pub fn all() -> [(&'static str, Vec<u8>); 6] {
     [
         ("titles.adf", titles()),
         ("damaged.adf", damaged()),
         ("international.adf", international()),
         ("fast.adf", fast()),
+        ("high-density.adf", high_density()),
         ("title", title()),
     ]
 }
@@ -263,7 +291,7 @@ pub fn all() -> [(&'static str, Vec<u8>); 5] {
 mod tests {
     use super::*;
     use crate::declared::agreed;
-    use crate::disk::FLOPPY;
+    use crate::disk::{ANY, FLOPPY};
     use crate::program::{read as read_program, Kind as HunkKind, Refusal};
     use crate::reading::read;
     use crate::volumes::Entry;
@@ -271,8 +299,8 @@ mod tests {
     use std::path::Path;
 
     fn bytes_of(image: &[u8], path: &str) -> Result<Vec<u8>, Refusal> {
-        let mut output = vec![0; 50_000];
-        let count = read(FLOPPY, image, &latin_1(path), 0, &mut output)?;
+        let mut output = vec![0; 1_000_000];
+        let count = read(ANY, image, &latin_1(path), 0, &mut output)?;
         output.truncate(count);
         Ok(output)
     }
@@ -288,7 +316,8 @@ mod tests {
         let entries = std::fs::read_dir(&folder).expect("the folder of samples");
         let mut names: Vec<_> = entries.map(|entry| entry.expect("a file").file_name()).collect();
         names.sort();
-        assert_eq!(names, ["README.md", "damaged.adf", "fast.adf", "international.adf", "title", "titles.adf"]);
+        let images = ["damaged.adf", "fast.adf", "high-density.adf", "international.adf"];
+        assert_eq!(names, [&["README.md"][..], &images, &["title", "titles.adf"]].concat());
     }
 
     #[test]
@@ -304,11 +333,15 @@ mod tests {
 
     #[test]
     fn the_volumes_are_good_and_their_files_are_there() {
-        let samples =
-            [(of_board(), [4, 3, 1, 76]), (of_broadcaster(), [4, 4, 0, 4]), (of_fast_board(), [4, 3, 1, 81])];
+        let samples = [
+            (of_board(), [4, 3, 1, 76]),
+            (of_broadcaster(), [4, 4, 0, 4]),
+            (of_fast_board(), [4, 3, 1, 81]),
+            (of_large_board(), [4, 3, 26, 1_922]),
+        ];
         for (sample, counts) in samples {
             let image = sample.volume().image;
-            let report = agreed(FLOPPY, &image, &mut [0; 1_760]).expect("a good volume");
+            let report = agreed(sample.disk.blocks, &image, &mut [0; 3_520]).expect("a good volume");
             let found = [report.directories, report.files, report.list_blocks, report.data_blocks];
             assert_eq!(found, counts);
             for (path, bytes) in sample.files {
@@ -353,6 +386,22 @@ mod tests {
         assert!(volume.entries.iter().all(|entry| word(block(entry.key), 4) == first(entry)));
         image[3] = 0;
         assert_eq!(agreed(FLOPPY, &image, &mut [0; 1_760]).map_err(|refusal| refusal.number), Err(7));
+    }
+
+    /// It is refused where a floppy is named, and its picture fits no floppy. Most of its bytes are 0.
+    #[test]
+    fn the_high_density_volume_is_no_floppy() {
+        let image = high_density();
+        assert_eq!(image.len(), 1_802_240);
+        let answer = |named: u32| agreed(named, &image, &mut [0; 3_520]).map(|report| (report.used, report.free));
+        let accepted = Ok((1_957, 1_561));
+        assert_eq!([0, 3_520, 1_760].map(answer), [accepted, accepted, Err(Refusal::at(1, 0))]);
+        assert!(picture().len() > Disk::FAST.file_limit() as usize);
+        assert!(image.iter().filter(|&&byte| byte != 0).count() < 10_000);
+        // headers name their first data block, as on a real disk
+        let volume = of_large_board().volume();
+        let first = |entry: &Entry| entry.data.first().copied().unwrap_or(0);
+        assert!(volume.entries.iter().all(|entry| word(volume.block(entry.key), 4) == first(entry)));
     }
 
     /// One block is overwritten, and nothing but its file is lost.

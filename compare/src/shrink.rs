@@ -5,7 +5,7 @@ use std::collections::{BTreeMap, BTreeSet};
 use std::rc::Rc;
 
 use crate::bad_volumes::Patch;
-use crate::disk::Disk;
+use crate::disk::{claim_length, settled, Disk, ANY, FLOPPY};
 use crate::fuzz::{differing_words, patched, told, Asked, Call, Case};
 use crate::program::{BOTH, END};
 use crate::programs::bytes;
@@ -13,6 +13,10 @@ use crate::words::{mend, put, slot_word, sum, word, BLOCK_BYTES, TABLE};
 
 /// Whether a case still shows what is wrong.
 pub type Fails<'a> = dyn FnMut(&Case) -> bool + 'a;
+
+/// The same for a case about an image: as it is good, its patches, and what is asked. The number of blocks that is
+/// named stays.
+type ImageFails<'a> = dyn FnMut(&Rc<Vec<u8>>, &[Patch], &Asked) -> bool + 'a;
 
 /// As few of these things as still fail: runs of them are left out, long ones first, until no single one can be.
 pub fn least<T: Clone>(things: &[T], fails: &mut dyn FnMut(&[T]) -> bool) -> Vec<T> {
@@ -39,14 +43,19 @@ pub fn least<T: Clone>(things: &[T], fails: &mut dyn FnMut(&[T]) -> bool) -> Vec
 /// The case with as little of it as still fails.
 pub fn shrink(case: &Case, fails: &mut Fails) -> Case {
     match case {
-        Case::Image { good, patches, asked } => {
+        Case::Image { named, good, patches, asked } => {
+            let named = *named;
+            let fails = &mut |good: &Rc<Vec<u8>>, patches: &[Patch], asked: &Asked| {
+                let (good, patches, asked) = (good.clone(), patches.to_vec(), asked.clone());
+                fails(&Case::Image { named, good, patches, asked })
+            };
             let asked = fewer_asked(good, patches, asked, fails);
             let patches = fewer_patches(good, patches, &asked, fails);
             let (good, patches) = fewer_links(good, &patches, &asked, fails);
             let good = fewer_blocks(&good, &patches, &asked, fails);
             let patches = fewer_patches(&good, &patches, &asked, fails);
             let asked = fewer_asked(&good, &patches, &asked, fails);
-            Case::Image { good, patches, asked }
+            Case::Image { named, good, patches, asked }
         }
         Case::Program { file, calls } => {
             // no program is tried twice
@@ -61,19 +70,18 @@ pub fn shrink(case: &Case, fails: &mut Fails) -> Case {
     }
 }
 
-fn image(good: &Rc<Vec<u8>>, patches: &[Patch], asked: &Asked) -> Case {
-    Case::Image { good: good.clone(), patches: patches.to_vec(), asked: asked.clone() }
-}
-
 fn program(file: &[u8], calls: &[Call]) -> Case {
     Case::Program { file: file.to_vec(), calls: calls.to_vec() }
 }
 
 /// A shorter path, and for a read no offset and little room.
-fn fewer_asked(good: &Rc<Vec<u8>>, patches: &[Patch], asked: &Asked, fails: &mut Fails) -> Asked {
-    let mut fails_with = |asked: Asked| fails(&image(good, patches, &asked));
+fn fewer_asked(good: &Rc<Vec<u8>>, patches: &[Patch], asked: &Asked, fails: &mut ImageFails) -> Asked {
+    let mut fails_with = |asked: Asked| fails(good, patches, &asked);
     match asked {
-        Asked::Audit(claim) => Asked::Audit(if fails_with(Asked::Audit(1_760)) { 1_760 } else { *claim }),
+        Asked::Audit(claim) => {
+            let least = claim_length(blocks_of(good)) as u32;
+            Asked::Audit(if fails_with(Asked::Audit(least)) { least } else { *claim })
+        }
         Asked::Find(path) => Asked::Find(least(path, &mut |path| fails_with(Asked::Find(path.to_vec())))),
         Asked::Read { offset, room, path } => {
             let read = |offset, room, path: &[u8]| Asked::Read { offset, room, path: path.to_vec() };
@@ -86,13 +94,19 @@ fn fewer_asked(good: &Rc<Vec<u8>>, patches: &[Patch], asked: &Asked, fails: &mut
     }
 }
 
+/// The number of blocks that fits an image, or that of a floppy if none does.
+fn blocks_of(image: &[u8]) -> u32 {
+    settled(ANY, image.len()).unwrap_or(FLOPPY)
+}
+
 fn block_of(image: &mut [u8], block: usize) -> Option<&mut [u8]> {
     image.get_mut(block * BLOCK_BYTES..)?.get_mut(..BLOCK_BYTES)
 }
 
 /// Makes the sums of these blocks 0 again, as far as they are whole: in word 5, or in word 0 of the bitmap block.
 fn mend_blocks(image: &mut [u8], blocks: &BTreeSet<usize>) {
-    let root = block_of(image, Disk::OLD.root() as usize);
+    let disk = Disk::OLD.with_blocks(blocks_of(image));
+    let root = block_of(image, disk.root() as usize);
     let bitmap = root.map_or(0, |root| word(root, 79) as usize);
     for &block in blocks {
         if let Some(bytes) = block_of(image, block) {
@@ -108,7 +122,7 @@ fn summed(image: &mut [u8], places: impl IntoIterator<Item = usize>) -> BTreeSet
 }
 
 /// Single words of the patches undone; where the sum of a block was right, it is made right again.
-fn fewer_patches(good: &Rc<Vec<u8>>, patches: &[Patch], asked: &Asked, fails: &mut Fails) -> Vec<Patch> {
+fn fewer_patches(good: &Rc<Vec<u8>>, patches: &[Patch], asked: &Asked, fails: &mut ImageFails) -> Vec<Patch> {
     let mut wrong = patched(good, patches);
     let words = differing_words(good, &wrong);
     let right_sums = summed(&mut wrong, words.iter().map(|&(place, _)| place));
@@ -118,7 +132,7 @@ fn fewer_patches(good: &Rc<Vec<u8>>, patches: &[Patch], asked: &Asked, fails: &m
         mend_blocks(&mut image, &touched.intersection(&right_sums).copied().collect());
         differing_words(good, &image)
     };
-    let mut fails_with = |patches: &[Patch]| fails(&image(good, patches, asked));
+    let mut fails_with = |patches: &[Patch]| fails(good, patches, asked);
     let words = match fails_with(&mended(&words)) {
         true => mended(&least(&words, &mut |words| fails_with(&mended(words)))),
         false => words,
@@ -153,7 +167,7 @@ fn fewer_links(
     good: &Rc<Vec<u8>>,
     patches: &[Patch],
     asked: &Asked,
-    fails: &mut Fails,
+    fails: &mut ImageFails,
 ) -> (Rc<Vec<u8>>, Vec<Patch>) {
     let wrong = patched(good, patches);
     let all = links(good);
@@ -166,7 +180,7 @@ fn fewer_links(
     };
     let kept = least(&all, &mut |kept| {
         let (good, patches) = with(kept);
-        fails(&image(&good, &patches, asked))
+        fails(&good, &patches, asked)
     });
     with(&kept)
 }
@@ -182,9 +196,9 @@ fn with_blocks(good: &[u8], kept: &[usize]) -> Rc<Vec<u8>> {
 }
 
 /// Blocks of the image made blank.
-fn fewer_blocks(good: &Rc<Vec<u8>>, patches: &[Patch], asked: &Asked, fails: &mut Fails) -> Rc<Vec<u8>> {
+fn fewer_blocks(good: &Rc<Vec<u8>>, patches: &[Patch], asked: &Asked, fails: &mut ImageFails) -> Rc<Vec<u8>> {
     let blocks: Vec<usize> = (0..good.len().div_ceil(BLOCK_BYTES)).collect();
-    let kept = least(&blocks, &mut |kept| fails(&image(&with_blocks(good, kept), patches, asked)));
+    let kept = least(&blocks, &mut |kept| fails(&with_blocks(good, kept), patches, asked));
     with_blocks(good, &kept)
 }
 
@@ -376,20 +390,37 @@ mod tests {
     fn an_image_keeps_the_words_and_blocks_that_matter() {
         let good = Rc::new(Rng::new(181).bytes(20 * BLOCK_BYTES));
         let patches = vec![(3 * BLOCK_BYTES, vec![7; 600]), (9 * BLOCK_BYTES + 2, vec![1; 4])];
-        let case = Case::Image { good: good.clone(), patches, asked: Asked::Find(b"a/path".to_vec()) };
+        let case = Case::Image { named: 7, good: good.clone(), patches, asked: Asked::Find(b"a/path".to_vec()) };
         let byte = good[13 * BLOCK_BYTES + 5];
         let small = shrink(&case, &mut |case| {
-            let Case::Image { good, patches, asked: Asked::Find(path) } = case else { return false };
+            let Case::Image { named: 7, good, patches, asked: Asked::Find(path) } = case else { return false };
             let mut image = good.to_vec();
             crate::bad_volumes::apply(patches, &mut image);
             path.contains(&b'p') && image[4 * BLOCK_BYTES + 8] == 7 && image[13 * BLOCK_BYTES + 5] == byte
         });
-        let Case::Image { good, patches, asked } = small else { panic!("a case about an image") };
+        let Case::Image { named: 7, good, patches, asked } = small else {
+            panic!("a case about an image: {small:?}")
+        };
         assert_eq!(asked, Asked::Find(b"p".to_vec()));
         assert_eq!(patches, [(4 * BLOCK_BYTES + 8, vec![7; 4])]);
         let kept: Vec<usize> =
             (0..20).filter(|&at| good[at * BLOCK_BYTES..][..8].iter().any(|&b| b != 0)).collect();
         assert_eq!(kept, [13]);
+    }
+
+    /// A sum is made right where the bitmap block is by the root, which is elsewhere on a larger disk.
+    #[test]
+    fn sums_are_mended_by_the_size_of_the_image() {
+        for (blocks, root) in [(1_760, 880), (3_520, 1_760)] {
+            let mut image = vec![0; blocks * BLOCK_BYTES];
+            put(&mut image[root * BLOCK_BYTES..], 79, 9);
+            for block in [7, 9] {
+                put(&mut image[block * BLOCK_BYTES..], 100, 3);
+            }
+            mend_blocks(&mut image, &BTreeSet::from([7, 9]));
+            let mended = |block: usize, index| word(&image[block * BLOCK_BYTES..], index) == 3_u32.wrapping_neg();
+            assert!(mended(7, 5) && mended(9, 0), "{blocks} blocks");
+        }
     }
 
     /// Down to a limit, whatever the kind of memory, or to the bits for memory alone.

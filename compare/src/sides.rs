@@ -99,8 +99,8 @@ mod tests {
         sides.ask("a short image", FIND, b"a", "refused 1 0");
         let told = message(|| sides.ask("a short image", FIND, b"a", "refused 2 0"));
         assert!(told.ends_with(r#"number 4, a short image: expected "refused 2 0", got "refused 1 0""#), "{told}");
-        let find: fn(&[u8], &[u8]) -> _ = |image, path| {
-            let mut answer = (ARCHIVE.find)(image, path);
+        let find: fn(u32, &[u8], &[u8]) -> _ = |blocks, image, path| {
+            let mut answer = (ARCHIVE.find)(blocks, image, path);
             answer.place = 3;
             answer
         };

@@ -71,7 +71,7 @@ mod tests {
 
     #[test]
     fn the_blocks_together_hold_the_file_and_none_is_empty() {
-        for (disk, full) in [(Disk::OLD, 488), (Disk::FAST, 512)] {
+        for (disk, full) in [(Disk::OLD, 488), (Disk::FAST, 512), (Disk::FAST.with_blocks(3_520), 512)] {
             for size in telling_sizes(&disk) {
                 let blocks = data_blocks(&disk, size);
                 let bytes: Vec<u32> = (1..=blocks).map(|n| held(&disk, size, n)).collect();
@@ -86,7 +86,7 @@ mod tests {
 
     #[test]
     fn header_and_lists_together_list_every_block_once() {
-        for disk in Disk::FLOPPIES {
+        for disk in Disk::ALL {
             for size in telling_sizes(&disk) {
                 let lists = list_blocks(&disk, size);
                 let listed = match lists {
@@ -106,7 +106,9 @@ mod tests {
 
     #[test]
     fn keys_that_come_and_keys_that_remain() {
-        for (keys, here, left) in [(0, 0, 0), (1, 1, 0), (71, 71, 0), (72, 72, 0), (73, 72, 1), (1755, 72, 1683)] {
+        for (keys, here, left) in
+            [(0, 0, 0), (1, 1, 0), (71, 71, 0), (72, 72, 0), (73, 72, 1), (1755, 72, 1683), (3515, 72, 3443)]
+        {
             assert_eq!((keys_here(keys), keys_left(keys)), (here, left));
         }
     }
@@ -125,11 +127,12 @@ mod tests {
     /// With one byte more, header, lists and data would take a block more than there is.
     #[test]
     fn the_largest_file_fills_a_disk() {
-        for disk in Disk::FLOPPIES.into_iter().flat_map(|disk| [disk, Disk { blocks: 300, ..disk }]) {
+        for disk in Disk::ALL.into_iter().flat_map(|disk| [disk, disk.with_blocks(300)]) {
             let size = largest_file(&disk);
             let taken = |size: u32| 1 + list_blocks(&disk, size) + data_blocks(&disk, size);
             assert_eq!([taken(size), taken(size + 1)].map(|blocks| blocks <= disk.chain_limit()), [true, false]);
         }
-        assert_eq!(Disk::FLOPPIES.map(|disk| largest_file(&disk)), [844_728, 886_272, 844_728, 886_272]);
+        let [small, large] = [[844_728, 886_272], [1_691_896, 1_775_104]];
+        assert_eq!(Disk::ALL.map(|disk| largest_file(&disk))[..], [small, small, large, large].concat());
     }
 }

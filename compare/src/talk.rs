@@ -1,22 +1,38 @@
-//! A talk about one image with whoever is asked: the image is sent once, held by all sides, and changed by patches.
+//! A talk about one image with whoever is asked: the image is sent once, held by all sides, and changed by patches. The
+//! number of blocks that calls name is told when it changes.
 //!
 //! What the answers to other requests should be is up to the tests; this keeps the image as the sides have it.
 
 use crate::bad_volumes::{apply, Patch};
-use crate::model::{IMAGE, PATCH};
+use crate::disk::FLOPPY;
+use crate::model::{DISK, IMAGE, PATCH};
 use crate::sides::{Sides, Who};
 
 /// Requests with the answers due.
 pub struct Talk {
     sides: Sides,
+    named: u32,
     held: Vec<u8>,
     about: String,
 }
 
 impl Talk {
-    /// Nothing is held, and nothing asked.
+    /// Nothing is held, and nothing asked; the floppy's number of blocks is named.
     pub fn new(who: Who) -> Talk {
-        Talk { sides: Sides::new(who), held: Vec::new(), about: "at first".into() }
+        Talk { sides: Sides::new(who), named: FLOPPY, held: Vec::new(), about: "at first".into() }
+    }
+
+    /// The number of blocks that calls name now, 0 for none.
+    pub fn named(&self) -> u32 {
+        self.named
+    }
+
+    /// Lets calls name another number of blocks.
+    pub fn name(&mut self, named: u32) {
+        if named != self.named {
+            self.named = named;
+            self.ask(DISK, &named.to_be_bytes(), &format!("disk {named}"));
+        }
     }
 
     /// The image that is held now.

@@ -1,17 +1,18 @@
 //! Holds the program `probe` and the exported functions to the audit of this package: 1 takes an image over, 2 changes
-//! bytes of it, 3 audits it.
+//! bytes of it, 3 audits it, 9 names a number of blocks.
 //!
 //! Every answer due is one that the two opinions of this package [agree](agreed) on, so each image that is asked
 //! about is a comparison of these two as well. Images are long; most are had by a patch to one that is held already,
-//! which is patched back after.
+//! which is patched back after. Those of high-density disks are twice as long, and fewer of them are drawn.
 
 use std::collections::BTreeMap;
 use std::ops::{Deref, DerefMut};
 
 use compare::audit::Report;
-use compare::bad_volumes::{causes, harmless, scratch, short_claims, wrong_lengths, Cause, Harm, Patch};
+use compare::bad_volumes::{causes, harmless, scratch, short_claims, wrong_lengths, Cause, Harm, Patch, NO_SIZES};
+use compare::bitmap::place;
 use compare::declared::agreed;
-use compare::disk::{claim_length, image_length, Disk, FLOPPY};
+use compare::disk::{claim_length, settled, Disk, ANY, FLOPPY, HIGH_DENSITY, SIZES};
 use compare::driver::checksum;
 use compare::kinds::retagged;
 use compare::program::Refusal;
@@ -20,10 +21,10 @@ use compare::sides::{with_seeds, Who};
 use compare::sizes::largest_file;
 use compare::talk;
 use compare::volumes::{
-    alike, any_style, chain, empty, every_byte, files, full, mixed, nested, shuffle, telling_sizes, Filling, Kind,
-    Met, Order, Part, Plan, Style, Volume,
+    alike, any_style, both_sizes, chain, empty, every_byte, files, full, mixed, nested, shuffle, telling_sizes,
+    Filling, Kind, Met, Order, Part, Plan, Style, Volume,
 };
-use compare::words::{mend, put, word, BLOCK_BYTES, BLOCK_WORDS, TABLE};
+use compare::words::{key_word, mend, put, slot_word, word, BLOCK_BYTES, BLOCK_WORDS, TABLE};
 
 const AUDIT: u32 = 3;
 
@@ -32,22 +33,22 @@ const BAD: &str = "bad request";
 /// What is in the claim area before an audit.
 const CLAIM: u8 = 0xAA;
 
-/// The least claim area that is enough.
-const ENOUGH: usize = claim_length(FLOPPY);
-
-/// The longest claim area that `probe` lends.
+/// The longest claim area that `probe` lends, and the longest image that it takes.
 const CLAIM_ROOM: usize = 4_096;
+const IMAGE_ROOM: usize = 1_802_240;
 
-/// The kind of a disk, and the number of a refusal or 0.
-type Answer = (u8, u32);
+/// A disk, and the number of a refusal or 0.
+type Answer = (Disk, u32);
 
 /// How often each kind of answer is due.
 #[derive(Default)]
 struct Tally {
-    /// By the kind that the tag says, or where it says none, by that of the image as it was sent.
+    /// By the disk that the image is for the call, or where it is none, by that which it was as it was sent.
     audits: BTreeMap<Answer, usize>,
-    /// Those of a volume under the tag of another kind, by the kind that it was laid out for and by that one.
-    retagged: BTreeMap<(u8, Answer), usize>,
+    /// Those that name no number of blocks.
+    unnamed: BTreeMap<Answer, usize>,
+    /// Those of a volume under the tag of another kind, by the disk that it was laid out for and by that one.
+    retagged: BTreeMap<(Disk, Answer), usize>,
     /// Changes that are harm in the old file system alone, by the number due there.
     allowed: BTreeMap<Answer, usize>,
 }
@@ -55,7 +56,7 @@ struct Tally {
 /// A talk about one image, and what was asked in it.
 struct Talk {
     talk: talk::Talk,
-    /// The kind of the image as it was sent.
+    /// The disk that the image was as it was sent.
     sent: Disk,
     tally: Tally,
 }
@@ -81,15 +82,36 @@ impl Talk {
 
     /// Sends an image.
     fn image(&mut self, image: &[u8]) {
-        self.sent = Disk::of(FLOPPY, image).unwrap_or(self.sent);
+        self.sent = Disk::named(ANY, image).unwrap_or(self.sent);
         self.talk.image(image);
+    }
+
+    /// Lets calls name the number of blocks of the image that was sent, or none.
+    fn name_rightly(&mut self, rng: &mut Rng) {
+        let blocks = self.sent.blocks;
+        self.name(rng.pick(&[blocks, blocks, ANY]));
+    }
+
+    /// Sends the image of a volume, for calls that name its number of blocks, or none.
+    fn volume(&mut self, rng: &mut Rng, volume: &Volume) {
+        self.image(&volume.image);
+        self.name_rightly(rng);
+    }
+
+    /// The least claim area that is enough for the image that was sent.
+    fn enough(&self) -> usize {
+        claim_length(self.sent.blocks)
     }
 
     fn audit(&mut self, claim_length: usize) -> Result<Report, Refusal> {
         let mut claim = vec![CLAIM; claim_length];
-        let answer = agreed(FLOPPY, self.held(), &mut claim);
-        let kind = Disk::of(FLOPPY, self.held()).unwrap_or(self.sent).kind;
-        *self.tally.audits.entry((kind, number(answer))).or_default() += 1;
+        let named = self.named();
+        let answer = agreed(named, self.held(), &mut claim);
+        let disk = Disk::named(named, self.held()).unwrap_or(self.sent);
+        *self.tally.audits.entry((disk, number(answer))).or_default() += 1;
+        if named == ANY {
+            *self.tally.unnamed.entry((disk, number(answer))).or_default() += 1;
+        }
         let line = match answer {
             Ok(Report { directories, files, list_blocks, data_blocks, used, free }) => {
                 format!("accepted {directories} {files} {list_blocks} {data_blocks} {used} {free}")
@@ -114,9 +136,16 @@ impl Talk {
         self.patch(&undo);
     }
 
+    /// An audit with a claim area that is just long enough.
+    fn expect_enough(&mut self, due: Result<Report, Refusal>) {
+        self.expect(self.enough(), due);
+    }
+
     /// A harm, met with a claim area that is long enough.
     fn harmed(&mut self, rng: &mut Rng, harm: &Harm) {
-        let claim = rng.pick(&[ENOUGH, ENOUGH, ENOUGH, ENOUGH + 1, CLAIM_ROOM]);
+        self.name_rightly(rng);
+        let enough = self.enough();
+        let claim = rng.pick(&[enough, enough, enough, enough + 1, CLAIM_ROOM]);
         self.patched(&harm.patches(), |talk| talk.expect(claim, Err(harm.due())));
     }
 
@@ -139,26 +168,53 @@ fn laid_out(rng: &mut Rng, plan: &Plan) -> Volume {
     Volume::new(rng, plan, style)
 }
 
-/// The case that docs/FORMAT.md works out ("Worked cases"), without the opinions.
+/// The case that docs/FORMAT.md works out ("Worked cases"), without the opinions, on disks of each size and kind.
 #[test]
 fn the_empty_volume() {
     let mut rng = Rng::new(90);
     let mut talk = talk::Talk::new(Who::Both);
-    for disk in Disk::FLOPPIES {
+    for disk in Disk::ALL {
         let volume = laid_out(&mut rng, &empty(&disk));
-        talk.about(format!("kind {}", disk.kind));
+        let (blocks, root, free) = if disk.blocks == FLOPPY { (1_760, 880, 1_756) } else { (3_520, 1_760, 3_516) };
+        talk.about(format!("{disk:?}"));
         talk.image(&volume.image);
-        for length in [1_760, 1_761, 4_096] {
-            let mut claim = vec![0; length];
+        for named in [disk.blocks, ANY] {
+            talk.name(named);
+            for length in [blocks, blocks + 1, 4_096] {
+                let mut claim = vec![0; length];
+                claim[root] = 1;
+                claim[volume.bitmap as usize] = 1;
+                let answer = format!("accepted 0 0 0 0 2 {free} claim {}", checksum(&claim));
+                talk.ask(AUDIT, &(length as u32).to_be_bytes(), &answer);
+            }
+            for length in [0, 1, blocks - 1] {
+                let answer = format!("refused 2 0 claim {}", checksum(&vec![0; length]));
+                talk.ask(AUDIT, &(length as u32).to_be_bytes(), &answer);
+            }
+        }
+    }
+    talk.run();
+}
+
+/// Where no number of blocks was ever named, a floppy's is: a large image is refused, however good.
+#[test]
+fn a_floppy_is_named_at_first() {
+    let mut rng = Rng::new(89);
+    let mut talk = talk::Talk::new(Who::Both);
+    for disk in Disk::ALL {
+        let volume = laid_out(&mut rng, &empty(&disk));
+        talk.about(format!("{disk:?}"));
+        talk.image(&volume.image);
+        let mut claim = vec![0; 4_096];
+        let answer = if disk.blocks == FLOPPY {
             claim[880] = 1;
             claim[volume.bitmap as usize] = 1;
-            let answer = format!("accepted 0 0 0 0 2 1756 claim {}", checksum(&claim));
-            talk.ask(AUDIT, &(length as u32).to_be_bytes(), &answer);
-        }
-        for length in [0, 1, 1_759] {
-            let answer = format!("refused 2 0 claim {}", checksum(&vec![0; length]));
-            talk.ask(AUDIT, &(length as u32).to_be_bytes(), &answer);
-        }
+            "accepted 0 0 0 0 2 1756"
+        } else {
+            "refused 1 0"
+        };
+        talk.ask(AUDIT, &4_096_u32.to_be_bytes(), &format!("{answer} claim {}", checksum(&claim)));
+        assert_eq!(talk.named(), FLOPPY);
     }
     talk.run();
 }
@@ -166,24 +222,30 @@ fn the_empty_volume() {
 /// Every last byte that a tag can have, on a volume of which every kind is right; and the letters before it.
 #[test]
 fn every_boot_tag() {
+    for blocks in SIZES {
+        every_boot_tag_of(blocks);
+    }
+}
+
+fn every_boot_tag_of(blocks: u32) {
     let mut rng = Rng::new(93);
-    let plan = alike(&mut rng, &Disk::OLD, 10, 0);
+    let plan = alike(&mut rng, &Disk::OLD.with_blocks(blocks), 10, 0);
     let volume = laid_out(&mut rng, &plan);
     let mut talk = Talk::new(Who::Both);
-    talk.image(&volume.image);
+    talk.volume(&mut rng, &volume);
     for kind in 0..=255 {
         talk.about(format!("kind {kind}"));
         let due = if kind < 4 { Ok(volume.report()) } else { refused(3) };
         talk.patched(&[(3, vec![kind])], |talk| {
-            talk.expect(ENOUGH, due);
-            talk.expect(ENOUGH - 1, refused(2));
+            talk.expect_enough(due);
+            talk.expect(talk.enough() - 1, refused(2));
         });
     }
     for (kind, place) in (0..4).flat_map(|kind| (0..24).map(move |place| (kind, place))) {
         let mut tag = [b'D', b'O', b'S', kind];
         tag[place / 8] ^= 1 << (place % 8);
         talk.about(format!("tag {tag:?}"));
-        talk.patched(&[(0, tag.to_vec())], |talk| talk.expect(ENOUGH, refused(3)));
+        talk.patched(&[(0, tag.to_vec())], |talk| talk.expect_enough(refused(3)));
     }
     talk.run();
 }
@@ -191,8 +253,11 @@ fn every_boot_tag() {
 #[test]
 fn before_any_image_its_length_is_zero() {
     let mut talk = Talk::new(Who::Both);
-    for claim in [0, ENOUGH - 1, ENOUGH, CLAIM_ROOM] {
-        talk.expect(claim, refused(1));
+    for named in [FLOPPY, ANY, HIGH_DENSITY, 1, u32::MAX] {
+        talk.name(named);
+        for claim in [0, 1_759, 1_760, CLAIM_ROOM] {
+            talk.expect(claim, refused(1));
+        }
     }
     talk.run();
 }
@@ -208,7 +273,7 @@ fn claim_areas_above_the_room_and_short_bodies_are_bad() {
     for claim in [CLAIM_ROOM as u32 + 1, 1 << 16, 1 << 31, (1 << 31) + 1_760, u32::MAX] {
         talk.about(format!("a claim area of {claim}"));
         talk.ask(AUDIT, &claim.to_be_bytes(), BAD);
-        talk.expect(ENOUGH, Ok(volume.report()));
+        talk.expect_enough(Ok(volume.report()));
     }
     for length in 0..4 {
         talk.about(format!("a body of {length}"));
@@ -218,69 +283,256 @@ fn claim_areas_above_the_room_and_short_bodies_are_bad() {
     talk.run();
 }
 
-/// Lengths of image and claim area on both sides of what is right, with good and with bad tags and roots.
+/// Lengths of image and claim area on both sides of what is right, and numbers of blocks that are named: each length
+/// with every number that a disk can have, with none and with some others; with good and with bad tags and roots.
 fn lengths(who: Who, rng: &mut Rng, disk: &Disk) -> Talk {
-    let mut talk = Talk::new(who);
+    let mut talk = Talk { sent: *disk, ..Talk::new(who) };
     let volume = laid_out(rng, &empty(disk));
-    let claims = short_claims(FLOPPY).into_iter().chain([ENOUGH, ENOUGH + 1, CLAIM_ROOM]);
-    for length in wrong_lengths(FLOPPY).into_iter().chain([image_length(FLOPPY)]) {
-        let right = length == image_length(FLOPPY);
+    // with this number none is right
+    let lengths = wrong_lengths(1).into_iter().filter(|&length| length <= IMAGE_ROOM);
+    for length in lengths {
         let mut image = volume.image.clone();
         image.resize(length, 0);
         talk.about(format!("{length} bytes"));
         talk.image(&image);
-        for claim in claims.clone() {
-            let due = match (right, claim < ENOUGH) {
-                (false, _) => refused(1),
-                (true, true) => refused(2),
-                (true, false) => Ok(volume.report()),
-            };
-            talk.expect(claim, due);
-        }
-        if length >= 4 {
-            talk.about(format!("{length} bytes with another boot tag"));
-            talk.patched(&[(0, b"KICK".to_vec())], |talk| {
-                talk.expect(ENOUGH - 1, refused(if right { 2 } else { 1 }));
-                talk.expect(ENOUGH, refused(if right { 3 } else { 1 }));
-            });
+        let others: Vec<u32> = (0..3).map(|_| rng.pick(&NO_SIZES)).collect();
+        for named in [ANY, FLOPPY, HIGH_DENSITY].into_iter().chain(others) {
+            talk.about(format!("{length} bytes, {named} blocks named"));
+            talk.name(named);
+            let enough = settled(named, length).map(claim_length);
+            let some = rng.pick(&short_claims(disk.blocks));
+            for claim in [enough.unwrap_or(1_760) - 1, enough.unwrap_or(3_520), some, CLAIM_ROOM] {
+                let due = match enough {
+                    None => refused(1),
+                    Some(enough) if claim < enough => refused(2),
+                    Some(_) if length == volume.image.len() => Ok(volume.report()),
+                    // the root is elsewhere
+                    Some(_) => {
+                        let answer = talk.audit(claim);
+                        assert!(!(1..4).contains(&number(answer)), "{}: {answer:?}", talk.subject());
+                        continue;
+                    }
+                };
+                talk.expect(claim, due);
+            }
+            if length >= 4 {
+                talk.about(format!("{length} bytes with another boot tag, {named} blocks named"));
+                talk.patched(&[(0, b"KICK".to_vec())], |talk| {
+                    let [short, long] = if enough.is_some() { [2, 3] } else { [1, 1] };
+                    talk.expect(enough.unwrap_or(1_760) - 1, refused(short));
+                    talk.expect(enough.unwrap_or(3_520), refused(long));
+                });
+            }
         }
     }
     talk
 }
 
-/// Volumes of moderate size on a disk of this kind, and what they are.
+/// One image that is a floppy if it is cut to a floppy's length, and a high-density disk if it is not.
+fn sizes_in_one(who: Who, rng: &mut Rng) -> Talk {
+    let mut talk = Talk::new(who);
+    for kind in 0..4 {
+        let blocks = rng.pick(&[0, 3, 20, 60]);
+        let both = both_sizes(rng, kind, blocks);
+        for volume in &both {
+            talk.about(format!("{:?}, {blocks} blocks in use", volume.disk));
+            talk.image(&both[1].image[..volume.image.len()]);
+            let enough = talk.enough();
+            for named in [FLOPPY, ANY, HIGH_DENSITY, ANY, rng.pick(&NO_SIZES)] {
+                let is_right = [ANY, volume.disk.blocks].contains(&named);
+                talk.name(named);
+                talk.expect(enough, if is_right { Ok(volume.report()) } else { refused(1) });
+                talk.expect(enough - 1, refused(if is_right { 2 } else { 1 }));
+            }
+        }
+    }
+    talk
+}
+
+/// Keys around both ends of either size of disk, and around the roots.
+const KEYS: [u32; 17] =
+    [0, 1, 2, 3, 879, 880, 881, 1_757, 1_758, 1_759, 1_760, 1_761, 3_518, 3_519, 3_520, 3_521, u32::MAX];
+
+/// The block of a volume with one word changed and its sum mended, as a patch.
+fn with_word(volume: &Volume, key: u32, index: usize, value: u32) -> Patch {
+    let mut block = volume.block(key).to_vec();
+    put(&mut block, index, value);
+    mend(&mut block, if key == volume.bitmap { 0 } else { 5 });
+    (key as usize * BLOCK_BYTES, block)
+}
+
+/// Both sides of every limit that follows from the size of a disk: the keys that each kind of reference may hold, the
+/// bits that are read, the claim area, and where the root is. Limits of files have their own talk, and so do chains.
+fn limits(who: Who, rng: &mut Rng, disk: &Disk) -> Talk {
+    let mut talk = Talk::new(who);
+    let (blocks, root) = (disk.blocks, disk.root());
+    let mut plan = empty(disk);
+    plan.add(rng, None, Some(3), Kind::File(TABLE * disk.data_bytes() + 1));
+    plan.add(rng, None, Some(3), Kind::Directory);
+    // free blocks are blank, so that none of them passes for an entry or a list
+    let style = Style { filling: Filling::Zeros, order: rng.pick(&ORDERS) };
+    let volume = Volume::new(rng, &plan, style);
+    talk.volume(rng, &volume);
+    let [file, directory] = [&volume.entries[0], &volume.entries[1]];
+    let list = file.lists[0];
+    let empty_slot = slot_word(60);
+    for key in KEYS.into_iter().chain([blocks - 2, blocks - 1, blocks, blocks + 1]) {
+        let is_key = (2..blocks).contains(&key);
+        for (what, holder, index) in [
+            ("slot", root, empty_slot),
+            ("directory's slot", directory.key, empty_slot),
+            ("end of a chain", directory.key, 124),
+            ("bitmap key", root, 79),
+            ("data key", file.key, key_word(30)),
+            ("data key in a list", list, key_word(0)),
+            ("list link", file.key, 126),
+        ] {
+            talk.about(format!("{disk:?}: {what} {key}"));
+            talk.patched(&[with_word(&volume, holder, index, key)], |talk| {
+                let answer = talk.audit(talk.enough());
+                let may_be_0 = index == empty_slot || index == 124;
+                match (key, is_key) {
+                    (0, _) if may_be_0 => assert_eq!(answer, Ok(volume.report()), "{}", talk.subject()),
+                    (0, _) if index == 126 => assert_eq!(number(answer), 14, "{}", talk.subject()),
+                    (_, false) => assert_eq!(answer, Err(Refusal::at(5, key as usize)), "{}", talk.subject()),
+                    (_, true) => assert_ne!(number(answer), 5, "{}", talk.subject()),
+                }
+            });
+        }
+    }
+    for key in
+        KEYS.into_iter().filter(|key| (2..4_000).contains(key)).chain([root, blocks - 1, blocks, blocks + 1])
+    {
+        let (index, bit) = place(key);
+        let bits = word(volume.block(volume.bitmap), index) ^ 1 << bit;
+        let due = if key < blocks { Err(Refusal::at(17, key as usize)) } else { Ok(volume.report()) };
+        talk.about(format!("{disk:?}: the bit of {key}"));
+        talk.patched(&[with_word(&volume, volume.bitmap, index, bits)], |talk| talk.expect_enough(due));
+    }
+    unread_bits(&mut talk, &volume);
+    for claim in [1_759, 1_760, 1_761, 3_519, 3_520, 3_521] {
+        talk.about(format!("{disk:?}: a claim area of {claim}"));
+        talk.expect(claim, if claim < blocks as usize { refused(2) } else { Ok(volume.report()) });
+    }
+    for (index, value, number) in [(3, 71, 4), (124, root, 4), (78, 0, 16), (104, 1, 16), (0, 8, 8), (108, 0, 11)]
+    {
+        talk.about(format!("{disk:?}: w{index} of the root"));
+        let due = Err(Refusal::at(number, root as usize));
+        talk.patched(&[with_word(&volume, root, index, value)], |talk| talk.expect_enough(due));
+    }
+    for other in disk.other_sizes().map(|other| other.root()).filter(|&other| other < blocks) {
+        talk.about(format!("{disk:?}: the root at {other}"));
+        let at = |key: u32, block: &[u8]| (key as usize * BLOCK_BYTES, block.to_vec());
+        let patches = [at(other, volume.block(root)), at(root, &[0; BLOCK_BYTES])];
+        talk.patched(&patches, |talk| talk.expect_enough(Err(Refusal::at(8, root as usize))));
+    }
+    talk
+}
+
+/// In which orders blocks are given away.
+const ORDERS: [Order; 3] = [Order::Rising, Order::Falling, Order::Shuffled];
+
+/// The bits after that of the last block, all 1, all 0 and each other one: no one reads them.
+fn unread_bits(talk: &mut Talk, volume: &Volume) {
+    let (last, bit) = place(volume.disk.blocks - 1);
+    for value in [u32::MAX, 0, 0x5555_5555, 0xAAAA_AAAA] {
+        let mut block = volume.block(volume.bitmap).to_vec();
+        let read = word(&block, last) & (u32::MAX >> (31 - bit));
+        put(&mut block, last, read | value & !(u32::MAX >> (31 - bit)));
+        (last + 1..BLOCK_WORDS).for_each(|index| put(&mut block, index, value));
+        mend(&mut block, 0);
+        talk.about(format!("{:?}: bits past the last are those of {value:X}", volume.disk));
+        let patch = (volume.bitmap as usize * BLOCK_BYTES, block);
+        talk.patched(&[patch], |talk| talk.expect_enough(Ok(volume.report())));
+    }
+}
+
+/// Volumes of moderate size on a disk of this size and kind, and what they are; few of high-density disks.
 fn moderate(rng: &mut Rng, disk: &Disk) -> Vec<(String, Volume)> {
     let table = TABLE * disk.data_bytes();
-    let mut plans = vec![
-        ("empty".to_string(), empty(disk)),
-        ("telling sizes".to_string(), files(rng, disk, &telling_sizes(disk))),
-        // three list blocks, and two of which the last is full
-        ("several lists".to_string(), files(rng, disk, &[3 * table + 1, 3 * table, 1])),
-        ("40 nested".to_string(), nested(rng, disk, 40)),
-        ("40 on a chain".to_string(), chain(rng, disk, 40)),
-        ("every byte".to_string(), every_byte(rng, disk)),
-        ("alike on each kind".to_string(), alike(rng, disk, 30, 0)),
-    ];
-    if !disk.is_international() {
-        plans.push(("pairs of names".to_string(), alike(rng, disk, 20, 3)));
-    }
-    for blocks in [30, 100, 200, 320] {
-        plans.push((format!("mixed, {blocks} blocks"), mixed(rng, disk, blocks)));
-    }
-    let named = |what: &str| format!("kind {}, {what}", disk.kind);
+    let plans = if disk.blocks == FLOPPY {
+        let mut plans = vec![
+            ("empty".to_string(), empty(disk)),
+            ("telling sizes".to_string(), files(rng, disk, &telling_sizes(disk))),
+            // three list blocks, and two of which the last is full
+            ("several lists".to_string(), files(rng, disk, &[3 * table + 1, 3 * table, 1])),
+            ("40 nested".to_string(), nested(rng, disk, 40)),
+            ("40 on a chain".to_string(), chain(rng, disk, 40)),
+            ("every byte".to_string(), every_byte(rng, disk)),
+            ("alike on each kind".to_string(), alike(rng, disk, 30, 0)),
+        ];
+        if !disk.is_international() {
+            plans.push(("pairs of names".to_string(), alike(rng, disk, 20, 3)));
+        }
+        for blocks in [30, 100, 200, 320] {
+            plans.push((format!("mixed, {blocks} blocks"), mixed(rng, disk, blocks)));
+        }
+        plans
+    } else {
+        let pairs = if disk.is_international() { 0 } else { 2 };
+        vec![
+            ("two lists".to_string(), files(rng, disk, &[2 * table + 1, 0, 1])),
+            ("20 on a chain".to_string(), chain(rng, disk, 20)),
+            ("alike on each kind".to_string(), alike(rng, disk, 10, pairs)),
+            ("mixed, 150 blocks".to_string(), mixed(rng, disk, 150)),
+        ]
+    };
+    let named = |what: &str| format!("{disk:?}, {what}");
     plans.iter().map(|(what, plan)| (named(what), laid_out(rng, plan))).collect()
 }
 
-/// Volumes that fill the disk, each of some kind.
-fn large(rng: &mut Rng) -> Vec<(String, Volume)> {
-    let [one, two, three, four] = [(); 4].map(|()| rng.pick(&Disk::FLOPPIES));
+/// Volumes that fill disks of this size, each of some kind.
+fn large(rng: &mut Rng, blocks: u32) -> Vec<(String, Volume)> {
+    let [one, two, three, four] = [(); 4].map(|()| rng.pick(&Disk::of_blocks(blocks)));
     let plans = [
         ("nested throughout", nested(rng, &one, one.chain_limit())),
         ("one chain", chain(rng, &two, two.chain_limit())),
         ("the largest file", files(rng, &three, &[largest_file(&three)])),
         ("full", full(rng, &four)),
     ];
-    plans.iter().map(|(what, plan)| (what.to_string(), laid_out(rng, plan))).collect()
+    plans.iter().map(|(what, plan)| (format!("{blocks} blocks, {what}"), laid_out(rng, plan))).collect()
+}
+
+/// The largest file of a disk, with more than it can hold: a header may state as many data blocks as there are besides
+/// root, bitmap block and header, but with its lists there is no room for them. One byte more may not be stated.
+fn largest_size(who: Who, rng: &mut Rng, disk: &Disk) -> Talk {
+    let mut talk = Talk::new(who);
+    let plan = files(rng, disk, &[largest_file(disk)]);
+    let volume = laid_out(rng, &plan);
+    let file = &volume.entries[0];
+    let last = *file.lists.last().expect("a list block");
+    let (limit, blocks) = (disk.file_limit(), disk.file_limit() / disk.data_bytes());
+    assert_eq!(blocks, if disk.blocks == FLOPPY { 1_755 } else { 3_515 });
+    talk.about(format!("{disk:?}: the largest file"));
+    talk.volume(rng, &volume);
+    talk.expect_enough(Ok(volume.report()));
+    for (stated, place) in [(limit, last), (limit + 1, file.key), (u32::MAX, file.key)] {
+        talk.about(format!("{disk:?}: the largest file, {stated} bytes stated"));
+        let due = Err(Refusal::at(14, place as usize));
+        talk.patched(&[with_word(&volume, file.key, 81, stated)], |talk| talk.expect_enough(due));
+    }
+    // the last list lists as many keys as are stated; the first that is new is of no block, or of one that is claimed
+    let listed = file.data.len() - TABLE as usize * file.lists.len();
+    let more = blocks - file.data.len() as u32;
+    for (key, number) in [(volume.bitmap, 6), (file.data[0], 6), (disk.root(), 6), (0, 5), (disk.blocks, 5)] {
+        talk.about(format!("{disk:?}: {blocks} data blocks, of which one is {key}"));
+        let mut block = volume.block(last).to_vec();
+        put(&mut block, 2, listed as u32 + more);
+        (0..more).for_each(|index| put(&mut block, key_word(listed as u32 + index), key));
+        mend(&mut block, 5);
+        let lists = (last as usize * BLOCK_BYTES, block);
+        let due = Err(Refusal::at(number, key as usize));
+        talk.patched(&[with_word(&volume, file.key, 81, limit), lists], |talk| talk.expect_enough(due));
+    }
+    talk
+}
+
+/// A chain of all blocks, and one that would have one more, the bitmap block: it is claimed before.
+fn longest_chain(talk: &mut Talk, what: &str, volume: &Volume) {
+    let last = volume.entries.last().expect("an entry").key;
+    talk.about(format!("{what}: goes on to the bitmap block"));
+    let patch = with_word(volume, last, 124, volume.bitmap);
+    talk.patched(&[patch], |talk| talk.expect_enough(Err(Refusal::at(6, volume.bitmap as usize))));
 }
 
 /// The bytes of a volume under the tag of another kind, alone and with a claim area that is too short.
@@ -288,20 +540,20 @@ fn other_kinds(talk: &mut Talk, what: &str, volume: &Volume) {
     for other in volume.disk.others() {
         talk.about(format!("{what}: under the tag of kind {}", other.kind));
         let (patch, due) = retagged(volume, &other);
-        *talk.tally.retagged.entry((volume.disk.kind, (other.kind, number(due)))).or_default() += 1;
+        *talk.tally.retagged.entry((volume.disk, (other, number(due)))).or_default() += 1;
         talk.patched(&[patch], |talk| {
-            talk.expect(ENOUGH, due);
-            talk.expect(ENOUGH - 1, refused(2));
+            talk.expect_enough(due);
+            talk.expect(talk.enough() - 1, refused(2));
         });
     }
 }
 
 /// Small volumes of each kind under the tags of all others: good there, or with so many double names, or with a file
-/// that has other blocks or other words there.
-fn tagged_anew(who: Who, rng: &mut Rng) -> Talk {
+/// that has other blocks or other words there. On disks of this size, in so many rounds.
+fn tagged_anew(who: Who, rng: &mut Rng, blocks: u32, rounds: u32) -> Talk {
     let mut talk = Talk::new(who);
-    for disk in &Disk::FLOPPIES {
-        for round in 0..24 {
+    for disk in &Disk::of_blocks(blocks) {
+        for round in 0..rounds {
             let pairs = if disk.is_international() { 0 } else { round % 4 };
             // one block in both file systems, or two in the old one; with a list block in one or in both
             let size = rng.pick(&[1, 488, 488, 489, 512, 513, 900, 976, 35_137, 36_864, 36_865]);
@@ -315,10 +567,10 @@ fn tagged_anew(who: Who, rng: &mut Rng) -> Talk {
                 }
             };
             let volume = laid_out(rng, &plan);
-            let what = format!("kind {}, {pairs} pairs or a file of {size}", disk.kind);
+            let what = format!("{disk:?}, {pairs} pairs or a file of {size}");
             talk.about(&what[..]);
-            talk.image(&volume.image);
-            talk.expect(ENOUGH, Ok(volume.report()));
+            talk.volume(rng, &volume);
+            talk.expect_enough(Ok(volume.report()));
             other_kinds(&mut talk, &what, &volume);
         }
         if !disk.has_data_words() {
@@ -339,10 +591,11 @@ fn words_of_data(talk: &mut Talk, rng: &mut Rng, disk: &Disk) {
     let harms = [(header, 4, 15, first), (first, 0, 8, first), (first, 4, 15, last), (last, 4, 15, last)];
     let words = [first, last].into_iter().flat_map(|key| [1, 2, 3].map(|index| (key, index, 15, key)));
     let sums = [first, last].map(|key| (key, 5 + rng.below(123) as usize, 7, key));
-    talk.about(format!("kind {}, with all words", disk.kind));
-    talk.image(&volume.image);
-    talk.expect(ENOUGH, Ok(volume.report()));
-    other_kinds(talk, &format!("kind {}, with all words", disk.kind), &volume);
+    let what = format!("{disk:?}, with all words");
+    talk.about(&what[..]);
+    talk.volume(rng, &volume);
+    talk.expect_enough(Ok(volume.report()));
+    other_kinds(talk, &what, &volume);
     for (key, index, number, place) in harms.into_iter().chain(words).chain(sums) {
         let mut block = volume.block(key).to_vec();
         let changed = word(&block, index) ^ 1 << rng.below(32);
@@ -352,12 +605,12 @@ fn words_of_data(talk: &mut Talk, rng: &mut Rng, disk: &Disk) {
         }
         let patch = (key as usize * BLOCK_BYTES, block);
         for other in disk.others().filter(|other| other.has_data_words()) {
-            talk.about(format!("kind {}, block {key}, w{index}, under the tag of kind {}", disk.kind, other.kind));
+            talk.about(format!("{disk:?}, block {key}, w{index}, under the tag of kind {}", other.kind));
             let due = Err(Refusal::at(number, place as usize));
-            *talk.tally.retagged.entry((disk.kind, (other.kind, number))).or_default() += 1;
+            *talk.tally.retagged.entry((*disk, (other, number))).or_default() += 1;
             talk.patched(std::slice::from_ref(&patch), |talk| {
-                talk.expect(ENOUGH, Ok(volume.report()));
-                talk.patched(&[(3, vec![other.kind])], |talk| talk.expect(ENOUGH, due));
+                talk.expect_enough(Ok(volume.report()));
+                talk.patched(&[(3, vec![other.kind])], |talk| talk.expect_enough(due));
             });
         }
     }
@@ -375,18 +628,15 @@ fn sizes(who: Who, rng: &mut Rng, disk: &Disk) -> Talk {
         let plan = files(rng, disk, &[size]);
         let volume = laid_out(rng, &plan);
         let entry = &volume.entries[0];
-        talk.about(format!("kind {}, {size} bytes", disk.kind));
-        talk.image(&volume.image);
-        talk.expect(ENOUGH, Ok(volume.report()));
+        talk.about(format!("{disk:?}, {size} bytes"));
+        talk.volume(rng, &volume);
+        talk.expect_enough(Ok(volume.report()));
         let last = entry.lists.last().copied().unwrap_or(entry.key);
         // the largest size asks for more keys than the last table lists; one more is asked of none
         for (stated, place) in [(other, entry.key), (limit, last), (limit + 1, entry.key), (u32::MAX, entry.key)] {
-            talk.about(format!("kind {}, {size} bytes, {stated} stated", disk.kind));
-            let mut block = volume.block(entry.key).to_vec();
-            put(&mut block, 81, stated);
-            mend(&mut block, 5);
-            let patch = (entry.key as usize * BLOCK_BYTES, block);
-            talk.patched(&[patch], |talk| talk.expect(ENOUGH, Err(Refusal::at(14, place as usize))));
+            talk.about(format!("{disk:?}, {size} bytes, {stated} stated"));
+            let patch = with_word(&volume, entry.key, 81, stated);
+            talk.patched(&[patch], |talk| talk.expect_enough(Err(Refusal::at(14, place as usize))));
         }
     }
     talk
@@ -397,8 +647,8 @@ fn allowed(talk: &mut Talk, rng: &mut Rng, what: &str, volume: &Volume) {
     for cause in causes() {
         let Some(patches) = cause.allowed(rng, volume) else { continue };
         talk.about(format!("{what}: {} by {}, if it were asked for", cause.number, cause.what));
-        *talk.tally.allowed.entry((volume.disk.kind, cause.number)).or_default() += 1;
-        talk.patched(&patches, |talk| talk.expect(ENOUGH, Ok(volume.report())));
+        *talk.tally.allowed.entry((volume.disk, cause.number)).or_default() += 1;
+        talk.patched(&patches, |talk| talk.expect_enough(Ok(volume.report())));
     }
 }
 
@@ -416,7 +666,7 @@ fn harms(talk: &mut Talk, rng: &mut Rng, what: &str, volume: &Volume, chance: u6
             }
         } else if rng.below(20) == 0 {
             talk.about(format!("{what}: {} by {}, and a short claim area", cause.number, cause.what));
-            talk.patched(&harm.patches(), |talk| talk.expect(ENOUGH - 1, refused(2)));
+            talk.patched(&harm.patches(), |talk| talk.expect(talk.enough() - 1, refused(2)));
         }
     }
 }
@@ -445,23 +695,37 @@ fn pairs(talk: &mut Talk, rng: &mut Rng, what: &str, volume: &Volume, most: usiz
 /// A volume as it is, with harmless changes, and with scratches of which nothing is known beforehand.
 fn as_is(talk: &mut Talk, rng: &mut Rng, what: &str, volume: &Volume, scratches: usize) {
     talk.about(what);
-    talk.image(&volume.image);
-    for claim in [ENOUGH, CLAIM_ROOM] {
+    talk.volume(rng, volume);
+    let enough = talk.enough();
+    for claim in [enough, CLAIM_ROOM] {
         talk.expect(claim, Ok(volume.report()));
     }
+    named_otherwise(talk, rng, what, volume);
     for number in 0..scratches.div_ceil(8) {
         talk.about(format!("{what}: harmless {number}"));
-        talk.patched(&harmless(rng, volume), |talk| talk.expect(ENOUGH + 1, Ok(volume.report())));
+        talk.patched(&harmless(rng, volume), |talk| talk.expect(enough + 1, Ok(volume.report())));
     }
     for number in 0..scratches {
         talk.about(format!("{what}: scratch {number}"));
         let patches = scratch(rng, volume);
         talk.patched(&patches, |talk| {
-            let _ = talk.audit(ENOUGH);
+            let _ = talk.audit(enough);
         });
     }
     talk.about(format!("{what}: patched back"));
-    talk.expect(ENOUGH, Ok(volume.report()));
+    talk.expect_enough(Ok(volume.report()));
+}
+
+/// A good volume of which another size is named, or a number that no disk has: it is refused, whatever the claim area.
+fn named_otherwise(talk: &mut Talk, rng: &mut Rng, what: &str, volume: &Volume) {
+    let (before, enough) = (talk.named(), talk.enough());
+    for named in volume.disk.other_sizes().map(|other| other.blocks).chain([rng.pick(&NO_SIZES)]) {
+        talk.about(format!("{what}: {named} blocks named"));
+        talk.name(named);
+        talk.expect(enough, refused(1));
+        talk.expect(rng.pick(&[0, enough - 1, CLAIM_ROOM]), refused(1));
+    }
+    talk.name(before);
 }
 
 /// The sum of a block's words, worked out apart from the opinions.
@@ -497,7 +761,7 @@ impl Summed<'_> {
     fn expect(&mut self, about: &str, block: &[u8], due: Result<Report, Refusal>) {
         self.talk.about(format!("{}: {about}", self.what));
         let patch = (self.key as usize * BLOCK_BYTES, block.to_vec());
-        self.talk.patched(&[patch], |talk| talk.expect(ENOUGH, due));
+        self.talk.patched(&[patch], |talk| talk.expect_enough(due));
     }
 
     /// A block whose sum is 0, which is accepted.
@@ -671,7 +935,7 @@ fn block_sums() {
         for &Met { key, part } in volume.order.iter().filter(|met| is_tried(met.part)) {
             // the exported functions get it at another address
             talk.image(&volume.image);
-            let what = format!("kind {}, {part:?}", disk.kind);
+            let what = format!("{disk:?}, {part:?}");
             let mut summed = Summed { talk: &mut talk, volume: &volume, what, key, spare: volume.spare(part) };
             summed.extremes(&mut rng);
             summed.same_sums(&mut rng);
@@ -688,13 +952,13 @@ fn block_sums() {
             }
         }
         let audits = &talk.tally.audits;
-        println!("kind {}, sums: audits by number: {audits:?}", disk.kind);
+        println!("{disk:?}, sums: audits by number: {audits:?}");
         let least = match (disk.has_data_words(), disk.is_international()) {
             (true, false) => 10_000,
             (true, true) => 3_000,
             (false, _) => 1_500,
         };
-        assert!([0, 7].iter().all(|&number| audits[&(disk.kind, number)] >= least), "{audits:?}");
+        assert!([0, 7].iter().all(|&number| audits[&(*disk, number)] >= least), "{audits:?}");
         talk.run();
     }
 }
@@ -702,25 +966,48 @@ fn block_sums() {
 /// All requests of the great comparison, as the seed draws them.
 fn talks(who: Who, seed: u64) -> Vec<Talk> {
     let mut rng = Rng::new(seed);
-    let mut talks = vec![tagged_anew(who, &mut rng)];
-    for disk in &Disk::FLOPPIES {
-        talks.push(lengths(who, &mut rng, disk));
-        talks.push(sizes(who, &mut rng, disk));
+    let rng = &mut rng;
+    let mut talks = vec![
+        tagged_anew(who, rng, FLOPPY, 24),
+        tagged_anew(who, rng, HIGH_DENSITY, 3),
+        sizes_in_one(who, rng),
+        // the kinds take turns with the seed
+        lengths(who, rng, &Disk::of_blocks(HIGH_DENSITY)[seed as usize % 4]),
+        largest_size(who, rng, &Disk::of_blocks(FLOPPY)[seed as usize % 4]),
+        largest_size(who, rng, &Disk::of_blocks(HIGH_DENSITY)[(seed as usize + 1) % 4]),
+    ];
+    for disk in &Disk::ALL {
+        let is_floppy = disk.blocks == FLOPPY;
+        if is_floppy {
+            talks.push(lengths(who, rng, disk));
+        }
+        talks.push(limits(who, rng, disk));
+        talks.push(sizes(who, rng, disk));
+        let (scratches, chance, most) = if is_floppy { (16, 80, 10) } else { (12, 60, 3) };
         let mut talk = Talk::new(who);
-        for (what, volume) in moderate(&mut rng, disk) {
-            as_is(&mut talk, &mut rng, &what, &volume, 16);
+        for (what, volume) in moderate(rng, disk) {
+            as_is(&mut talk, rng, &what, &volume, scratches);
             other_kinds(&mut talk, &what, &volume);
-            harms(&mut talk, &mut rng, &what, &volume, 80);
-            allowed(&mut talk, &mut rng, &what, &volume);
-            pairs(&mut talk, &mut rng, &what, &volume, 10);
+            harms(&mut talk, rng, &what, &volume, chance);
+            allowed(&mut talk, rng, &what, &volume);
+            pairs(&mut talk, rng, &what, &volume, most);
         }
         talks.push(talk);
     }
     let mut talk = Talk::new(who);
-    for (what, volume) in large(&mut rng) {
-        as_is(&mut talk, &mut rng, &what, &volume, 3);
+    for (what, volume) in large(rng, FLOPPY) {
+        as_is(&mut talk, rng, &what, &volume, 3);
         other_kinds(&mut talk, &what, &volume);
-        harms(&mut talk, &mut rng, &what, &volume, 10);
+        harms(&mut talk, rng, &what, &volume, 10);
+    }
+    // these take long, the chain most of all
+    for (what, volume) in large(rng, HIGH_DENSITY) {
+        as_is(&mut talk, rng, &what, &volume, 0);
+        if volume.entries.last().is_some_and(|entry| entry.place() + 1 == volume.disk.chain_limit()) {
+            longest_chain(&mut talk, &what, &volume);
+        } else {
+            harms(&mut talk, rng, &what, &volume, 2);
+        }
     }
     talks.push(talk);
     talks
@@ -754,40 +1041,54 @@ fn sum<K: Copy + Ord>(talks: &[Talk], of: fn(&Tally) -> &BTreeMap<K, usize>) -> 
     sum
 }
 
-/// The answers for disks of one kind, by number.
-fn of_kind(answers: &BTreeMap<Answer, usize>, kind: u8) -> BTreeMap<u32, usize> {
-    answers.range((kind, 0)..=(kind, u32::MAX)).map(|(&(_, number), &times)| (number, times)).collect()
+/// The answers for one disk, by number.
+fn of_disk(answers: &BTreeMap<Answer, usize>, disk: Disk) -> BTreeMap<u32, usize> {
+    answers.range((disk, 0)..=(disk, u32::MAX)).map(|(&(_, number), &times)| (number, times)).collect()
 }
 
-/// Enough of everything is asked: of each kind at least 2,000 audits, each number at least 20 times. Where data blocks
-/// have no words, 15 is never due.
+/// Enough of everything is asked: of each kind of floppy at least 2,000 audits, each number at least 20 times; of each
+/// kind of high-density disk a few hundred, each number at least 4 times. Where data blocks have no words, 15 is never
+/// due.
 fn are_enough(talks: &[Talk]) {
     let audits = sum(talks, |tally| &tally.audits);
-    for disk in Disk::FLOPPIES {
-        let (kind, by_number) = (disk.kind, of_kind(&audits, disk.kind));
+    let unnamed = sum(talks, |tally| &tally.unnamed);
+    for disk in Disk::ALL {
+        let by_number = of_disk(&audits, disk);
         let total: usize = by_number.values().sum();
-        println!("kind {kind}: {total} audits, by number: {by_number:?}");
-        assert!(total >= 2_000, "{total} audits of kind {kind}");
+        println!("{disk:?}: {total} audits, by number: {by_number:?}");
+        let (least, accepted, times) = if disk.blocks == FLOPPY { (2_000, 150, 20) } else { (700, 50, 4) };
+        assert!(total >= least, "{total} audits of {disk:?}");
         let wanted = (0..18).filter(|&number| number != 15 || disk.has_data_words());
-        assert!(by_number.keys().copied().eq(wanted), "other numbers for kind {kind}: {by_number:?}");
-        assert!(by_number[&0] >= 150, "{} accepted of kind {kind}", by_number[&0]);
-        let rare: Vec<_> = by_number.iter().filter(|(_, &times)| times < 20).collect();
-        assert!(rare.is_empty(), "too few of {rare:?} for kind {kind}");
+        assert!(by_number.keys().copied().eq(wanted), "other numbers for {disk:?}: {by_number:?}");
+        assert!(by_number[&0] >= accepted, "{} accepted of {disk:?}", by_number[&0]);
+        let rare: Vec<_> = by_number.iter().filter(|(_, &met)| met < times).collect();
+        assert!(rare.is_empty(), "too few of {rare:?} for {disk:?}");
+        let unnamed: usize = of_disk(&unnamed, disk).values().sum();
+        assert!(
+            unnamed >= least / 10 && total - unnamed >= least / 10,
+            "{unnamed} of {total} unnamed of {disk:?}"
+        );
     }
     let allowed = sum(talks, |tally| &tally.allowed);
-    println!("no harm in the Fast File System, by kind and number due elsewhere: {allowed:?}");
-    let wanted = [1, 3].into_iter().flat_map(|kind| [7, 8, 14, 15].map(|number| (kind, number)));
+    println!("no harm in the Fast File System, by disk and number due elsewhere: {allowed:?}");
+    let fast = Disk::ALL.into_iter().filter(|disk| !disk.has_data_words());
+    let wanted = fast.flat_map(|disk| [7, 8, 14, 15].map(|number| (disk, number)));
     assert!(allowed.keys().copied().eq(wanted), "{allowed:?}");
-    assert!(allowed.values().all(|&times| times >= 5), "{allowed:?}");
+    let is_often = |disk: &Disk, times: usize| times >= if disk.blocks == FLOPPY { 5 } else { 2 };
+    assert!(allowed.iter().all(|((disk, _), &times)| is_often(disk, times)), "{allowed:?}");
 
     let retagged = sum(talks, |tally| &tally.retagged);
-    println!("under another tag, by kind, that kind and number: {retagged:?}");
-    let pairs = Disk::FLOPPIES.into_iter().flat_map(|from| from.others().map(move |to| (from, to)));
-    let numbers = |(from, to): (Disk, Disk)| {
-        let of = move |number| (from.kind, (to.kind, number));
-        numbers_of_tags(&from, &to).into_iter().map(of)
-    };
-    assert!(retagged.keys().copied().eq(pairs.flat_map(numbers)), "{retagged:?}");
+    println!("under another tag, by disk, that disk and number: {retagged:?}");
+    let pairs = Disk::ALL.into_iter().flat_map(|from| from.others().map(move |to| (from, to)));
+    for (from, to) in pairs {
+        let wanted = numbers_of_tags(&from, &to);
+        let all = retagged.keys().filter(|&&(disk, (other, _))| (disk, other) == (from, to));
+        let found: Vec<u32> = all.map(|&(_, (_, number))| number).collect();
+        // on a larger disk there may be too few for the rare ones
+        let is_right =
+            if from.blocks == FLOPPY { found == wanted } else { found.iter().all(|n| wanted.contains(n)) };
+        assert!(is_right && found.contains(&0), "{from:?} under the tag of {to:?}: {found:?}, not {wanted:?}");
+    }
 }
 
 /// The two opinions agree on all that is asked, and with what is known beforehand; no one else is needed for that.

@@ -16,13 +16,13 @@ use std::process::{Command, Stdio};
 use std::sync::atomic::{AtomicU32, Ordering};
 
 use compare::bad_programs::{bad_bases, scratch as scratch_program, BASE_CAUSES, CAUSES};
-use compare::bad_volumes::{apply, scratch, Patch};
+use compare::bad_volumes::{apply, scratch, Patch, NO_SIZES};
 use compare::bitmap::place;
 use compare::counter::{
     audited, line, loaded, looked_up, moved, read_out, reset, Said, ACCEPTED, ARGUMENT_ROOM, BASES, FILE_ROOM,
     IMAGE_ROOM, MEMORY, REFUSED, SENTENCES, UNASKED,
 };
-use compare::disk::Disk;
+use compare::disk::{Disk, ANY, FLOPPY, HIGH_DENSITY};
 use compare::driver::rattle;
 use compare::kinds::retagged;
 use compare::names::{put_name, slot};
@@ -31,7 +31,8 @@ use compare::program::{BOTH, BSS, CHIP, CODE, DATA, END, FAST, HEADER, HUNK_WORD
 use compare::programs::{bytes, file, good_bases, good_program, long_file, worked_file};
 use compare::rng::Rng;
 use compare::samples::{
-    damaged, fast, international, latin_1, title, titles, FONT, LOGO, OPTIONS, SETTINGS, SUMMER, TITLE,
+    damaged, fast, high_density, international, latin_1, title, titles, FONT, LOGO, OPTIONS, PICTURE, SETTINGS,
+    SUMMER, TITLE,
 };
 use compare::sizes::largest_file;
 use compare::volumes::{
@@ -43,6 +44,37 @@ use compare::words::{mend, put, slot_word, word, BLOCK_BYTES, TABLE};
 /// Bases for the title program.
 const BASES_A: [u32; 3] = [0x1_0000, 0x2_0000, 0x3_0000];
 const BASES_B: [u32; 3] = [0x4_0000, 0x0, 0xFFFF_FFE4];
+
+/// The number of blocks that a call names: what stands for it after the verb, and the number.
+#[derive(Clone, Debug)]
+struct Named {
+    words: Vec<String>,
+    number: u32,
+}
+
+impl Named {
+    /// Without a word about it a floppy is named.
+    fn nothing() -> Named {
+        Named { words: Vec::new(), number: FLOPPY }
+    }
+
+    /// This number, or `any` for 0.
+    fn blocks(number: u32) -> Named {
+        let word = if number == ANY { "any".to_string() } else { number.to_string() };
+        Named { words: vec!["-b".to_string(), word], number }
+    }
+
+    /// The words of a call of this verb.
+    fn call<W: AsRef<[u8]>>(&self, verb: &str, words: &[W]) -> Vec<Vec<u8>> {
+        let named = self.words.iter().map(|word| word.as_bytes());
+        let given = words.iter().map(|word| word.as_ref());
+        [verb.as_bytes()].into_iter().chain(named).chain(given).map(<[u8]>::to_vec).collect()
+    }
+}
+
+/// The sentence of refusal 1.
+const UNFIT: &str = "the image's length does not fit the named number of blocks: 901120 bytes are 1760 blocks, \
+                     1802240 are 3520";
 
 /// A folder in which the tool is run, and the files in it.
 struct Desk {
@@ -143,10 +175,15 @@ impl Desk {
         self.hold(words, &Said { out: Vec::new(), err, status: UNASKED });
     }
 
-    /// What an audit of these files is to say, all of which are there; several get a last line.
+    /// What an audit of these files is to say, all of which are there; several get a last line. Without a number of
+    /// blocks.
     fn hold_audit(&self, names: &[&str]) {
-        let words = [&["audit"], names].concat();
-        let answers: Vec<_> = names.iter().map(|name| (name, audited(self.file(name)))).collect();
+        self.hold_audit_of(&Named::nothing(), names);
+    }
+
+    /// The same with this number named.
+    fn hold_audit_of(&self, named: &Named, names: &[&str]) {
+        let answers: Vec<_> = names.iter().map(|name| (name, audited(named.number, self.file(name)))).collect();
         let mut out: Vec<u8> = answers.iter().flat_map(|(name, (text, _))| line(name.as_bytes(), text)).collect();
         let accepted = answers.iter().filter(|(_, (_, accepted))| *accepted).count();
         let refused = names.len() - accepted;
@@ -154,19 +191,28 @@ impl Desk {
             let last = format!("{} images: {accepted} accepted, {refused} refused, 0 not read\n", names.len());
             out.extend(last.bytes());
         }
-        self.hold_out(&words, &out, refused == 0);
+        self.hold_out(&named.call("audit", names), &out, refused == 0);
     }
 
     fn hold_find(&self, image: &str, paths: &[impl AsRef<[u8]>]) {
+        self.hold_find_of(&Named::nothing(), image, paths);
+    }
+
+    fn hold_find_of(&self, named: &Named, image: &str, paths: &[impl AsRef<[u8]>]) {
         let given = paths.iter().map(|path| path.as_ref());
-        let words: Vec<&[u8]> = [b"find", image.as_bytes()].into_iter().chain(given.clone()).collect();
-        let answers: Vec<_> = given.map(|path| (path, looked_up(self.file(image), path))).collect();
+        let words: Vec<&[u8]> = [image.as_bytes()].into_iter().chain(given.clone()).collect();
+        let answers: Vec<_> = given.map(|path| (path, looked_up(named.number, self.file(image), path))).collect();
         let out: Vec<u8> = answers.iter().flat_map(|(path, (text, _))| line(path, text)).collect();
-        self.hold_out(&words, &out, answers.iter().all(|(_, (_, found))| *found));
+        self.hold_out(&named.call("find", &words), &out, answers.iter().all(|(_, (_, found))| *found));
     }
 
     fn hold_read(&self, image: &str, path: &[u8]) {
-        self.hold(&[b"read", image.as_bytes(), path], &read_out(self.file(image), path));
+        self.hold_read_of(&Named::nothing(), image, path);
+    }
+
+    fn hold_read_of(&self, named: &Named, image: &str, path: &[u8]) {
+        let words = named.call("read", &[image.as_bytes(), path]);
+        self.hold(&words, &read_out(named.number, self.file(image), path));
     }
 
     fn hold_load(&self, name: &str, bases: &[u32]) {
@@ -180,10 +226,14 @@ impl Desk {
     }
 
     fn hold_reset(&self, image: &str, path: &[u8], bases: &[u32]) {
+        self.hold_reset_of(&Named::nothing(), image, path, bases);
+    }
+
+    fn hold_reset_of(&self, named: &Named, image: &str, path: &[u8], bases: &[u32]) {
         let bases_given = bases.iter().map(|base| format!("{base:X}").into_bytes());
-        let start = [b"reset".to_vec(), image.as_bytes().to_vec(), path.to_vec()];
+        let start = [image.as_bytes().to_vec(), path.to_vec()];
         let words: Vec<Vec<u8>> = start.into_iter().chain(bases_given).collect();
-        self.hold(&words, &reset(self.file(image), path, bases));
+        self.hold(&named.call("reset", &words), &reset(named.number, self.file(image), path, bases));
     }
 }
 
@@ -243,8 +293,8 @@ fn alone_it_says_how_it_is_used() {
     }
     let text = String::from_utf8(said.out).expect("a text");
     assert!(text.ends_with('\n') && (7..=10).contains(&text.lines().count()), "{text}");
-    for verb in ["audit", "find", "read", "load", "move", "reset"] {
-        assert!(text.contains(verb), "{verb} in {text}");
+    for word in ["audit", "find", "read", "load", "move", "reset", "-b", "1760", "3520", "any"] {
+        assert!(text.contains(word), "{word} in {text}");
     }
     assert!(text.replace(',', "").contains(&MEMORY.to_string()), "the room for program memory in {text}");
 }
@@ -273,8 +323,14 @@ fn wrong_uses() {
     let load = "load needs a FILE and a BASE for each hunk";
     let there = "move needs a FILE, old bases, the word to, and new bases";
     let reset = "reset needs an IMAGE, a PATH and a BASE for each hunk";
-    let uses: [(&[&str], &str); 22] = [
+    let uses: [(&[&str], &str); 28] = [
         (&["audit"], "audit needs an IMAGE"),
+        (&["audit", "-b", "3520"], "audit needs an IMAGE"),
+        (&["find", "-b", "3520"], find),
+        (&["find", "-b", "any", "titles.adf"], find),
+        (&["read", "-b", "1760", "titles.adf"], read),
+        (&["read", "-b", "1760", "titles.adf", TITLE, SETTINGS], read),
+        (&["reset", "-b", "3520", "high-density.adf", TITLE], reset),
         (&["find"], find),
         (&["find", "titles.adf"], find),
         (&["find", "nothing.adf"], find),
@@ -336,6 +392,111 @@ const NO_BASES: [&str; 17] = [
     "$1000",
     "to0",
 ];
+
+/// Texts that are no numbers of blocks: not made of digits, or above what 32 bits hold.
+const NO_NUMBERS: [&str; 19] = [
+    "",
+    "xyz",
+    "x1760",
+    "1760x",
+    " 1760",
+    "1760 ",
+    "1,760",
+    "1760.0",
+    "-1",
+    "-1760",
+    "+1760",
+    "0x6E0",
+    "6E0",
+    "ANY",
+    "anyone",
+    "none",
+    "-b",
+    "4294967296",
+    "99999999999999999999999",
+];
+
+/// What is said of such a text, after the text.
+const NO_NUMBER: &str = " is not a number of blocks (1760, 3520 or any)";
+
+/// The verbs with an image, and what may stand after it in a call; the image is the second word.
+const WITH_IMAGE: [&[&str]; 4] = [
+    &["audit", "titles.adf"],
+    &["find", "titles.adf", TITLE],
+    &["read", "titles.adf", TITLE],
+    &["reset", "titles.adf", TITLE, "10000", "20000", "30000"],
+];
+
+/// What stands after -b is looked at before a file is opened, for each verb with an image.
+#[test]
+fn numbers_of_blocks_that_are_none() {
+    let desk = Desk::with_samples();
+    for (number, text) in NO_NUMBERS.into_iter().enumerate() {
+        let words = WITH_IMAGE[number % 4];
+        let image = if number % 3 == 0 { "nothing.adf" } else { words[1] };
+        let call = [&[words[0], "-b", text, image], &words[2..]].concat();
+        desk.hold_err(&call, format!("{text}{NO_NUMBER}"));
+    }
+    let high = [&b"17\xFF0"[..], NO_NUMBER.as_bytes()].concat();
+    desk.hold_err(&[&b"audit"[..], b"-b", b"17\xFF0", b"titles.adf"], high);
+    let longest = "9".repeat(ARGUMENT_ROOM);
+    desk.hold_err(&["find", "-b", &longest, "titles.adf", TITLE], format!("{longest}{NO_NUMBER}"));
+}
+
+/// A number that is not there is said so in one line, which names -b.
+#[test]
+fn numbers_of_blocks_that_are_missing() {
+    let desk = Desk::with_samples();
+    for words in WITH_IMAGE {
+        let said = desk.said(&[words[0], "-b"]);
+        let err = String::from_utf8(said.err).expect("a text");
+        assert!(err.starts_with("bench: ") && err.contains("-b") && err.ends_with('\n'), "{err}");
+        assert_eq!((said.out.len(), err.lines().count(), said.status), (0, 1, UNASKED), "{err}");
+    }
+}
+
+/// Where no number of blocks is asked for, -b is a word like others: the name of a file, or a path.
+#[test]
+fn words_that_look_like_numbers_of_blocks() {
+    let desk = Desk::with_samples();
+    desk.hold_find("titles.adf", &["-b", "3520", TITLE]);
+    desk.hold_find_of(&Named::blocks(ANY), "titles.adf", &["-b", "1760", TITLE]);
+    desk.hold_read("titles.adf", b"-b");
+    let err = "bench: -b: cannot be opened\nbench: 3520: cannot be opened\n";
+    let last = b"3 images: 1 accepted, 0 refused, 2 not read\n";
+    let out = [line(b"titles.adf", &audited(FLOPPY, &titles()).0), last.to_vec()].concat();
+    desk.hold(&["audit", "titles.adf", "-b", "3520"], &Said { out, err: err.into(), status: UNASKED });
+    let no_base = "title is no base: a base is 1 to 8 hex digits";
+    desk.hold_err(&["load", "-b", "3520", "title", "10000", "20000", "30000"], no_base);
+    desk.hold_err(&["move", "-b", "1760", "title", "10000", "to", "20000"], no_base);
+    desk.hold_err(&["-b", "3520", "audit", "titles.adf"], "-b is no verb; ./bench alone says how it is used");
+}
+
+/// Good images of each size, with every number of blocks that may be named, with none, and with some that may not.
+#[test]
+fn every_named_number() {
+    let mut rng = Rng::new(182);
+    let images = [Disk::OLD, Disk::FAST.with_blocks(HIGH_DENSITY)].map(|disk| {
+        let plan = mixed(&mut rng, &disk, 40);
+        laid_out(&mut rng, &plan).image
+    });
+    let [small, large] = images;
+    // the same bytes at the other's length
+    let [longer, cut] = [[&small[..], &vec![0; small.len()]].concat(), large[..small.len()].to_vec()];
+    let desk = Desk::new([("small", small), ("large", large), ("longer", longer), ("cut", cut), ("none", vec![])]);
+    let numbers = [0, 1_760, 3_520].into_iter().chain(NO_SIZES).chain([5]);
+    for named in numbers.map(Named::blocks).chain([Named::nothing()]) {
+        desk.hold_audit_of(&named, &["small", "large", "longer", "cut", "none"]);
+        let (image, other) = if named.number % 2 == 0 { ("small", "large") } else { ("large", "small") };
+        desk.hold_audit_of(&named, &[image]);
+        desk.hold_find_of(&named, other, &["", "nobody", "a//b"]);
+        desk.hold_read_of(&named, image, b"nobody");
+        desk.hold_reset_of(&named, other, b"nobody", &BASES_A);
+    }
+    // 0 is the number that names none
+    let zero = Named { words: vec!["-b".to_string(), "0".to_string()], number: ANY };
+    desk.hold_audit_of(&zero, &["small", "large", "none"]);
+}
 
 /// All bases are tested before a file is opened.
 #[test]
@@ -429,7 +590,10 @@ fn arguments_above_their_room() {
     let desk = Desk::with_samples();
     let long = "a".repeat(5_000);
     let just = "a".repeat(ARGUMENT_ROOM + 1);
-    let calls: [(&[&str], usize); 14] = [
+    let calls: [(&[&str], usize); 17] = [
+        (&["audit", "-b", &long, "titles.adf"], 3),
+        (&["audit", "-b", "3520", &just], 4),
+        (&["reset", "-b", "xyz", "titles.adf", &long], 5),
         (&[&long], 1),
         (&[&just], 1),
         (&["audit", &long], 2),
@@ -459,13 +623,21 @@ fn images_of_other_lengths() {
     let names = lengths.map(|length| format!("{length}.adf"));
     let desk = Desk::new(names.iter().cloned().zip(lengths.map(cut)));
     for name in &names {
-        let due = "refused 1 at 0 (the image is not 901120 bytes long)";
-        desk.hold_out(&["audit", name], &line(name.as_bytes(), due), false);
+        let due = format!("refused 1 at 0 ({UNFIT})");
+        desk.hold_out(&["audit", name], &line(name.as_bytes(), &due), false);
         desk.hold_find(name, &["", TITLE, "a//b"]);
         desk.hold_read(name, TITLE.as_bytes());
         desk.hold_reset(name, TITLE.as_bytes(), &BASES_A);
     }
-    desk.hold_audit(&names.each_ref().map(|name| &name[..]));
+    let names = names.each_ref().map(|name| &name[..]);
+    desk.hold_audit(&names);
+    desk.hold_audit_of(&Named::blocks(HIGH_DENSITY), &names);
+    desk.hold_audit_of(&Named::blocks(ANY), &names);
+    // the longest fits another number of blocks, and has no root there
+    let text = "1802240.adf: refused 8 at 1760 (a type word of the block is wrong)\n";
+    for number in ["3520", "any"] {
+        desk.hold_out(&["audit", "-b", number, "1802240.adf"], text.as_bytes(), false);
+    }
 }
 
 /// A file that cannot be had does not end an audit of several.
@@ -476,13 +648,13 @@ fn audits_of_several_images_go_on() {
     files.push(("a b.adf", titles()));
     let desk = Desk::new(files);
     fs::create_dir(desk.folder.join("folder")).expect("a folder");
-    let (good, bad) = (audited(&titles()).0, audited(&damaged()).0);
+    let (good, bad) = (audited(FLOPPY, &titles()).0, audited(FLOPPY, &damaged()).0);
     let words = ["audit", "nothing", "titles.adf", "folder", "damaged.adf", "long.adf", "a b.adf", "title"];
     let lines = [
         line(b"titles.adf", &good),
         line(b"damaged.adf", &bad),
         line(b"a b.adf", &good),
-        line(b"title", "refused 1 at 0 (the image is not 901120 bytes long)"),
+        line(b"title", &format!("refused 1 at 0 ({UNFIT})")),
         b"7 images: 2 accepted, 2 refused, 3 not read\n".to_vec(),
     ];
     let errors = "bench: nothing: cannot be opened\nbench: folder: cannot be read\n\
@@ -499,7 +671,7 @@ fn every_verb_on_the_samples() {
     let desk = Desk::with_samples();
     desk.hold_audit(&["titles.adf"]);
     desk.hold_audit(&["damaged.adf"]);
-    desk.hold_audit(&["titles.adf", "damaged.adf", "title", "international.adf", "fast.adf"]);
+    desk.hold_audit(&["titles.adf", "damaged.adf", "title", "international.adf", "fast.adf", "high-density.adf"]);
     let paths = ["", "c", TITLE, "C/TITLE", SETTINGS, FONT, "t", "t/x", "c/title/x", "/", "c/", ":c", "a b"];
     for image in ["titles.adf", "damaged.adf"] {
         desk.hold_find(image, &paths);
@@ -533,7 +705,7 @@ fn accents_on_the_samples() {
     }
     desk.hold_reset("international.adf", TITLE.as_bytes(), &BASES_A);
     let image = international();
-    let (answer, found) = looked_up(&image, b"M\xC9T\xC9O");
+    let (answer, found) = looked_up(FLOPPY, &image, b"M\xC9T\xC9O");
     assert!(found && answer.starts_with("directory, key "), "{answer}");
     let due = [b"M\xC9T\xC9O: ", answer.as_bytes(), b"\n"].concat();
     desk.hold_out(&[b"find", &b"international.adf"[..], b"M\xC9T\xC9O"], &due, true);
@@ -557,9 +729,41 @@ fn the_fast_file_system_on_the_samples() {
         desk.hold_reset("fast.adf", path.as_bytes(), &BASES_A);
     }
     // the logo has 79 blocks and a list block; a disk of the old file system has 82 for it
-    let (logo, found) = looked_up(&image, LOGO.as_bytes());
+    let (logo, found) = looked_up(FLOPPY, &image, LOGO.as_bytes());
     assert!(found && logo.contains(", size 40000, "), "{logo}");
-    assert!(audited(&image).0.contains(", 1 list blocks, 81 data blocks, "), "{}", audited(&image).0);
+    assert!(
+        audited(FLOPPY, &image).0.contains(", 1 list blocks, 81 data blocks, "),
+        "{}",
+        audited(FLOPPY, &image).0
+    );
+}
+
+/// The volume on a high-density disk: without a number of blocks it is refused, and so it is as a floppy.
+#[test]
+fn the_high_density_disk_on_the_samples() {
+    let desk = Desk::with_samples();
+    let name = "high-density.adf";
+    let refused = format!("refused 1 at 0 ({UNFIT})");
+    desk.hold_out(&["audit", name], &line(name.as_bytes(), &refused), false);
+    desk.hold_out(&["find", name, TITLE], &line(TITLE.as_bytes(), &refused), false);
+    desk.hold_out(&["reset", name, TITLE, "10000", "20000", "30000"], &line(b"audit", &refused), false);
+    let err = [b"bench: ", &line(TITLE.as_bytes(), &refused)[..]].concat();
+    desk.hold(&["read", name, TITLE], &Said { out: Vec::new(), err, status: REFUSED });
+    for named in [Named::nothing(), Named::blocks(1_760), Named::blocks(3_520), Named::blocks(ANY)] {
+        desk.hold_audit_of(&named, &[name]);
+        desk.hold_audit_of(&named, &[name, "titles.adf", name, "fast.adf"]);
+        desk.hold_find_of(&named, name, &["", "c", TITLE, "C/TITLE", SETTINGS, PICTURE, "t", FONT, "c//title"]);
+        for path in [TITLE, SETTINGS, PICTURE, "", "nobody", "c//title"] {
+            desk.hold_read_of(&named, name, path.as_bytes());
+            desk.hold_reset_of(&named, name, path.as_bytes(), &BASES_A);
+        }
+    }
+    for number in ["3520", "any"] {
+        desk.hold_out(&["read", "-b", number, name, TITLE], &title(), true);
+        desk.hold_out(&["find", "-b", number, name, ""], b": directory, key 1760, compared 0\n", true);
+    }
+    let (answer, accepted) = audited(HIGH_DENSITY, &high_density());
+    assert!(accepted && answer.ends_with(", 26 list blocks, 1922 data blocks, 1957 used, 1561 free"), "{answer}");
 }
 
 /// Every tag of a kind and those beside them, with the sentence written out.
@@ -592,7 +796,7 @@ fn images_of_other_kinds() {
 #[test]
 fn resets() {
     let desk = Desk::with_samples();
-    let (audit, find) = (audited(&titles()).0, looked_up(&titles(), TITLE.as_bytes()).0);
+    let (audit, find) = (audited(FLOPPY, &titles()).0, looked_up(FLOPPY, &titles(), TITLE.as_bytes()).0);
     let start = format!("audit: {audit}\nfind: {find}\nread: 300 bytes\n");
     let whole = |base: &str, last: &str, accepted: bool| {
         let words = ["reset", "titles.adf", TITLE, "10000", base, "30000"];
@@ -697,7 +901,7 @@ fn resets_with_kinds_of_memory() {
     let program = with_kinds_of_memory();
     let mut both = program.clone();
     put(&mut both, 6, BOTH | 2);
-    for disk in [Disk::OLD_INTERNATIONAL, Disk::FAST] {
+    for disk in [Disk::OLD_INTERNATIONAL, Disk::FAST, Disk::FAST_INTERNATIONAL.with_blocks(HIGH_DENSITY)] {
         resets_on(&disk, &program, &both);
     }
 }
@@ -717,11 +921,13 @@ fn resets_on(disk: &Disk, program: &[u8], both: &[u8]) {
         ("kinds.adf", "4 hunks, 24 bytes", true),
         ("both.adf", "refused 43 at 24 (chip and fast memory are asked for at once)", false),
     ] {
-        let find = looked_up(desk.file(name), b"kinds").0;
-        let start = format!("audit: {}\nfind: {find}\n", audited(desk.file(name)).0);
+        let named = Named::blocks(disk.blocks);
+        let find = looked_up(disk.blocks, desk.file(name), b"kinds").0;
+        let start = format!("audit: {}\nfind: {find}\n", audited(disk.blocks, desk.file(name)).0);
         let due = format!("{start}read: {} bytes\nload: {last}\n", program.len());
-        assert_eq!(reset(desk.file(name), b"kinds", &bases), Said::answer(due.clone().into_bytes(), accepted));
-        desk.hold_reset(name, b"kinds", &bases);
+        let said = reset(disk.blocks, desk.file(name), b"kinds", &bases);
+        assert_eq!(said, Said::answer(due.clone().into_bytes(), accepted));
+        desk.hold_reset_of(&named, name, b"kinds", &bases);
     }
 }
 
@@ -738,6 +944,7 @@ fn a_program_file_as_long_as_the_room() {
 #[test]
 fn paths_of_all_sorts() {
     Disk::FLOPPIES.iter().for_each(paths_of_all_sorts_on);
+    paths_of_all_sorts_on(&Disk::OLD_INTERNATIONAL.with_blocks(HIGH_DENSITY));
 }
 
 fn paths_of_all_sorts_on(disk: &Disk) {
@@ -754,7 +961,7 @@ fn paths_of_all_sorts_on(disk: &Disk) {
     let deep = [[b'L'; 30]; 8].join(&b'/');
     let longest = [&deep[..], b"/to 255_"].concat();
     assert_eq!(longest.len(), 255);
-    let accents = looked_up(&volume.image, b"\xE4RGER\xFF\x01");
+    let accents = looked_up(disk.blocks, &volume.image, b"\xE4RGER\xFF\x01");
     assert_eq!(accents.1, disk.is_international(), "{}", accents.0);
     let paths: [&[u8]; 14] = [
         b"two words",
@@ -772,15 +979,17 @@ fn paths_of_all_sorts_on(disk: &Disk) {
         b" ",
         b"a:b",
     ];
-    desk.hold_find("volume.adf", &paths);
+    let named = Named::blocks(disk.blocks);
+    desk.hold_find_of(&named, "volume.adf", &paths);
     for path in paths {
-        desk.hold_read("volume.adf", path);
+        desk.hold_read_of(&named, "volume.adf", path);
     }
 }
 
-/// Volumes of all sorts, some of each kind.
+/// Volumes of all sorts, some of each kind, and the deepest, the largest and a full one on high-density disks.
 fn volumes(rng: &mut Rng) -> Vec<(String, Volume)> {
     let [old, fast, old_international, fast_international] = &Disk::FLOPPIES;
+    let [large_old, large_fast] = &[Disk::OLD, Disk::FAST].map(|disk| disk.with_blocks(HIGH_DENSITY));
     let sizes = |disk| [&telling_sizes(disk)[..], &[3 * TABLE * disk.data_bytes() + 1]].concat();
     let plans = [
         ("empty", empty(fast_international)),
@@ -795,6 +1004,10 @@ fn volumes(rng: &mut Rng) -> Vec<(String, Volume)> {
         ("mixed", mixed(rng, fast, 150)),
         ("more", mixed(rng, old_international, 400)),
         ("pairs", alike(rng, old, 10, 2)),
+        ("large nested", nested(rng, large_old, large_old.chain_limit())),
+        ("large chain", chain(rng, large_fast, 2_000)),
+        ("largest of all", files(rng, large_fast, &[largest_file(large_fast)])),
+        ("large full", full(rng, large_old)),
     ];
     plans.iter().map(|(name, plan)| (name.to_string(), laid_out(rng, plan))).collect()
 }
@@ -818,8 +1031,11 @@ fn audits_of_generated_volumes() {
     }
     let desk = Desk::new(all);
     let names: Vec<&str> = desk.files.keys().map(|name| &name[..]).collect();
+    let (large, small): (Vec<&str>, Vec<&str>) = names.iter().partition(|name| name.starts_with("large "));
     desk.hold_audit(&names);
-    names.iter().take(3).for_each(|name| desk.hold_audit(&[name]));
+    desk.hold_audit_of(&Named::blocks(HIGH_DENSITY), &large);
+    desk.hold_audit_of(&Named::blocks(ANY), &names);
+    small.iter().take(3).for_each(|name| desk.hold_audit(&[name]));
 }
 
 /// Paths of some entries and of nothing, as far as they can be said in an argument.
@@ -844,7 +1060,9 @@ fn finds_and_reads_on_generated_volumes() {
     for (name, volume) in volumes(&mut rng) {
         let desk = Desk::new([("v", volume.image.clone())]);
         let paths = some_paths(&mut rng, &volume);
-        desk.hold_find("v", &paths);
+        let named =
+            &if volume.disk.blocks == FLOPPY { Named::nothing() } else { Named::blocks(volume.disk.blocks) };
+        desk.hold_find_of(named, "v", &paths);
         let by_paths = Paths::new(&volume);
         let is_sayable = |path: &[u8]| !path.contains(&0) && path.len() <= 255;
         let files: Vec<usize> = (0..volume.entries.len())
@@ -853,13 +1071,13 @@ fn finds_and_reads_on_generated_volumes() {
             .collect();
         for &number in &files {
             let path = by_paths.existing(&mut rng, number).path;
-            let said = desk.said(&[b"read", &b"v"[..], &path]);
+            let said = desk.said(&named.call("read", &[&b"v"[..], &path]));
             assert!(said == Said::answer(by_paths.contents(number), true), "{name}: {path:?}");
-            desk.hold_reset("v", &path, &[0]);
+            desk.hold_reset_of(named, "v", &path, &[0]);
             read += 1;
             with_lists += usize::from(!volume.entries[number].lists.is_empty());
         }
-        paths.iter().take(4).for_each(|path| desk.hold_read("v", path));
+        paths.iter().take(4).for_each(|path| desk.hold_read_of(named, "v", path));
     }
     assert!(read > 15 && with_lists > 4, "{read} read, {with_lists} of them with lists");
 }
@@ -972,11 +1190,12 @@ fn common_flaws(volume: &Volume) -> Vec<Flaw> {
     let slots = [&b"Mary"[..], b"cp", b"dc", b"hw", b"Mars"].map(|name| slot(&volume.disk, name));
     let hangs = slots[0];
     assert!(slots[1..4].iter().all(|&slot| slot == hangs) && slots[4] != hangs);
+    let (root, blocks) = (volume.disk.root(), volume.disk.blocks);
     let flaws: [(u32, Vec<u8>, &'static [u8]); 11] = [
         (1, volume.image[1..].to_vec(), b"cp"),
         (3, untagged, b"cp"),
-        (4, with_word(volume, 880, 3, 71), b"cp"),
-        (5, with_word(volume, 880, slot_word(hangs), 1_760), b"cp"),
+        (4, with_word(volume, root, 3, 71), b"cp"),
+        (5, with_word(volume, root, slot_word(hangs), blocks), b"cp"),
         // a chain that bites its tail, and a name that it lacks
         (6, with_word(volume, dc, 124, cp), b"hw"),
         (7, unsummed, b"Mary/box"),
@@ -999,7 +1218,7 @@ fn deeper_flaws(volume: &Volume) -> Vec<Flaw> {
     let mut flaws = vec![
         (13, changed(volume, dc, |block| put_name(block, b"CP")), None),
         (14, with_word(volume, one.key, 2, 71), Some(&b"one"[..])),
-        (16, with_word(volume, 880, 78, 0), None),
+        (16, with_word(volume, volume.disk.root(), 78, 0), None),
         (17, with_word(volume, volume.bitmap, index, bits ^ 1 << bit), None),
     ];
     // the words of data blocks, where they have some
@@ -1054,7 +1273,7 @@ fn flaws_in_file_systems() -> Vec<Flaw> {
         apply(&[(data as usize * BLOCK_BYTES, block)], &mut image);
         image
     };
-    assert!(audited(&under(&small, &Disk::OLD)).1, "as good in the old file system");
+    assert!(audited(FLOPPY, &under(&small, &Disk::OLD)).1, "as good in the old file system");
     vec![
         flaw(14, under(&old, &Disk::FAST)),
         flaw(14, under(&fast, &Disk::OLD)),
@@ -1094,25 +1313,39 @@ fn says(text: &[u8], number: u32) -> bool {
     text.contains(&format!("refused {number} at ")) && text.contains(&format!("({sentence}"))
 }
 
-#[test]
-fn every_number_of_images_and_paths() {
-    let by_tags = flaws_in_accents().into_iter().chain(flaws_in_file_systems());
-    let flaws: Vec<Flaw> = Disk::FLOPPIES.iter().flat_map(flaws).chain(by_tags).collect();
+/// Holds the tool to what is due for each flaw of an image, with this number of blocks named.
+fn hold_flaws(named: &Named, flaws: &[Flaw]) {
     let names: Vec<String> = flaws.iter().zip(0..).map(|(flaw, at)| format!("{at}-{}.adf", flaw.number)).collect();
     let desk = Desk::new(names.iter().cloned().zip(flaws.iter().map(|flaw| flaw.image.clone())));
     let audited_names: Vec<&str> =
-        names.iter().zip(&flaws).filter(|(_, flaw)| flaw.audit).map(|(name, _)| &name[..]).collect();
-    desk.hold_audit(&audited_names);
-    for (name, Flaw { number, image, audit, find, read }) in names.iter().zip(&flaws) {
-        assert!(!audit || says(audited(image).0.as_bytes(), *number), "{number} by an audit");
+        names.iter().zip(flaws).filter(|(_, flaw)| flaw.audit).map(|(name, _)| &name[..]).collect();
+    desk.hold_audit_of(named, &audited_names);
+    for (name, Flaw { number, image, audit, find, read }) in names.iter().zip(flaws) {
+        assert!(!audit || says(audited(named.number, image).0.as_bytes(), *number), "{number} by an audit");
         if let Some(path) = find {
-            assert!(says(looked_up(image, path).0.as_bytes(), *number), "{number} by a lookup");
-            desk.hold_find(name, &[path]);
+            assert!(says(looked_up(named.number, image, path).0.as_bytes(), *number), "{number} by a lookup");
+            desk.hold_find_of(named, name, &[path]);
         }
         if let Some(path) = read {
-            assert!(says(&read_out(image, path).err, *number), "{number} by a read");
-            desk.hold_read(name, path);
+            assert!(says(&read_out(named.number, image, path).err, *number), "{number} by a read");
+            desk.hold_read_of(named, name, path);
         }
+    }
+}
+
+#[test]
+fn every_number_of_images_and_paths() {
+    for disk in &Disk::FLOPPIES {
+        hold_flaws(&Named::nothing(), &flaws(disk));
+    }
+    let by_tags: Vec<Flaw> = flaws_in_accents().into_iter().chain(flaws_in_file_systems()).collect();
+    hold_flaws(&Named::nothing(), &by_tags);
+}
+
+#[test]
+fn every_number_of_large_images_and_paths() {
+    for (disk, number) in Disk::of_blocks(HIGH_DENSITY).iter().zip([HIGH_DENSITY, ANY, ANY, HIGH_DENSITY]) {
+        hold_flaws(&Named::blocks(number), &flaws(disk));
     }
 }
 
@@ -1165,12 +1398,12 @@ fn every_number_of_programs_and_bases() {
     desk.hold_move("title", &BASES_A, &[BASES_A[0], BASES_A[1], BASES_A[1] + 44]);
 }
 
-/// Every number comes on a disk of each kind, but 2: the tool lends an audit a claim area of a byte for each block,
-/// whatever the image. 15 comes where data blocks have words.
+/// Every number comes on a disk of each size and kind, but 2: the tool lends an audit a claim area of a byte for each
+/// block of the largest disk, whatever the image. 15 comes where data blocks have words.
 #[test]
 fn the_numbers_tried_are_all_there_are() {
     let of_programs: Vec<u32> = program_flaws().into_iter().map(|(number, ..)| number).collect();
-    for disk in &Disk::FLOPPIES {
+    for disk in &Disk::ALL {
         let of_images: Vec<Flaw> = flaws(disk);
         let numbers = |of: fn(&Flaw) -> bool| -> BTreeSet<u32> {
             of_images.iter().filter(|flaw| of(flaw)).map(|flaw| flaw.number).collect()
@@ -1221,12 +1454,22 @@ fn shown_calls(page: &str) -> Vec<ShownCall<'_>> {
     calls
 }
 
+/// Whether a line is as shown, where ` ..` at the end stands for the rest of it.
+fn is_as_shown(line: &str, shown: &str) -> bool {
+    shown
+        .strip_suffix("..")
+        .filter(|start| start.ends_with(' '))
+        .map_or(line == shown, |start| line.starts_with(start))
+}
+
 /// Whether lines are as shown, where a line `..` stands for any lines.
 fn are_as_shown(lines: &[&str], shown: &[&str]) -> bool {
     match shown.split_first() {
         None => lines.is_empty(),
         Some((&"..", rest)) => (0..=lines.len()).any(|skipped| are_as_shown(&lines[skipped..], rest)),
-        Some((first, rest)) => lines.first() == Some(first) && are_as_shown(&lines[1..], rest),
+        Some((first, rest)) => {
+            lines.first().is_some_and(|line| is_as_shown(line, first)) && are_as_shown(&lines[1..], rest)
+        }
     }
 }
 
@@ -1238,6 +1481,9 @@ fn the_page_of_the_samples_is_right() {
     let verbs: BTreeSet<&[u8]> = calls.iter().map(|(words, _)| &words[0][..]).collect();
     assert!(verbs.into_iter().eq(["audit", "find", "load", "move", "read", "reset"].map(str::as_bytes)));
     assert!(calls.iter().any(|(words, _)| words.concat().contains(&0xC9)), "a path with accents");
+    let named: BTreeSet<&[u8]> =
+        calls.iter().filter(|(words, _)| words[1] == b"-b").map(|(words, _)| &words[2][..]).collect();
+    assert!(named.into_iter().eq(["3520", "any"].map(str::as_bytes)), "numbers of blocks");
     let is_shown =
         |name: &str| calls.iter().any(|(words, _)| words.iter().any(|word| word.ends_with(name.as_bytes())));
     assert!(compare::samples::all().iter().all(|(name, _)| is_shown(name)), "every sample");
@@ -1259,6 +1505,8 @@ fn lines_left_out_of_a_page() {
     assert!(!are_as_shown(&["a", "b"], &["a", "..", "c"]));
     assert!(!are_as_shown(&["a", "b"], &["a"]));
     assert!(!are_as_shown(&["a"], &["a", "b"]));
+    assert!(are_as_shown(&["one two", "c"], &["one ..", "c"]) && !are_as_shown(&["one two"], &["on .."]));
+    assert!(!are_as_shown(&["one"], &["one .."]) && !are_as_shown(&["one two"], &["one.."]));
     let page = "text\n\n    cargo run\n\n    ./bench find a b\n    b: x\n\n    ./bench audit a\n";
     let words = |words: &[&str]| words.iter().map(|word| word.as_bytes().to_vec()).collect::<Vec<_>>();
     let wanted = [(words(&["find", "a", "b"]), vec!["b: x"]), (words(&["audit", "a"]), vec![])];
@@ -1291,7 +1539,7 @@ fn script(top: &Path, kit: &Desk) -> Command {
 
 /// Names that look like what the tool says: the first three are of a volume, the others of the same damaged.
 const FORGED: [&str; 5] = [
-    "x: refused 1 at 0 (the image is not 901120 bytes long)",
+    "x: refused 17 at 2 (the bitmap has the bit of this block wrong)",
     "1",
     "2\nbench: x: cannot be opened\n2",
     "x: accepted, 4 directories, 3 files, 1 list blocks, 76 data blocks, 86 used, 1672 free",
@@ -1308,7 +1556,16 @@ fn the_script_from_another_folder() {
     let desk = Desk::new(compare::samples::all().into_iter().chain(FORGED.into_iter().zip(images)));
     let kit = kit_with("echo \"asked rt to $*\" >&2\nexit 1");
     let longest = "a".repeat(ARGUMENT_ROOM + 1);
-    let calls: [(i32, &[&str]); 41] = [
+    let calls: [(i32, &[&str]); 50] = [
+        (ACCEPTED, &["audit", "-b", "3520", "high-density.adf"]),
+        (ACCEPTED, &["audit", "-b", "any", "high-density.adf", "titles.adf"]),
+        (ACCEPTED, &["read", "-b", "any", "high-density.adf", PICTURE]),
+        (ACCEPTED, &["reset", "-b", "3520", "high-density.adf", TITLE, "10000", "20000", "30000"]),
+        (REFUSED, &["audit", "high-density.adf"]),
+        (REFUSED, &["audit", "-b", "3520", "high-density.adf", "titles.adf"]),
+        (REFUSED, &["find", "-b", "5", "high-density.adf", TITLE]),
+        (UNASKED, &["audit", "-b", "xyz", "high-density.adf"]),
+        (UNASKED, &["read", "-b"]),
         (ACCEPTED, &[]),
         (ACCEPTED, &["--help"]),
         (ACCEPTED, &["-h"]),
@@ -1356,7 +1613,7 @@ fn the_script_from_another_folder() {
         assert_eq!(said.status, status, "{}", shown(words));
         hold_said(words, &said, &desk.said(words));
     }
-    let answer = line(b"titles.adf", &audited(&titles()).0);
+    let answer = line(b"titles.adf", &audited(FLOPPY, &titles()).0);
     let said = desk.said_by(script(repository(), &kit), &["audit", "titles.adf"]);
     hold_said(&["audit"], &said, &Said::answer(answer, true));
 }
@@ -1420,7 +1677,7 @@ fn the_first_use_says_how_far_it_is() {
     );
     let kit = kit_with(&check);
     let words = ["audit", "titles.adf"];
-    let due = Said::answer(line(b"titles.adf", &audited(&titles()).0), true);
+    let due = Said::answer(line(b"titles.adf", &audited(FLOPPY, &titles()).0), true);
     let first = desk.said_by(script(&desk.folder, &kit), &words);
     assert_eq!(untimed(&first.err), format!("{PROVING}bench: proved bench, 2 of 2 crates, N s\n"));
     hold_said(&words, &Said { err: Vec::new(), ..first }, &due);

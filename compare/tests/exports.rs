@@ -1,9 +1,10 @@
-//! Holds the exported functions to this package where `probe` has no request or no room: longer areas, files and
-//! lists, and offsets that four bytes do not hold. The tests of audits, lookups and programs ask them all else.
+//! Holds the exported functions to this package where `probe` has no request or no room: longer images, areas, files
+//! and lists, and offsets that four bytes do not hold. The tests of audits, lookups and programs ask them all else.
 
+use compare::bad_volumes::{wrong_lengths, NO_SIZES};
 use compare::calls::Opinion;
 use compare::counter::SENTENCES;
-use compare::disk::Disk;
+use compare::disk::{image_length, Disk, ANY, FLOPPY, HIGH_DENSITY};
 use compare::driver::checksum;
 use compare::loader::RECORD;
 use compare::model::Model;
@@ -41,7 +42,15 @@ macro_rules! expect {
     }};
 }
 
-/// A volume with a directory and a file of this size, on a disk of this kind.
+/// Both with this volume's image and its number of blocks named.
+fn both_with(volume: &Volume) -> Both {
+    let mut both = Both::default();
+    same!(both.name(volume.disk.blocks));
+    same!(both.take_image(&volume.image));
+    both
+}
+
+/// A volume with a directory and a file of this size, on a disk of this size and kind.
 fn volume(seed: u64, disk: &Disk, size: u32) -> Volume {
     let (mut rng, mut plan) = (Rng::new(seed), Plan::new(disk));
     plan.add_named(None, b"c", Kind::Directory);
@@ -64,11 +73,10 @@ fn output(beginning: &[u8], room: usize) -> String {
 /// Without an opinion of this package. Cut to 32 bits, most of these offsets would lie in the file.
 #[test]
 fn reads_from_far_offsets_give_nothing() {
-    for disk in &Disk::FLOPPIES {
+    for disk in &Disk::ALL {
         let volume = volume(170, disk, 1_000);
         let [file, capital] = paths_of_file(disk);
-        let mut both = Both::default();
-        same!(both.take_image(&volume.image));
+        let mut both = both_with(&volume);
         let contents = Paths::new(&volume).contents(1);
         for (offset, count) in [(0, 10), (990, 10), (991, 9), (999, 1), (1_000, 0), (1_001, 0)] {
             let due = format!("bytes {count} {}", output(&contents[offset.min(1_000)..][..count], 10));
@@ -88,7 +96,7 @@ fn reads_from_far_offsets_give_nothing() {
 /// What is refused is refused at every offset.
 #[test]
 fn reads_from_far_offsets_are_refused_as_others() {
-    for disk in &Disk::FLOPPIES {
+    for disk in &Disk::ALL {
         let volume = volume(171, disk, 1_000);
         let [file, capital] = paths_of_file(disk);
         // of a block without words only the key can be wrong
@@ -99,11 +107,11 @@ fn reads_from_far_offsets_are_refused_as_others() {
             image[last as usize * 512 + 511] ^= 1;
         } else {
             let header = &mut image[volume.entries[1].key as usize * 512..][..512];
-            put(header, 76, 1_760);
+            put(header, 76, disk.blocks);
             mend(header, 5);
-            due = "refused 5 1760 ".to_string();
+            due = format!("refused 5 {} ", disk.blocks);
         }
-        let mut both = Both::default();
+        let mut both = both_with(&volume);
         for offset in [0, 1_000].into_iter().chain(far_offsets(disk, 1_000)) {
             same!(both.take_image(&volume.image));
             expect!(both.read(b"c", offset, 9), "refused 20 0 ");
@@ -122,13 +130,12 @@ fn reads_from_far_offsets_are_refused_as_others() {
 
 #[test]
 fn outputs_longer_than_any_file() {
-    for disk in &Disk::FLOPPIES {
+    for disk in &Disk::ALL {
         // the directory takes a block
         let size = largest_file(disk) as usize - disk.data_bytes() as usize;
         let volume = volume(172, disk, size as u32);
         let [file, capital] = paths_of_file(disk);
-        let mut both = Both::default();
-        same!(both.take_image(&volume.image));
+        let mut both = both_with(&volume);
         for room in [size - 1, size, size + 1, 1_048_577, 3_000_001] {
             expect!(both.read(file, 0, room), format!("bytes {} ", room.min(size)));
         }
@@ -138,17 +145,16 @@ fn outputs_longer_than_any_file() {
 
 #[test]
 fn claim_areas_and_paths_of_any_length() {
-    for disk in &Disk::FLOPPIES {
+    for disk in &Disk::ALL {
         let volume = volume(173, disk, 5_000);
         let [file, _] = paths_of_file(disk);
-        let mut both = Both::default();
-        same!(both.take_image(&volume.image));
-        for length in [1_759, 1_760, 1_761, 4_097, 1_000_003] {
+        let mut both = both_with(&volume);
+        for length in [1_759, 1_760, 1_761, 3_519, 3_520, 3_521, 4_097, 1_000_003] {
             // in the old file system 11 data blocks, else 10
-            let due = match (length < 1_760, disk.has_data_words()) {
-                (true, _) => "refused 2 0 ",
-                (false, true) => "accepted 1 1 0 11 15 1743 ",
-                (false, false) => "accepted 1 1 0 10 14 1744 ",
+            let due = match (length < disk.blocks as usize, disk.has_data_words()) {
+                (true, _) => "refused 2 0 ".to_string(),
+                (false, true) => format!("accepted 1 1 0 11 15 {} ", disk.blocks - 17),
+                (false, false) => format!("accepted 1 1 0 10 14 {} ", disk.blocks - 16),
             };
             expect!(both.audit(length), due);
         }
@@ -157,7 +163,7 @@ fn claim_areas_and_paths_of_any_length() {
             expect!(both.find(&path), "refused 18 0");
             expect!(both.read(&path, 1, 3), "refused 18 0 ");
         }
-        for length in [901_119, 901_121, 1_802_241, 5_000_000] {
+        for length in [901_119, 901_121, 1_802_239, 1_802_241, 3_604_480, 5_000_000] {
             let mut image = volume.image.clone();
             image.resize(length, 0);
             same!(both.take_image(&image));
@@ -168,15 +174,90 @@ fn claim_areas_and_paths_of_any_length() {
     }
 }
 
+/// Every length of interest with every number of blocks of interest. Good bytes, cut or made longer, and 1 comes before
+/// all else: before the claim area's 2, the path's 18 and the tag's 3.
+#[test]
+fn lengths_and_named_numbers() {
+    for disk in [Disk::OLD, Disk::FAST_INTERNATIONAL].into_iter().flat_map(|disk| [disk, disk.with_blocks(3_520)])
+    {
+        let volume = volume(177, &disk, 1_000);
+        let mut both = Both::default();
+        for (named, length) in [ANY, FLOPPY, HIGH_DENSITY]
+            .into_iter()
+            .chain(NO_SIZES)
+            .flat_map(|named| wrong_lengths(named).into_iter().map(move |length| (named, length)))
+        {
+            let mut image = volume.image.clone();
+            image.resize(length, 0);
+            same!(both.take_image(&image));
+            same!(both.name(named));
+            expect!(both.audit(4_096), "refused 1 0 ");
+            expect!(both.audit(0), "refused 1 0 ");
+            expect!(both.find(b""), "refused 1 0");
+            expect!(both.find(b"a//b"), "refused 1 0");
+            expect!(both.read(b"c", 0, 9), "refused 1 0 ");
+            expect!(both.read(b":", usize::MAX, 0), "refused 1 0 ");
+        }
+        same!(both.take_image(&volume.image));
+        for named in [ANY, disk.blocks] {
+            same!(both.name(named));
+            expect!(both.audit(disk.blocks as usize), "accepted 1 1 ");
+            expect!(both.audit(disk.blocks as usize - 1), "refused 2 0 ");
+            expect!(both.find(b"a//b"), "refused 18 1");
+            expect!(both.find(b""), format!("directory {} 0 0", disk.blocks / 2));
+        }
+        // the same bytes and the other size's length: the root is elsewhere, and is not good there
+        let other = disk.other_sizes().next().expect("another size").blocks;
+        let mut image = volume.image.clone();
+        image.resize(image_length(other), 0);
+        image[image_length(other / 2)..][..512].fill(0);
+        same!(both.take_image(&image));
+        for (named, number, place) in [(ANY, 8, other / 2), (other, 8, other / 2), (disk.blocks, 1, 0)] {
+            same!(both.name(named));
+            expect!(both.audit(3_520), format!("refused {number} {place} "));
+            expect!(both.find(b"c"), format!("refused {number} {place}"));
+            expect!(both.read(b"c", 0, 3), format!("refused {number} {place} "));
+        }
+    }
+}
+
+/// Before any number of blocks is named by these models, it is a floppy's; so is that of `probe`.
+#[test]
+fn a_large_image_is_none_where_a_floppy_is_named() {
+    for disk in Disk::of_blocks(HIGH_DENSITY) {
+        let volume = volume(178, &disk, 1_000);
+        let [file, _] = paths_of_file(&disk);
+        let mut both = Both::default();
+        same!(both.take_image(&volume.image));
+        for named in [FLOPPY, 1_759, 3_519, 3_521] {
+            expect!(both.audit(4_096), "refused 1 0 ");
+            expect!(both.find(file), "refused 1 0");
+            expect!(both.read(file, 0, 1_000), "refused 1 0 ");
+            same!(both.name(named));
+        }
+        for named in [HIGH_DENSITY, ANY] {
+            same!(both.name(named));
+            expect!(both.audit(3_520), "accepted 1 1 0 ");
+            expect!(both.find(file), "file ");
+            expect!(both.read(file, 0, 1_001), "bytes 1000 ");
+        }
+    }
+}
+
 /// Every last byte of the tag: four are kinds of disk, and of these two have the capital for the letter. The file of
 /// 900 bytes has two blocks in both file systems; where data blocks have words, the bytes come after them.
 #[test]
 fn every_kind_that_a_tag_can_name() {
-    let volume = volume(174, &Disk::OLD_INTERNATIONAL, 900);
+    every_kind_on(FLOPPY);
+    every_kind_on(HIGH_DENSITY);
+}
+
+fn every_kind_on(blocks: u32) {
+    let volume = volume(174, &Disk::OLD_INTERNATIONAL.with_blocks(blocks), 900);
     let paths = Paths::new(&volume);
     let number = volume.entries.iter().position(|entry| entry.size() > 0).expect("the file");
     let key = volume.entries.iter().find(|entry| entry.size() > 0).expect("the file").key;
-    let mut both = Both::default();
+    let mut both = both_with(&volume);
     for kind in 0..=255 {
         let mut image = volume.image.clone();
         image[3] = kind;
@@ -186,15 +267,15 @@ fn every_kind_that_a_tag_can_name() {
             0 | 1 => [format!("refused 12 {key} "), "refused 19 0".to_string(), format!("refused 12 {key}")],
             2 | 3 => {
                 let found = format!("file {key} 900 1");
-                ["accepted 1 1 0 2 6 1752 ".to_string(), found.clone(), found]
+                [format!("accepted 1 1 0 2 6 {} ", blocks - 8), found.clone(), found]
             }
             _ => ["refused 3 0 ".to_string(), "refused 3 0".to_string(), "refused 3 0".to_string()],
         };
-        expect!(both.audit(1_760), audit);
+        expect!(both.audit(3_520), audit);
         expect!(both.find(b"fil\xE9"), small);
         expect!(both.find(b"FIL\xC9"), capital);
         expect!(both.find(b"c/"), "refused 18 1");
-        if let Some(disk) = Disk::FLOPPIES.into_iter().find(|disk| disk.kind == kind && kind >= 2) {
+        if let Some(disk) = Disk::of_blocks(blocks).into_iter().find(|disk| disk.kind == kind && kind >= 2) {
             let contents = paths.contents_on(&disk, number).expect("as many blocks");
             let start = if kind == 2 { 24 } else { 0 };
             assert_eq!(contents[..9], volume.block(volume.entries[number].data[0])[start..][..9]);
@@ -210,7 +291,7 @@ fn every_kind_that_a_tag_can_name() {
 /// Files of one kind of disk under the tag of the other file system: as many blocks and other bytes, or 14.
 #[test]
 fn files_in_the_other_file_system() {
-    for disk in &Disk::FLOPPIES {
+    for disk in &Disk::ALL {
         let other = disk.others().find(|other| {
             other.is_international() == disk.is_international() && other.has_data_words() != disk.has_data_words()
         });
@@ -220,14 +301,14 @@ fn files_in_the_other_file_system() {
             let [file, capital] = paths_of_file(disk);
             let mut image = volume.image.clone();
             image[3] = other.kind;
-            let mut both = Both::default();
+            let mut both = both_with(&volume);
             same!(both.take_image(&image));
             let number = volume.entries.iter().position(|entry| entry.name.len() > 1).expect("the file");
             let key = volume.entries[number].key;
             let line = same!(both.read(file, 0, 1_030));
             if data_blocks(disk, size) != data_blocks(&other, size) {
                 assert!(line.starts_with(&format!("refused 14 {key} ")), "{size}: {line}");
-                expect!(both.audit(1_760), format!("refused 14 {key} "));
+                expect!(both.audit(3_520), format!("refused 14 {key} "));
             }
             let due = match Paths::new(&volume).contents_on(&other, number) {
                 Ok(contents) => format!("bytes {} {}", contents.len(), output(&contents, 1_030)),

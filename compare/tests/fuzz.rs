@@ -2,8 +2,9 @@
 
 use std::collections::BTreeSet;
 
+use compare::disk::{Disk, FLOPPY};
 use compare::driver::{answers, rattle, Request};
-use compare::fuzz::{compare, differ, due, exported, kinds, round, told, Case, Tally};
+use compare::fuzz::{compare, differ, disks, due, exported, round, told, Case, Tally};
 use compare::model::{AUDIT, FIND, LOAD, MOVE, READ};
 use compare::shrink::shrink;
 use compare::sides::with_seeds;
@@ -18,19 +19,20 @@ fn has_every_call(tally: &Tally) {
     assert!(calls.iter().all(|&call| tally.range((call, 0)..(call + 1, 0)).next().is_some()), "{tally:?}");
 }
 
-/// Seeds of rounds that draw a disk of each kind.
-const SEEDS: [u64; 4] = [7_000, 7_001, 7_002, 7_017];
+/// Seeds of rounds that draw a floppy of each kind, and two high-density disks.
+const SEEDS: [u64; 6] = [7_000, 7_001, 7_002, 7_017, 7_018, 7_019];
 
 #[test]
 fn some_rounds_without_a_difference() {
     let mut met = BTreeSet::new();
     for seed in SEEDS {
         let cases = round(seed);
-        met.extend(cases.iter().filter_map(kinds).map(|[drawn, _]| drawn));
+        met.extend(cases.iter().filter_map(disks).filter_map(|[drawn, _]| drawn));
         has_every_call(&compare(&cases, &mut due, &mut probe).expect("the same answers"));
         has_every_call(&compare(&cases, &mut due, &mut exported).expect("the same answers"));
     }
-    assert!((0..4).all(|kind| met.contains(&Some(kind))), "only {met:?}");
+    assert!(Disk::FLOPPIES.iter().all(|disk| met.contains(disk)), "only {met:?}");
+    assert!(met.iter().filter(|disk| disk.blocks > FLOPPY).count() >= 2, "only {met:?}");
 }
 
 /// The exported functions are fast, and are asked ten times as much.

@@ -1,16 +1,17 @@
 //! Holds the program `probe` and the exported functions to the lookup and the reader of this package: 1 takes an image
-//! over, 2 changes bytes of it, 4 finds a path on it, 5 reads a file.
+//! over, 2 changes bytes of it, 4 finds a path on it, 5 reads a file, 9 names a number of blocks.
 //!
 //! Where the volume or the harm done to it tells the answer beforehand, this package is held to that as well. Images
 //! are long; most are had by a patch to one that is held already, which is patched back after. Offsets that four
-//! bytes do not hold are for the exported functions alone.
+//! bytes do not hold are for the exported functions alone. Images of high-density disks are twice as long, and fewer of
+//! them are drawn.
 
 use std::collections::{BTreeMap, BTreeSet};
 use std::ops::{Deref, DerefMut};
 
-use compare::bad_volumes::{causes, harmless, scratch, wrong_lengths, Cause, Harm, Patch};
+use compare::bad_volumes::{causes, harmless, scratch, wrong_lengths, Cause, Harm, Patch, NO_SIZES};
 use compare::blocks::{DIRECTORY, FILE};
-use compare::disk::{Disk, FLOPPY};
+use compare::disk::{settled, Disk, ANY, FLOPPY, HIGH_DENSITY};
 use compare::driver::checksum;
 use compare::kinds::first_misfit_of_file;
 use compare::lookup::{find, Found, LONGEST_PATH};
@@ -24,8 +25,8 @@ use compare::sides::{with_seeds, Who};
 use compare::sizes::largest_file;
 use compare::talk;
 use compare::volumes::{
-    any_name, any_style, chain, empty, every_byte, files, full, lookalike, mixed, nested, recased, shuffle,
-    telling_sizes, Entry, Filling, Kind, Order, Part, Plan, Style, Volume,
+    any_name, any_style, both_sizes, chain, empty, every_byte, files, full, lookalike, mixed, nested, recased,
+    shuffle, telling_sizes, Entry, Filling, Kind, Order, Part, Plan, Style, Volume,
 };
 use compare::words::{key_word, mend, put, slot_word, word, BLOCK_BYTES, BLOCK_WORDS, TABLE};
 
@@ -37,9 +38,10 @@ const BAD: &str = "bad request";
 /// What is in the output before a read.
 const BEFORE: u8 = 0xAA;
 
-/// The longest path and the longest output that `probe` has room for.
+/// The longest path, the longest output and the longest image that `probe` has room for.
 const PATH_ROOM: usize = 4_096;
 const OUTPUT_ROOM: usize = 1_048_576;
+const IMAGE_ROOM: usize = 1_802_240;
 
 /// The longest output that is asked for often; checksums of longer ones take their time.
 const SHORT: usize = 2_000;
@@ -54,18 +56,20 @@ fn of_read(disk: &Disk) -> &'static [u32] {
     }
 }
 
-/// The kind of a disk, and the number of a refusal or 0.
-type Answer = (u8, u32);
+/// A disk, and the number of a refusal or 0.
+type Answer = (Disk, u32);
 
 /// How often each kind of answer is due.
 #[derive(Default)]
 struct Tally {
-    /// By the kind that the tag says, or where it says none, by that of the image as it was sent.
+    /// By the disk that the image is for the call, or where it is none, by that which it was as it was sent.
     finds: BTreeMap<Answer, usize>,
     reads: BTreeMap<Answer, usize>,
-    /// Lookups on a volume under the tag of another kind, by the kind that it was laid out for.
+    /// Calls that name no number of blocks.
+    unnamed: BTreeMap<Disk, usize>,
+    /// Lookups on a volume under the tag of another kind, by the disk that it was laid out for.
     retagged: BTreeMap<Answer, usize>,
-    /// Reads of files that are found there, by that kind and by whether the other is of the same file system.
+    /// Reads of files that are found there, by that disk and by whether the other is of the same file system.
     reread: BTreeMap<(Answer, bool), usize>,
     /// Reads from an offset that four bytes do not hold.
     far: usize,
@@ -77,7 +81,7 @@ struct Tally {
 /// A talk about one image, and what was asked in it.
 struct Talk {
     talk: talk::Talk,
-    /// The kind of the image as it was sent.
+    /// The disk that the image was as it was sent.
     sent: Disk,
     tally: Tally,
 }
@@ -108,13 +112,29 @@ impl Talk {
 
     /// Sends an image.
     fn image(&mut self, image: &[u8]) {
-        self.sent = Disk::of(FLOPPY, image).unwrap_or(self.sent);
+        self.sent = Disk::named(ANY, image).unwrap_or(self.sent);
         self.talk.image(image);
     }
 
-    /// The kind under which an answer is counted.
-    fn kind(&self) -> u8 {
-        Disk::of(FLOPPY, self.held()).unwrap_or(self.sent).kind
+    /// Lets calls name the number of blocks of the image that was sent, or none.
+    fn name_rightly(&mut self, rng: &mut Rng) {
+        let blocks = self.sent.blocks;
+        self.name(rng.pick(&[blocks, blocks, ANY]));
+    }
+
+    /// Sends the image of a volume, for calls that name its number of blocks, or none.
+    fn volume(&mut self, rng: &mut Rng, volume: &Volume) {
+        self.image(&volume.image);
+        self.name_rightly(rng);
+    }
+
+    /// The disk under which an answer is counted. Those that name no number of blocks are counted besides.
+    fn counted(&mut self) -> Disk {
+        let disk = Disk::named(self.named(), self.held()).unwrap_or(self.sent);
+        if self.named() == ANY {
+            *self.tally.unnamed.entry(disk).or_default() += 1;
+        }
+        disk
     }
 
     /// Does this with the image patched; it is as before afterwards.
@@ -126,8 +146,9 @@ impl Talk {
 
     fn find(&mut self, path: &[u8]) -> Result<Found, Refusal> {
         let path = in_room(path);
-        let answer = find(FLOPPY, self.held(), path);
-        *self.tally.finds.entry((self.kind(), number(&answer))).or_default() += 1;
+        let answer = find(self.named(), self.held(), path);
+        let disk = self.counted();
+        *self.tally.finds.entry((disk, number(&answer))).or_default() += 1;
         let line = match answer {
             Ok(Found { kind, key, size, compared }) => {
                 let kind = if kind == DIRECTORY { "directory" } else { "file" };
@@ -142,8 +163,9 @@ impl Talk {
     /// A read, and the output after it.
     fn read(&mut self, path: &[u8], offset: usize, room: usize) -> (Result<usize, Refusal>, Vec<u8>) {
         let (path, mut output) = (in_room(path), vec![BEFORE; room]);
-        let answer = read(FLOPPY, self.held(), path, offset, &mut output);
-        *self.tally.reads.entry((self.kind(), number(&answer))).or_default() += 1;
+        let answer = read(self.named(), self.held(), path, offset, &mut output);
+        let disk = self.counted();
+        *self.tally.reads.entry((disk, number(&answer))).or_default() += 1;
         self.tally.far += usize::from(offset > u32::MAX as usize);
         let line = match answer {
             Ok(count) => format!("bytes {count}"),
@@ -203,34 +225,43 @@ fn spot(rng: &mut Rng, disk: &Disk, size: u32) -> (usize, usize) {
     let far = rng.pick(&far_offsets(disk, size));
     let offset = rng.pick(&[0, 0, any, any, telling, telling, telling, far]);
     let rooms = telling_rooms(disk, (size as usize).saturating_sub(offset));
-    let room = rng.pick(&rooms);
+    let room = rng.pick(&rooms).min(OUTPUT_ROOM);
     // few of the long ones
     (offset, if room > SHORT && rng.below(8) > 0 { rng.below(SHORT as u64) as usize } else { room })
 }
 
-/// The answers to a few paths on the volume without entries, without an opinion of this package.
+/// The answers to a few paths on the volume without entries, without an opinion of this package, for each size and kind
+/// of disk.
 #[test]
 fn the_empty_volume() {
-    Disk::FLOPPIES.iter().for_each(an_empty_volume);
+    Disk::ALL.iter().for_each(an_empty_volume);
 }
 
+/// A floppy is named at first, and the larger one is refused.
 fn an_empty_volume(disk: &Disk) {
     let volume = laid_out(&mut Rng::new(140), &empty(disk));
     let mut talk = talk::Talk::new(Who::Both);
-    talk.about(format!("kind {}", disk.kind));
     talk.image(&volume.image);
-    for (path, answer) in [
-        (&b""[..], "directory 880 0 0"),
+    let root = if disk.blocks == FLOPPY { "directory 880 0 0" } else { "directory 1760 0 0" };
+    let answers = [
+        (&b""[..], root),
         (b"a", "refused 19 0"),
         (b"a/b", "refused 19 0"),
         (b"/", "refused 18 0"),
         (b"a/", "refused 18 1"),
-    ] {
-        talk.ask(FIND, path, answer);
-        let answer = if path.is_empty() { "refused 20 0" } else { answer };
-        // two bytes AA: 171 * 257 + 171
-        talk.ask(READ, &read_body(0, 2, path), &format!("{answer} out 44118"));
-        talk.ask(READ, &read_body(7, 0, path), &format!("{answer} out 0"));
+    ];
+    for named in [FLOPPY, HIGH_DENSITY, ANY, 1] {
+        let is_right = [ANY, disk.blocks].contains(&named);
+        talk.about(format!("{disk:?}, {named} blocks named"));
+        talk.name(named);
+        for (path, answer) in answers {
+            let answer = if is_right { answer } else { "refused 1 0" };
+            talk.ask(FIND, path, answer);
+            let answer = if path.is_empty() && is_right { "refused 20 0" } else { answer };
+            // two bytes AA: 171 * 257 + 171
+            talk.ask(READ, &read_body(0, 2, path), &format!("{answer} out 44118"));
+            talk.ask(READ, &read_body(7, 0, path), &format!("{answer} out 0"));
+        }
     }
     talk.run();
 }
@@ -313,8 +344,18 @@ fn near_names(rng: &mut Rng, disk: &Disk) -> Volume {
     laid_out(rng, &plan)
 }
 
-/// Volumes of moderate size on a disk of this kind, and what they are.
+/// Volumes of moderate size on a disk of this size and kind, and what they are; few of high-density disks.
 fn moderate(rng: &mut Rng, disk: &Disk) -> Vec<(String, Volume)> {
+    let named = |(what, volume): (String, Volume)| (format!("{disk:?}, {what}"), volume);
+    if disk.blocks != FLOPPY {
+        let full = disk.data_bytes();
+        let plans = [
+            ("one list", files(rng, disk, &[TABLE * full + 1, 0, full + 1])),
+            ("20 on a chain", chain(rng, disk, 20)),
+            ("mixed, 80 blocks", mixed(rng, disk, 80)),
+        ];
+        return plans.iter().map(|(what, plan)| named((what.to_string(), laid_out(rng, plan)))).collect();
+    }
     let mut volumes =
         vec![("deep".to_string(), deep(rng, disk)), ("near names".to_string(), near_names(rng, disk))];
     let table = TABLE * disk.data_bytes();
@@ -329,19 +370,19 @@ fn moderate(rng: &mut Rng, disk: &Disk) -> Vec<(String, Volume)> {
         let plan = mixed(rng, disk, blocks);
         volumes.push((format!("mixed, {blocks} blocks"), laid_out(rng, &plan)));
     }
-    volumes.into_iter().map(|(what, volume)| (format!("kind {}, {what}", disk.kind), volume)).collect()
+    volumes.into_iter().map(named).collect()
 }
 
-/// Volumes that fill the disk, each of some kind.
-fn large(rng: &mut Rng) -> Vec<(String, Volume)> {
-    let [one, two, three, four] = [(); 4].map(|()| rng.pick(&Disk::FLOPPIES));
+/// Volumes that fill disks of this size, each of some kind.
+fn large(rng: &mut Rng, blocks: u32) -> Vec<(String, Volume)> {
+    let [one, two, three, four] = [(); 4].map(|()| rng.pick(&Disk::of_blocks(blocks)));
     let plans = [
         ("nested throughout", nested(rng, &one, one.chain_limit())),
         ("one chain", chain(rng, &two, two.chain_limit())),
         ("the largest file", files(rng, &three, &[largest_file(&three)])),
         ("full", full(rng, &four)),
     ];
-    plans.iter().map(|(what, plan)| (what.to_string(), laid_out(rng, plan))).collect()
+    plans.iter().map(|(what, plan)| (format!("{blocks} blocks, {what}"), laid_out(rng, plan))).collect()
 }
 
 /// All entries of all volumes, by their paths.
@@ -349,14 +390,15 @@ fn large(rng: &mut Rng) -> Vec<(String, Volume)> {
 fn every_entry_is_found_and_every_file_read() {
     let mut rng = Rng::new(142);
     let (mut found, mut out_of_reach, mut bytes) = (0, 0, 0);
-    let mut volumes: Vec<(String, Volume)> =
-        Disk::FLOPPIES.iter().flat_map(|disk| moderate(&mut rng, disk)).collect();
-    volumes.extend(large(&mut rng));
+    let mut volumes: Vec<(String, Volume)> = Disk::ALL.iter().flat_map(|disk| moderate(&mut rng, disk)).collect();
+    volumes.extend(large(&mut rng, FLOPPY));
+    volumes.extend(large(&mut rng, HIGH_DENSITY));
     for (what, volume) in &volumes {
+        let named = rng.pick(&[volume.disk.blocks, ANY]);
         let paths = Paths::new(volume);
         for (number, entry) in volume.entries.iter().enumerate() {
             let Question { path, due, .. } = paths.existing(&mut rng, number);
-            let answer = find(FLOPPY, &volume.image, &path);
+            let answer = find(named, &volume.image, &path);
             assert_eq!(answer, due, "{what}: {path:?}");
             let Ok(Found { kind, key, size, .. }) = answer else {
                 assert!(path.len() > LONGEST_PATH, "{what}: {path:?}");
@@ -367,7 +409,7 @@ fn every_entry_is_found_and_every_file_read() {
             let due = if entry.kind == Kind::Directory { (DIRECTORY, 0) } else { (FILE, entry.size()) };
             assert_eq!(((kind, size), key), (due, entry.key), "{what}: {path:?}");
             let mut output = vec![BEFORE; size as usize + 3];
-            let answer = read(FLOPPY, &volume.image, &path, 0, &mut output);
+            let answer = read(named, &volume.image, &path, 0, &mut output);
             if kind == DIRECTORY {
                 let last = paths.components(Some(number)).len() - 1;
                 assert_eq!(answer, Err(Refusal::at(20, last)), "{what}: {path:?}");
@@ -378,27 +420,37 @@ fn every_entry_is_found_and_every_file_read() {
             bytes += size;
         }
     }
-    assert!(found > 2_000 && out_of_reach > 1_000 && bytes > 2_000_000, "{found} {out_of_reach} {bytes}");
+    assert!(found > 6_000 && out_of_reach > 4_000 && bytes > 5_000_000, "{found} {out_of_reach} {bytes}");
 }
 
-/// Images of a wrong length, and good ones with other tags, asked for paths of all forms.
+/// Images of every length with every number of blocks that may be named, and with some that may not, and good images
+/// with other tags, asked for paths of all forms.
 fn lengths(who: Who, rng: &mut Rng, disk: &Disk) -> Talk {
-    let mut talk = Talk::new(who);
+    let mut talk = Talk { sent: *disk, ..Talk::new(who) };
     let plan = mixed(rng, disk, 30);
     let volume = laid_out(rng, &plan);
     let path = Paths::new(&volume).path(0);
     let all = [&b""[..], &path, b"nobody", b"a//b", &[b'x'; 256]];
-    for length in wrong_lengths(FLOPPY) {
+    // with this number none is right
+    for length in wrong_lengths(1).into_iter().filter(|&length| length <= IMAGE_ROOM) {
         let mut image = volume.image.clone();
         image.resize(length, 0);
-        talk.about(format!("{length} bytes"));
         talk.image(&image);
-        for path in all {
-            talk.expect_find(path, Err(Refusal::at(1, 0)));
-            talk.expect_refused(path, 0, 9, Refusal::at(1, 0));
+        for named in [ANY, FLOPPY, HIGH_DENSITY, rng.pick(&NO_SIZES), rng.pick(&NO_SIZES)] {
+            talk.about(format!("{length} bytes, {named} blocks named"));
+            talk.name(named);
+            let is_settled = settled(named, length).is_some();
+            for path in all.into_iter().filter(|_| !is_settled) {
+                talk.expect_find(path, Err(Refusal::at(1, 0)));
+                talk.expect_refused(path, 0, 9, Refusal::at(1, 0));
+            }
+            if is_settled {
+                talk.expect_find(b"a//b", Err(Refusal::at(18, 1)));
+                look(&mut talk, rng, &all.map(<[u8]>::to_vec));
+            }
         }
     }
-    talk.image(&volume.image);
+    talk.volume(rng, &volume);
     let lower = [b'd', b'o', b's', disk.kind];
     for tag in [*b"KICK", *b"DOS\x04", *b"DOS\x05", *b"DOS\x81", *b"DOS\xFF", *b"dos\0", lower, [0; 4]] {
         talk.about(format!("the boot tag {tag:?}"));
@@ -412,13 +464,84 @@ fn lengths(who: Who, rng: &mut Rng, disk: &Disk) -> Talk {
     talk
 }
 
+/// One image that is a floppy if it is cut to a floppy's length, and a high-density disk if it is not.
+fn sizes_in_one(who: Who, rng: &mut Rng) -> Talk {
+    let mut talk = Talk::new(who);
+    for kind in 0..4 {
+        let both = both_sizes(rng, kind, 25);
+        for volume in &both {
+            talk.about(format!("{:?} in one image with the other size", volume.disk));
+            talk.image(&both[1].image[..volume.image.len()]);
+            let paths = Paths::new(volume);
+            for named in [FLOPPY, ANY, HIGH_DENSITY, rng.pick(&NO_SIZES)] {
+                let is_right = [ANY, volume.disk.blocks].contains(&named);
+                talk.name(named);
+                for question in [paths.root()].into_iter().chain((0..6).map(|_| any_question(rng, &paths))) {
+                    let due = if is_right { question.due } else { Err(Refusal::at(1, 0)) };
+                    talk.expect_find(&question.path, due);
+                }
+                for _ in (0..4).filter(|_| is_right) {
+                    let number = any_entry(rng, volume);
+                    reads(&mut talk, rng, &paths, number, 1);
+                }
+            }
+        }
+    }
+    talk
+}
+
+/// Some entry of a volume that has one.
+fn any_entry(rng: &mut Rng, volume: &Volume) -> usize {
+    rng.below(volume.entries.len() as u64) as usize
+}
+
+/// The path of some entry, or one that leads nowhere.
+fn any_question(rng: &mut Rng, paths: &Paths) -> Question {
+    let number = any_entry(rng, paths.volume);
+    match rng.below(3) {
+        0 => paths.missing(rng, None).remove(0),
+        _ => paths.existing(rng, number),
+    }
+}
+
+/// Keys around both ends of either size of disk, in each word on the way to a file and in its tables: those that no
+/// block of the disk has are refused by 5, the others are not.
+fn keys(who: Who, rng: &mut Rng, disk: &Disk) -> Talk {
+    let mut talk = Talk::new(who);
+    let Target { volume, path, file, slots, .. } = target(rng, disk, 73 * disk.data_bytes() + 5);
+    talk.volume(rng, &volume);
+    let outer = on_chain(&volume, disk.root(), slots[0]);
+    let (list, before) = (file.lists[0], outer[0].key);
+    for key in [1, 2, 879, 880, 1_758, 1_759, 1_760, 1_761, 3_518, 3_519, 3_520, 3_521, u32::MAX] {
+        let is_key = (2..disk.blocks).contains(&key);
+        for (what, holder, index, is_found) in [
+            ("slot", disk.root(), slot_word(slots[0]), false),
+            ("chain link", before, 124, false),
+            ("slot of the directory", file.directory, slot_word(slots[1]), false),
+            ("data key", file.key, key_word(0), true),
+            ("data key", file.key, key_word(71), true),
+            ("list link", file.key, 126, true),
+            ("data key in a list", list, key_word(1), true),
+        ] {
+            talk.about(format!("{disk:?}: {what} {key}"));
+            talk.patched(&[put_words(&volume, holder, &[(index, key)])], |talk| {
+                let due = Err(Refusal::at(5, key as usize));
+                let (found, (read, _)) = (talk.find(&path), talk.read(&path, 3, 9));
+                assert_eq!(found.map(|_| 0) == due, !is_key && !is_found, "{}: {found:?}", talk.subject());
+                assert_eq!(read.map(|_| 0) == due, !is_key, "{}: {read:?}", talk.subject());
+            });
+        }
+    }
+    talk
+}
+
 /// Asks questions, most often as lookups.
 fn ask(talk: &mut Talk, rng: &mut Rng, what: &str, questions: &[Question]) {
     for question in questions {
         talk.about(format!("{what}: {}", question.what));
         match question.due {
             Err(due) if rng.below(3) == 0 => {
-                let (offset, room) = spot(rng, &Disk::OLD, 600);
+                let (offset, room) = spot(rng, &talk.sent, 600);
                 talk.expect_refused(&question.path, offset, room, due);
             }
             due => talk.expect_find(&question.path, due),
@@ -463,8 +586,9 @@ fn questions(rng: &mut Rng, paths: &Paths, numbers: &[usize]) -> Vec<Question> {
 fn as_is(talk: &mut Talk, rng: &mut Rng, what: &str, volume: &Volume, times: usize) {
     let paths = Paths::new(volume);
     talk.about(what);
-    talk.image(&volume.image);
+    talk.volume(rng, volume);
     talk.expect_refused(b"", 0, 5, Refusal::at(20, 0));
+    named_otherwise(talk, rng, what, volume);
     let mut numbers: Vec<usize> = (0..volume.entries.len()).collect();
     shuffle(rng, &mut numbers);
     numbers.truncate(times);
@@ -473,13 +597,28 @@ fn as_is(talk: &mut Talk, rng: &mut Rng, what: &str, volume: &Volume, times: usi
     numbers.iter().for_each(|&number| reads(talk, rng, &paths, number, 2));
 }
 
+/// A good volume of which another size is named, or a number that no disk has: it is refused, whatever the path.
+fn named_otherwise(talk: &mut Talk, rng: &mut Rng, what: &str, volume: &Volume) {
+    let (before, paths) = (talk.named(), Paths::new(volume));
+    for named in volume.disk.other_sizes().map(|other| other.blocks).chain([rng.pick(&NO_SIZES)]) {
+        talk.about(format!("{what}: {named} blocks named"));
+        talk.name(named);
+        for path in [&b""[..], b"a//b", b"nobody", &paths.path(any_entry(rng, volume))] {
+            talk.expect_find(path, Err(Refusal::at(1, 0)));
+        }
+        talk.expect_refused(b":", 0, 5, Refusal::at(1, 0));
+        talk.expect_refused(&paths.path(any_entry(rng, volume)), 0, 5, Refusal::at(1, 0));
+    }
+    talk.name(before);
+}
+
 /// The volume with long paths: those of 255 bytes, of 256, and of 128 components.
 fn long_paths(who: Who, rng: &mut Rng, disk: &Disk) -> Talk {
     let mut talk = Talk::new(who);
     let volume = deep(rng, disk);
     let paths = Paths::new(&volume);
     talk.about("long paths");
-    talk.image(&volume.image);
+    talk.volume(rng, &volume);
     let lengths: BTreeSet<usize> = (0..volume.entries.len()).map(|number| paths.path(number).len()).collect();
     assert!(lengths.contains(&255) && lengths.contains(&256), "{lengths:?}");
     for number in 0..volume.entries.len() {
@@ -503,7 +642,7 @@ fn ends(who: Who, rng: &mut Rng, disk: &Disk) -> Talk {
     let plan = files(rng, disk, &sizes);
     let volume = laid_out(rng, &plan);
     let paths = Paths::new(&volume);
-    talk.image(&volume.image);
+    talk.volume(rng, &volume);
     for (number, entry) in volume.entries.iter().enumerate() {
         talk.about(format!("a file of {} bytes", entry.size()));
         let (path, contents) = (paths.path(number), paths.contents(number));
@@ -597,12 +736,12 @@ fn concerned(rng: &mut Rng, paths: &Paths, patches: &[Patch]) -> Vec<Vec<u8>> {
 fn look(talk: &mut Talk, rng: &mut Rng, all: &[Vec<u8>]) {
     for path in all {
         let (finds, reads) = rng.pick(&[(true, true), (true, true), (true, false), (false, true)]);
-        let found = find(FLOPPY, talk.held(), path);
+        let found = find(talk.named(), talk.held(), path);
         if finds {
             let _ = talk.find(path);
         }
         if reads {
-            let disk = Disk::of(FLOPPY, talk.held()).unwrap_or(Disk::OLD);
+            let disk = Disk::named(talk.named(), talk.held()).unwrap_or(talk.sent);
             let size = found.map_or(500, |found| found.size.min(largest_file(&disk)));
             let (offset, room) = spot(rng, &disk, size);
             let (answer, output) = talk.read(path, offset, room);
@@ -636,6 +775,7 @@ fn earlier_namesake(volume: &Volume, patches: &[Patch]) -> Option<usize> {
 
 /// A harm, and what is known of it.
 fn harmed(talk: &mut Talk, rng: &mut Rng, paths: &Paths, harm: &Harm) {
+    talk.name_rightly(rng);
     let (patches, due) = (harm.patches(), harm.due());
     let all = concerned(rng, paths, &patches);
     let disk = &paths.volume.disk;
@@ -735,7 +875,8 @@ fn bitmap_as_file(volume: &Volume, directory: u32, name: &[u8]) -> Patch {
 /// Another value for a word.
 fn other(rng: &mut Rng, value: u32) -> u32 {
     let near = [value.wrapping_add(1), value.wrapping_sub(1), value ^ 1 << rng.below(32), rng.draw() as u32];
-    let all: Vec<u32> = near.into_iter().chain([0, 1, 880, u32::MAX]).filter(|&other| other != value).collect();
+    let all: Vec<u32> =
+        near.into_iter().chain([0, 1, 880, 1_760, u32::MAX]).filter(|&other| other != value).collect();
     rng.pick(&all)
 }
 
@@ -813,7 +954,7 @@ impl Target {
 fn every_word(who: Who, rng: &mut Rng, disk: &Disk) -> Talk {
     let mut talk = Talk::new(who);
     let target = target(rng, disk, 73 * disk.data_bytes() + 5);
-    talk.image(&target.volume.image);
+    talk.volume(rng, &target.volume);
     let headers =
         [disk.root(), target.volume.bitmap, target.file.directory, target.file.key, target.file.lists[0]];
     let data = [0, 30, 71, 72, 73].map(|index| target.file.data[index]);
@@ -834,7 +975,7 @@ fn in_the_middle(who: Who, rng: &mut Rng, disk: &Disk) -> Talk {
     let mut talk = Talk::new(who);
     let full = disk.data_bytes() as usize;
     let Target { volume, path, file, found, contents, .. } = target(rng, disk, 150 * full as u32 - 7);
-    talk.image(&volume.image);
+    talk.volume(rng, &volume);
     let mut harms = Vec::new();
     for (index, &key) in file.data.iter().enumerate() {
         let next = file.data.get(index + 1).copied().unwrap_or(key);
@@ -893,8 +1034,8 @@ fn boundaries(who: Who, rng: &mut Rng, disk: &Disk) -> Talk {
     plan.add_named(None, b"file", Kind::File(size as u32));
     let volume = Volume::new(rng, &plan, style);
     let contents = Paths::new(&volume).contents(0);
-    talk.about(format!("kind {}, {style:?}: boundaries", disk.kind));
-    talk.image(&volume.image);
+    talk.about(format!("{disk:?}, {style:?}: boundaries"));
+    talk.volume(rng, &volume);
     let mut ends: Vec<usize> = (0..=size / full).map(|blocks| blocks * full).chain([size]).collect();
     ends.retain(|end| [0, 1, 2, 71, 72, 73, 143, 144, 145, 146].contains(&(end / full)) || rng.below(8) == 0);
     for end in ends {
@@ -917,7 +1058,7 @@ fn boundaries(who: Who, rng: &mut Rng, disk: &Disk) -> Talk {
         mend(&mut changed[entry.key as usize * BLOCK_BYTES..][..BLOCK_BYTES], 5);
         let bytes = entry.data.iter().flat_map(|&key| &changed[key as usize * BLOCK_BYTES..][..BLOCK_BYTES]);
         let contents: Vec<u8> = bytes.copied().take(size).collect();
-        talk.about(format!("kind {}, {style:?}: other words", disk.kind));
+        talk.about(format!("{disk:?}, {style:?}: other words"));
         talk.image(&changed);
         for block in [0, 1, 71, 72, 143, 144, 145, 146] {
             talk.expect_bytes(b"file", block * full, 25, &contents);
@@ -929,12 +1070,47 @@ fn boundaries(who: Who, rng: &mut Rng, disk: &Disk) -> Talk {
     plan.add_named(None, b"big", Kind::File(size));
     let volume = Volume::new(rng, &plan, style);
     let (contents, size) = (Paths::new(&volume).contents(0), size as usize);
-    talk.about(format!("kind {}, the largest file", disk.kind));
-    talk.image(&volume.image);
+    talk.about(format!("{disk:?}, the largest file"));
+    talk.volume(rng, &volume);
     for (offset, room) in [(size - 1, 1), (size - 1, 9), (size - full, full + 1), (size, 5), (size + 1, 5)] {
         talk.expect_bytes(b"big", offset, room, &contents);
     }
+    largest_size(&mut talk, &volume, &contents);
     talk
+}
+
+/// The largest file with more stated than it can hold, up to the largest size that may be. The last list then lists
+/// keys that were listed before. In the Fast File System such a file can be read, though no audit accepts it.
+fn largest_size(talk: &mut Talk, volume: &Volume, contents: &[u8]) {
+    let (disk, file) = (&volume.disk, &volume.entries[0]);
+    let (limit, blocks) = (disk.file_limit(), disk.file_limit() / disk.data_bytes());
+    assert_eq!(blocks, if disk.blocks == FLOPPY { 1_755 } else { 3_515 });
+    let last = *file.lists.last().expect("a list block");
+    for (stated, place) in [(limit, last), (limit + 1, file.key), (u32::MAX, file.key)] {
+        talk.about(format!("{disk:?}, the largest file, {stated} bytes stated"));
+        talk.patched(&[put_words(volume, file.key, &[(81, stated)])], |talk| {
+            talk.expect_refused(b"big", 0, 9, Refusal::at(14, place as usize));
+        });
+    }
+    let listed = (file.data.len() - TABLE as usize * file.lists.len()) as u32;
+    let more = blocks - file.data.len() as u32;
+    let mut words = vec![(2, listed + more)];
+    words.extend((0..more).map(|index| (key_word(listed + index), file.data[index as usize])));
+    let patches = [put_words(volume, file.key, &[(81, limit)]), put_words(volume, last, &words)];
+    talk.about(format!("{disk:?}, a file of the largest size"));
+    talk.patched(&patches, |talk| {
+        if disk.has_data_words() {
+            // the first that comes again is not the next
+            return talk.expect_refused(b"big", 0, 9, Refusal::at(15, file.data[0] as usize));
+        }
+        let again = &contents[..(more * disk.data_bytes()) as usize];
+        let contents = [contents, again].concat();
+        assert_eq!(contents.len(), limit as usize);
+        for (offset, room) in [(contents.len() - 1, 2), (contents.len() - again.len() - 3, 9), (contents.len(), 4)]
+        {
+            talk.expect_bytes(b"big", offset, room, &contents);
+        }
+    });
 }
 
 /// Changes that are harm in the old file system alone, in files of this volume: the bytes are those that the listed
@@ -1001,7 +1177,7 @@ fn two_faults(who: Who, rng: &mut Rng, disk: &Disk) -> Talk {
     let target = target(rng, disk, 150 * disk.data_bytes() - 7);
     let (steps, in_lookup) = steps(&target);
     let Target { volume, path, found, .. } = target;
-    talk.image(&volume.image);
+    talk.volume(rng, &volume);
     for _ in 0..200 {
         let bound = rng.pick(&[12, steps.len() as u64 - 1]);
         let second = 1 + rng.below(bound) as usize;
@@ -1009,7 +1185,7 @@ fn two_faults(who: Who, rng: &mut Rng, disk: &Disk) -> Talk {
         let mut faults: BTreeMap<u32, Vec<(usize, u32)>> = BTreeMap::new();
         for (key, index, number) in [steps[first], steps[second]] {
             let any = other(rng, word(volume.block(key), index));
-            let value = if number == 5 { rng.pick(&[0, 1, FLOPPY, FLOPPY + 1, u32::MAX]) } else { any };
+            let value = if number == 5 { rng.pick(&[0, 1, disk.blocks, disk.blocks + 1, u32::MAX]) } else { any };
             faults.entry(key).or_default().push((index, value));
         }
         let patches: Vec<Patch> = faults.iter().map(|(&key, words)| put_words(&volume, key, words)).collect();
@@ -1070,67 +1246,75 @@ fn loops(talk: &mut Talk, rng: &mut Rng, what: &str, volume: &Volume, times: usi
 /// The longest chain, and one more on it.
 fn longest_chain(who: Who, rng: &mut Rng, disk: &Disk) -> Talk {
     let mut talk = Talk::new(who);
-    let plan = chain(rng, disk, disk.chain_limit());
+    let limit = if disk.blocks == FLOPPY { 1_756 } else { 3_516 };
+    let plan = chain(rng, disk, limit);
     let volume = laid_out(rng, &plan);
     let paths = Paths::new(&volume);
-    let [first, middle, before, last] = [0, 800, 1_754, 1_755].map(|number| &volume.entries[number]);
+    let end = limit as usize - 1;
+    let [first, middle, before, last] = [0, 800, end - 1, end].map(|number| &volume.entries[number]);
     let missing = lacking(rng, &paths, None, first.slot);
-    talk.about("the longest chain");
-    talk.image(&volume.image);
+    talk.about(format!("{disk:?}: the longest chain"));
+    talk.volume(rng, &volume);
     talk.expect_find(&missing, Err(Refusal::at(19, 0)));
-    talk.expect_find(&last.name, Ok(Found { compared: 1_756, ..paths.found(1_755) }));
-    let links = [(first.key, 6), (middle.key, 6), (last.key, 6), (volume.bitmap, 6), (880, 6), (2, 6), (1_759, 6)];
-    for (link, number) in links.into_iter().chain([(1, 5), (1_760, 5), (u32::MAX, 5)]) {
-        talk.about(format!("the longest chain goes on to {link}"));
+    talk.expect_find(&last.name, Ok(Found { compared: limit, ..paths.found(end) }));
+    let (root, blocks) = (disk.root(), disk.blocks);
+    let links = [first.key, middle.key, last.key, volume.bitmap, root, 2, 1_759, blocks - 1].map(|link| (link, 6));
+    for (link, number) in links.into_iter().chain([1, blocks, blocks + 1, 3_520, u32::MAX].map(|link| (link, 5))) {
+        talk.about(format!("{disk:?}: the longest chain goes on to {link}"));
         talk.patched(&[put_words(&volume, last.key, &[(124, link)])], |talk| {
             talk.expect_find(&missing, Err(Refusal::at(number, link as usize)));
             talk.expect_refused(&missing, 0, 3, Refusal::at(number, link as usize));
         });
     }
     let more = bitmap_as_file(&volume, disk.root(), &missing);
-    talk.about("a chain of 1,757");
+    talk.about(format!("{disk:?}: a chain of one more"));
     talk.patched(&[put_words(&volume, last.key, &[(124, volume.bitmap)]), more.clone()], |talk| {
         talk.expect_find(&missing, Err(Refusal::at(6, volume.bitmap as usize)));
-        talk.expect_find(&last.name, Ok(paths.found(1_755)));
+        talk.expect_refused(&missing, 0, 3, Refusal::at(6, volume.bitmap as usize));
+        talk.expect_find(&last.name, Ok(paths.found(end)));
     });
-    talk.about("a chain of 1,756, with the bitmap block");
+    talk.about(format!("{disk:?}: as long a chain with the bitmap block"));
     talk.patched(&[put_words(&volume, before.key, &[(124, volume.bitmap)]), more], |talk| {
-        talk.expect_find(&missing, Ok(Found { kind: FILE, key: volume.bitmap, size: 0, compared: 1_756 }));
+        talk.expect_find(&missing, Ok(Found { kind: FILE, key: volume.bitmap, size: 0, compared: limit }));
         talk.expect_bytes(&missing, 0, 5, b"");
         talk.expect_find(&last.name, Err(Refusal::at(19, 0)));
     });
-    loops(&mut talk, rng, "the longest chain", &volume, 10);
+    loops(&mut talk, rng, "the longest chain", &volume, if disk.blocks == FLOPPY { 10 } else { 3 });
     talk
 }
 
-/// Two long chains, one in the other's last directory: the limit is for each, the count for both.
+/// Two long chains, one in the other's last directory: the limit is for each, the count for both. They take all blocks;
+/// on a high-density disk the first alone is longer than any on a floppy.
 fn two_long_chains(who: Who, rng: &mut Rng, disk: &Disk) -> Talk {
     let mut talk = Talk::new(who);
+    let (limit, before) = if disk.blocks == FLOPPY { (1_756, 999) } else { (3_516, 1_999) };
+    let within_it = limit - before - 1;
     let mut plan = empty(disk);
-    (0..999).for_each(|_| _ = plan.add(rng, None, Some(7), Kind::File(0)));
+    (0..before).for_each(|_| _ = plan.add(rng, None, Some(7), Kind::File(0)));
     let within = Some(plan.add(rng, None, Some(7), Kind::Directory));
-    (0..756).for_each(|_| _ = plan.add(rng, within, Some(70), Kind::File(0)));
+    (0..within_it).for_each(|_| _ = plan.add(rng, within, Some(70), Kind::File(0)));
     let volume = laid_out(rng, &plan);
     let paths = Paths::new(&volume);
     let directory = volume.entries.iter().position(|entry| entry.kind == Kind::Directory).expect("the directory");
     let inner = on_chain(&volume, volume.entries[directory].key, 70);
     let name = paths.new_name(rng, Some(directory), |name| slot(disk, name) == 70);
     let path = [&volume.entries[directory].name[..], &name].join(&b'/');
-    talk.about("two long chains");
-    talk.image(&volume.image);
+    talk.about(format!("{disk:?}: two long chains"));
+    talk.volume(rng, &volume);
     talk.expect_find(&path, Err(Refusal::at(19, 1)));
-    let last = paths.existing(rng, volume.entries.iter().position(|entry| entry.key == inner[755].key).unwrap());
-    assert_eq!(last.due.map(|found| found.compared), Ok(1_756));
+    let end = inner.len() - 1;
+    let last = paths.existing(rng, volume.entries.iter().position(|entry| entry.key == inner[end].key).unwrap());
+    assert_eq!(last.due.map(|found| found.compared), Ok(limit));
     talk.expect_find(&last.path, last.due);
-    talk.about("two long chains of 1,757 entries together");
+    talk.about(format!("{disk:?}: two long chains of one entry more together"));
     let more = bitmap_as_file(&volume, volume.entries[directory].key, &name);
-    talk.patched(&[put_words(&volume, inner[755].key, &[(124, volume.bitmap)]), more], |talk| {
-        talk.expect_find(&path, Ok(Found { kind: FILE, key: volume.bitmap, size: 0, compared: 1_757 }));
+    talk.patched(&[put_words(&volume, inner[end].key, &[(124, volume.bitmap)]), more], |talk| {
+        talk.expect_find(&path, Ok(Found { kind: FILE, key: volume.bitmap, size: 0, compared: limit + 1 }));
     });
-    for to in [0, 1, 400, 754, 755] {
-        talk.about(format!("two long chains, the second back to {to}"));
-        talk.patched(&[put_words(&volume, inner[755].key, &[(124, inner[to].key)])], |talk| {
-            let key = inner[around(756, to, 1_756)].key;
+    for to in [0, 1, 400, end - 1, end] {
+        talk.about(format!("{disk:?}: two long chains, the second back to {to}"));
+        talk.patched(&[put_words(&volume, inner[end].key, &[(124, inner[to].key)])], |talk| {
+            let key = inner[around(end + 1, to, limit as usize)].key;
             talk.expect_find(&path, Err(Refusal::at(6, key as usize)));
         });
     }
@@ -1140,7 +1324,7 @@ fn two_long_chains(who: Who, rng: &mut Rng, disk: &Disk) -> Talk {
 /// Asks for a path of these components on a volume under the tag of another kind.
 fn ask_on(talk: &mut Talk, paths: &Paths, disk: &Disk, components: &[Vec<u8>]) {
     let (path, due) = (components.join(&b'/'), paths.on(disk, components));
-    *talk.tally.retagged.entry((paths.volume.disk.kind, number(&due))).or_default() += 1;
+    *talk.tally.retagged.entry((paths.volume.disk, number(&due))).or_default() += 1;
     talk.expect_find(&path, due);
     match due {
         Err(due) => talk.expect_refused(&path, 0, 9, due),
@@ -1148,7 +1332,7 @@ fn ask_on(talk: &mut Talk, paths: &Paths, disk: &Disk, components: &[Vec<u8>]) {
             let one = paths.volume.entries.iter().position(|entry| entry.key == found.key).expect("the file");
             let due = paths.contents_on(disk, one);
             let same_system = disk.has_data_words() == paths.volume.disk.has_data_words();
-            let answer = (paths.volume.disk.kind, number(&due));
+            let answer = (paths.volume.disk, number(&due));
             *talk.tally.reread.entry((answer, same_system)).or_default() += 1;
             assert_eq!(due.is_err(), first_misfit_of_file(paths.volume, disk, one).is_some());
             match due {
@@ -1187,51 +1371,66 @@ fn bytes_as_names(who: Who, rng: &mut Rng, disk: &Disk) -> Talk {
     let plan = every_byte(rng, disk);
     let volume = laid_out(rng, &plan);
     let paths = Paths::new(&volume);
-    talk.image(&volume.image);
+    talk.volume(rng, &volume);
     let capital = |byte: u8| match byte {
         b'a'..=b'z' => byte - 0x20,
         0xE0..=0xF6 | 0xF8..=0xFE if disk.kind >= 2 => byte - 0x20,
         _ => byte,
     };
     for byte in (0..=255).filter(|byte| !b"/:".contains(byte)) {
-        talk.about(format!("kind {}: the name {byte:02X}", disk.kind));
+        talk.about(format!("{disk:?}: the name {byte:02X}"));
         let number = volume.entries.iter().position(|entry| capital(entry.name[0]) == capital(byte));
         talk.expect_find(&[byte], Ok(paths.found(number.expect("an entry for each byte"))));
     }
-    other_kinds(&mut talk, rng, &format!("kind {}, bytes", disk.kind), &volume, 85);
+    other_kinds(&mut talk, rng, &format!("{disk:?}, bytes"), &volume, 85);
     talk
 }
 
 /// All requests of the great comparison, as the seed draws them.
 fn talks(who: Who, seed: u64) -> Vec<Talk> {
     let mut rng = Rng::new(seed);
-    let of_each = [lengths, bytes_as_names, boundaries];
+    let rng = &mut rng;
+    let of_each = [lengths, bytes_as_names, boundaries, keys];
     let of_some = [long_paths, ends, every_word, in_the_middle, two_faults, longest_chain, two_long_chains];
-    let mut talks = Vec::new();
+    let mut talks = vec![sizes_in_one(who, rng)];
+    let turn = seed as usize;
     for (number, make) in of_some.into_iter().enumerate() {
         // each in turn on a disk of another kind, so that ten seeds have all of them
-        let disk = Disk::FLOPPIES[(seed as usize + number) % 4];
-        talks.push(make(who, &mut rng, &disk));
+        talks.push(make(who, rng, &Disk::FLOPPIES[(turn + number) % 4]));
     }
-    for disk in &Disk::FLOPPIES {
-        talks.extend(of_each.map(|make| make(who, &mut rng, disk)));
+    // of larger disks a few take turns
+    let larger = Disk::of_blocks(HIGH_DENSITY);
+    for (number, make) in [lengths, boundaries, longest_chain, of_some[turn % 7]].into_iter().enumerate() {
+        talks.push(make(who, rng, &larger[(turn + number) % 4]));
+    }
+    talks.extend(larger.iter().map(|disk| keys(who, rng, disk)));
+    for disk in &Disk::ALL {
+        let is_floppy = disk.blocks == FLOPPY;
+        talks.extend(of_each.into_iter().filter(|_| is_floppy).map(|make| make(who, rng, disk)));
         let mut talk = Talk::new(who);
-        for (what, volume) in moderate(&mut rng, disk) {
-            as_is(&mut talk, &mut rng, &what, &volume, 24);
-            other_kinds(&mut talk, &mut rng, &what, &volume, 8);
-            harms(&mut talk, &mut rng, &what, &volume, 80);
-            allowed(&mut talk, &mut rng, &what, &volume);
-            scratches(&mut talk, &mut rng, &what, &volume, 40);
-            loops(&mut talk, &mut rng, &what, &volume, 2);
+        for (what, volume) in moderate(rng, disk) {
+            let [asked, others, chance, times, around] =
+                if is_floppy { [24, 8, 80, 40, 2] } else { [8, 3, 40, 12, 1] };
+            as_is(&mut talk, rng, &what, &volume, asked);
+            other_kinds(&mut talk, rng, &what, &volume, others);
+            harms(&mut talk, rng, &what, &volume, chance as u64);
+            allowed(&mut talk, rng, &what, &volume);
+            scratches(&mut talk, rng, &what, &volume, times);
+            loops(&mut talk, rng, &what, &volume, around);
         }
         talks.push(talk);
     }
     let mut talk = Talk::new(who);
-    for (what, volume) in large(&mut rng) {
-        as_is(&mut talk, &mut rng, &what, &volume, 8);
-        other_kinds(&mut talk, &mut rng, &what, &volume, 4);
-        harms(&mut talk, &mut rng, &what, &volume, 8);
-        scratches(&mut talk, &mut rng, &what, &volume, 5);
+    for (what, volume) in large(rng, FLOPPY) {
+        as_is(&mut talk, rng, &what, &volume, 8);
+        other_kinds(&mut talk, rng, &what, &volume, 4);
+        harms(&mut talk, rng, &what, &volume, 8);
+        scratches(&mut talk, rng, &what, &volume, 5);
+    }
+    for (what, volume) in large(rng, HIGH_DENSITY) {
+        as_is(&mut talk, rng, &what, &volume, 3);
+        harms(&mut talk, rng, &what, &volume, 2);
+        scratches(&mut talk, rng, &what, &volume, 1);
     }
     talks.push(talk);
     talks
@@ -1246,55 +1445,71 @@ fn sum<K: Copy + Ord>(talks: &[Talk], of: fn(&Tally) -> &BTreeMap<K, usize>) -> 
     sum
 }
 
-/// The answers for disks of one kind, by number: all that the call gives, each at least 20 times, and 1,000 that are no
+/// The answers for one disk, by number: all that the call gives, each at least so many times, and so many that are no
 /// refusals. Answers with how many they are.
-fn hold_answers(what: &str, answers: &BTreeMap<Answer, usize>, kind: u8, numbers: &[u32]) -> usize {
-    let of_kind: BTreeMap<u32, usize> =
-        answers.range((kind, 0)..=(kind, u32::MAX)).map(|(&(_, number), &times)| (number, times)).collect();
-    println!("kind {kind}, {what} by number: {of_kind:?}");
+fn hold_answers(what: &str, answers: &BTreeMap<Answer, usize>, disk: Disk, numbers: &[u32]) -> usize {
+    let of_disk: BTreeMap<u32, usize> =
+        answers.range((disk, 0)..=(disk, u32::MAX)).map(|(&(_, number), &times)| (number, times)).collect();
+    println!("{disk:?}, {what} by number: {of_disk:?}");
     let wanted: BTreeSet<u32> = numbers.iter().copied().chain([0]).collect();
-    assert!(of_kind.keys().eq(&wanted), "{what}, kind {kind}: not the numbers that there are: {of_kind:?}");
-    let rare: Vec<_> = of_kind.iter().filter(|(_, &times)| times < 20).collect();
+    assert!(of_disk.keys().eq(&wanted), "{what}, {disk:?}: not the numbers that there are: {of_disk:?}");
+    let (least, accepted) = if disk.blocks == FLOPPY { (20, 1_000) } else { (1, 80) };
+    let rare: Vec<_> = of_disk.iter().filter(|(_, &times)| times < least).collect();
     assert!(
-        rare.is_empty() && of_kind[&0] >= 1_000,
-        "{what}, kind {kind}: too few of {rare:?} or {}",
-        of_kind[&0]
+        rare.is_empty() && of_disk[&0] >= accepted,
+        "{what}, {disk:?}: too few of {rare:?} or {}",
+        of_disk[&0]
     );
-    of_kind.values().sum()
+    of_disk.values().sum()
 }
 
-/// Enough of everything is asked: at least 20,000 calls, and of each call and each kind every number.
+/// Enough of everything is asked: at least 20,000 calls on floppies, and of each call and each disk every number.
 fn are_enough(talks: &[Talk]) {
     let [finds, reads] = [sum(talks, |tally| &tally.finds), sum(talks, |tally| &tally.reads)];
-    let of_kind = |disk: &Disk| {
+    let unnamed = sum(talks, |tally| &tally.unnamed);
+    let of_disk = |disk: &Disk| {
         let all = [&OF_FIND[..], of_read(disk)].concat();
-        [hold_answers("lookups", &finds, disk.kind, &OF_FIND), hold_answers("reads", &reads, disk.kind, &all)]
+        let found = hold_answers("lookups", &finds, *disk, &OF_FIND);
+        let calls = found + hold_answers("reads", &reads, *disk, &all);
+        let unnamed = unnamed.get(disk).copied().unwrap_or(0);
+        assert!(
+            unnamed >= calls / 20 && calls - unnamed >= calls / 20,
+            "{unnamed} of {calls} unnamed of {disk:?}"
+        );
+        calls
     };
-    let calls: usize = Disk::FLOPPIES.iter().flat_map(of_kind).sum();
+    let calls: usize = Disk::FLOPPIES.iter().map(of_disk).sum();
+    let larger: usize = Disk::of_blocks(HIGH_DENSITY).iter().map(of_disk).sum();
     let total = |of: fn(&Tally) -> usize| talks.iter().map(|talk| of(&talk.tally)).sum::<usize>();
     let [far, known, told] = [total(|tally| tally.far), total(|tally| tally.known), total(|tally| tally.told)];
-    println!("{calls} calls, {far} far, {known} answers known beforehand, {told} of them told by a harm");
+    println!("{calls} calls on floppies and {larger} on larger disks, {far} far");
+    println!("{known} answers known beforehand, {told} of them told by a harm");
     assert!(known >= 10_000 && told >= 1_000, "{known} known, {told} told");
-    assert!(calls >= 20_000, "{calls} calls");
+    assert!(calls >= 20_000 && larger >= 3_000, "{calls} calls and {larger}");
     assert!(far >= 1_000, "{far} reads from far offsets");
     let retagged = sum(talks, |tally| &tally.retagged);
-    println!("lookups under another tag, by kind and number: {retagged:?}");
-    let mut answers = [0, 12, 19].into_iter().flat_map(|number| (0..4).map(move |kind| (kind, number)));
-    assert!(answers.all(|answer| retagged.get(&answer).is_some_and(|&times| times >= 20)), "{retagged:?}");
+    println!("lookups under another tag, by disk and number: {retagged:?}");
+    for number in [0, 12, 19] {
+        let times = |disk: Disk| retagged.get(&(disk, number)).copied().unwrap_or(0);
+        let larger: usize = Disk::of_blocks(HIGH_DENSITY).map(times).iter().sum();
+        assert!(Disk::FLOPPIES.into_iter().all(|disk| times(disk) >= 20) && larger >= 20, "{retagged:?}");
+    }
     // where the file system is the same, so are the files; else some are too, but for their bytes
     let reread = sum(talks, |tally| &tally.reread);
-    println!("reads under another tag, by kind, number and whether in the same file system: {reread:?}");
-    for disk in Disk::FLOPPIES {
+    println!("reads under another tag, by disk, number and whether in the same file system: {reread:?}");
+    for disk in Disk::ALL {
         let numbers = |same: bool| -> Vec<u32> {
-            let of = reread.keys().filter(|((kind, _), other)| *kind == disk.kind && *other == same);
+            let of = reread.keys().filter(|((other, _), is_same)| *other == disk && *is_same == same);
             of.map(|((_, number), _)| *number).collect()
         };
         let [same, elsewhere] = [true, false].map(numbers);
-        assert_eq!(same, [0], "kind {}", disk.kind);
+        // of larger disks there may be too few for each answer
+        let is_wanted = disk.blocks == FLOPPY;
+        assert!(same == [0] || same.is_empty() && !is_wanted, "{disk:?}: {same:?}");
         let (all, least): (&[u32], &[u32]) =
             if disk.has_data_words() { (&[0, 14], &[0, 14]) } else { (&[0, 7, 8, 14, 15], &[0, 7, 14]) };
-        assert!(elsewhere.iter().all(|number| all.contains(number)), "kind {}: {elsewhere:?}", disk.kind);
-        assert!(least.iter().all(|number| elsewhere.contains(number)), "kind {}: {elsewhere:?}", disk.kind);
+        assert!(elsewhere.iter().all(|number| all.contains(number)), "{disk:?}: {elsewhere:?}");
+        assert!(!is_wanted || least.iter().all(|number| elsewhere.contains(number)), "{disk:?}: {elsewhere:?}");
     }
 }
 

@@ -1,18 +1,23 @@
-//! Holds the program `probe` to the frame of its requests, and to the two that keep an image: 1 takes one over, 2
-//! changes bytes of it.
+//! Holds the program `probe` to the frame of its requests, to the two that keep an image: 1 takes one over, 2 changes
+//! bytes of it; and to 9, which keeps the number of blocks that calls name.
 //!
-//! Neither shows the image's bytes. Its length can be told from outside, for it decides which patches fit; see
-//! [`holds`].
+//! Neither of the two shows the image's bytes. Its length can be told from outside, for it decides which patches fit,
+//! see [`holds`]. The number that is named can be told from what calls refuse an image by, see [`names`].
 
-use compare::disk::{image_length, FLOPPY};
+use compare::bad_volumes::NO_SIZES;
+use compare::disk::{image_length, FLOPPY, HIGH_DENSITY, SIZES};
 use compare::driver::Batch;
 use compare::rng::Rng;
 
 const IMAGE: u32 = 1;
 const PATCH: u32 = 2;
+const AUDIT: u32 = 3;
+const FIND: u32 = 4;
+const READ: u32 = 5;
+const DISK: u32 = 9;
 
 /// Numbers that no request has; whoever gives one of them away takes it off this list.
-const UNKNOWN: [u32; 3] = [0, 9, u32::MAX];
+const UNKNOWN: [u32; 3] = [0, 10, u32::MAX];
 
 /// The longest image that `probe` takes.
 const ROOM: usize = 1_802_240;
@@ -44,6 +49,23 @@ fn holds(batch: &mut Batch, length: u32) {
         batch.ask(PATCH, &patch(last, b"x"), PATCHED);
         batch.ask(PATCH, &patch(last, b"xy"), BAD);
     }
+}
+
+/// Asks for a number of blocks to be named.
+fn disk(batch: &mut Batch, named: u32) {
+    batch.ask(DISK, &named.to_be_bytes(), &format!("disk {named}"));
+}
+
+/// Asks what shows that this number of blocks is named, with an image held that has so many bytes and no good tag. If
+/// the number fits, an audit that is lent nothing is refused by 2, a path of bad form by 18 and another one by 3; else
+/// all of them are refused by 1.
+fn names(batch: &mut Batch, named: u32, length: usize) {
+    let fits = SIZES.iter().any(|&blocks| length == image_length(blocks) && [0, blocks].contains(&named));
+    let [audit, form, tag] = if fits { [2, 18, 3] } else { [1; 3] };
+    batch.ask(AUDIT, &[0; 4], &format!("refused {audit} 0 claim 0"));
+    batch.ask(FIND, b"/", &format!("refused {form} 0"));
+    batch.ask(FIND, b"a", &format!("refused {tag} 0"));
+    batch.ask(READ, &[&[0; 8][..], b"a"].concat(), &format!("refused {tag} 0 out 0"));
 }
 
 fn run(batch: Batch) {
@@ -208,6 +230,80 @@ fn what_is_skipped_is_not_answered() {
     run(batch);
 }
 
+/// Before the first request 9 a floppy is named, and images of that length are the only ones that are not refused by 1.
+#[test]
+fn a_floppy_is_named_at_first() {
+    let mut batch = Batch::new();
+    for length in [0, image_length(FLOPPY), image_length(HIGH_DENSITY), 512, image_length(FLOPPY)] {
+        image(&mut batch, length);
+        names(&mut batch, FLOPPY, length);
+    }
+    run(batch);
+}
+
+/// Any number may be named. It stays through other requests, good and bad ones.
+#[test]
+fn the_number_named_stays() {
+    let mut batch = Batch::new();
+    let mut rng = Rng::new(0xD15C);
+    for named in [HIGH_DENSITY, 0, FLOPPY, FLOPPY, 0].into_iter().chain(NO_SIZES) {
+        disk(&mut batch, named);
+        for length in [image_length(FLOPPY), image_length(HIGH_DENSITY)] {
+            image(&mut batch, length);
+            names(&mut batch, named, length);
+            holds(&mut batch, length as u32);
+            batch.ask(rng.pick(&UNKNOWN), &rng.bytes(9), BAD);
+            batch.ask(IMAGE, &vec![0; ROOM + 1], BAD);
+            names(&mut batch, named, length);
+        }
+    }
+    run(batch);
+}
+
+/// What is not one number is a bad request, and the number named before stays.
+#[test]
+fn a_number_of_blocks_is_four_bytes() {
+    let mut batch = Batch::new();
+    let length = image_length(HIGH_DENSITY);
+    image(&mut batch, length);
+    for named in [FLOPPY, HIGH_DENSITY, 0] {
+        disk(&mut batch, named);
+        for other in [0, FLOPPY, HIGH_DENSITY, 1] {
+            let four = other.to_be_bytes();
+            for cut in 0..4 {
+                batch.ask(DISK, &four[..cut], BAD);
+                batch.ask(DISK, &four[4 - cut..], BAD);
+            }
+            for more in [1, 3, 4, 8, 500, 5_000] {
+                batch.ask(DISK, &[&four[..], &vec![0; more]].concat(), BAD);
+                batch.ask(DISK, &[&vec![0; more], &four[..]].concat(), BAD);
+            }
+        }
+        names(&mut batch, named, length);
+    }
+    // longer than any room, and full of requests that name another number
+    let request = frame(DISK, 4, &FLOPPY.to_be_bytes());
+    batch.ask(DISK, &request.repeat(ROOM / request.len() + 1), BAD);
+    names(&mut batch, 0, length);
+    holds(&mut batch, length as u32);
+    run(batch);
+}
+
+/// Naming a number leaves the image that is held.
+#[test]
+fn the_image_stays_while_numbers_are_named() {
+    let mut batch = Batch::new();
+    for length in [0, 3, 512, image_length(FLOPPY)] {
+        image(&mut batch, length);
+        for named in [0, FLOPPY, HIGH_DENSITY, u32::MAX] {
+            disk(&mut batch, named);
+            holds(&mut batch, length as u32);
+            names(&mut batch, named, length);
+        }
+    }
+    run(batch);
+}
+
 #[test]
 fn input_that_ends_inside_number_or_length() {
     for length in 1..8 {
@@ -238,6 +334,10 @@ fn input_that_ends_inside_a_body() {
         frame(PATCH, u32::MAX, &whole),
         frame(IMAGE, ROOM as u32 + 1, &[0; 1000]),
         frame(IMAGE, u32::MAX, b""),
+        frame(DISK, 4, b""),
+        frame(DISK, 4, b"\0\0\x06"),
+        frame(DISK, 5, &FLOPPY.to_be_bytes()),
+        frame(DISK, u32::MAX, &[0; 5000]),
         frame(UNKNOWN[0], 1, b""),
         frame(UNKNOWN[1], 100, &[0; 99]),
         frame(UNKNOWN[2], u32::MAX, &[0; 5000]),
@@ -262,6 +362,7 @@ impl Model {
                 self.held = body.len();
                 return format!("image {}", self.held);
             }
+            (DISK, &[a, b, c, d]) => return format!("disk {}", u32::from_be_bytes([a, b, c, d])),
             (PATCH, [a, b, c, d, bytes @ ..]) => {
                 let offset = u32::from_be_bytes([*a, *b, *c, *d]);
                 u64::from(offset) + bytes.len() as u64 <= self.held as u64
@@ -283,10 +384,14 @@ fn random_offset(rng: &mut Rng, held: usize, bytes: usize) -> u32 {
 }
 
 fn random_request(rng: &mut Rng, held: usize) -> (u32, Vec<u8>) {
-    match rng.below(10) {
+    match rng.below(11) {
         0 => {
             let length = rng.below(600) as usize;
             (IMAGE, rng.bytes(length))
+        }
+        10 => {
+            let length = rng.pick(&[4, 4, 4, 0, 3, 5, 8]);
+            (DISK, rng.bytes(length))
         }
         1 => {
             let length = rng.below(4) as usize;

@@ -1,9 +1,9 @@
-//! The cases that docs/FORMAT.md works out ("Worked cases"), and the numbers that it gives for the floppy; and slots
-//! of names with accents, worked out by hand for each kind of disk.
+//! The cases that docs/FORMAT.md works out ("Worked cases"), and the numbers that it gives for each size of disk; and
+//! slots of names with accents, worked out by hand for each kind of disk.
 
 use compare::audit::{audit, Report};
 use compare::bitmap::place;
-use compare::disk::{claim_length, image_length, Disk, FLOPPY};
+use compare::disk::{claim_length, image_length, Disk, ANY, FLOPPY, HIGH_DENSITY, SIZES};
 use compare::names::{same, slot};
 use compare::rng::Rng;
 use compare::sizes::{data_blocks, header_keys, held, largest_file, last_list_keys, list_blocks};
@@ -13,7 +13,7 @@ use compare::volumes::{any_style, empty, Volume};
 fn slots() {
     let worked = [("a", 6), ("A", 6), ("c", 8), ("s", 24), ("MARY", 65)];
     for (name, wanted) in worked {
-        for disk in Disk::FLOPPIES {
+        for disk in Disk::ALL {
             assert_eq!(slot(&disk, name.as_bytes()), wanted, "{name}");
         }
     }
@@ -89,6 +89,10 @@ fn bits() {
     assert_eq!(place(2), (1, 0));
     assert_eq!(place(880), (28, 14));
     assert_eq!(place(1759), (55, 29));
+    // the middle and the last of a high-density disk; one word after the last would still be in the block
+    assert_eq!(place(1760), (55, 30));
+    assert_eq!(place(3519), (110, 29));
+    assert_eq!(place(4065), (127, 31));
 }
 
 #[test]
@@ -108,7 +112,7 @@ fn sizes() {
         (36_864, [72, 72, 0, 0]),
         (36_865, [73, 72, 1, 1]),
     ];
-    for disk in &Disk::FLOPPIES {
+    for disk in &Disk::ALL {
         let worked = if [0, 2].contains(&disk.kind) { old } else { fast };
         for (size, wanted) in worked {
             let got = [
@@ -129,11 +133,17 @@ fn sizes() {
 #[test]
 fn an_empty_volume() {
     let mut rng = Rng::new(1);
-    for disk in Disk::FLOPPIES {
+    for disk in Disk::ALL {
         let style = any_style(&mut rng);
         let volume = Volume::new(&mut rng, &empty(&disk), style);
-        let report = audit(FLOPPY, &volume.image, &mut [0xAA; 1760]);
-        assert_eq!(report, Ok(Report { used: 2, free: 1756, ..Report::default() }));
+        let free = if disk.blocks == FLOPPY { 1756 } else { 3516 };
+        for named in [disk.blocks, ANY] {
+            let report = audit(named, &volume.image, &mut vec![0xAA; disk.blocks as usize]);
+            assert_eq!(report, Ok(Report { used: 2, free, ..Report::default() }));
+        }
+        let other = disk.other_sizes().next().expect("another size").blocks;
+        let refused = audit(other, &volume.image, &mut [0xAA; 3520]).expect_err("another number of blocks");
+        assert_eq!((refused.number, refused.place), (1, 0));
     }
 }
 
@@ -147,6 +157,15 @@ fn the_largest_size_stated_and_the_largest_that_fits() {
         assert_eq!([data_blocks(disk, largest), list_blocks(disk, largest)], [1731, 24]);
         assert_eq!(1 + 1731 + 24, disk.chain_limit());
         assert_eq!([data_blocks(disk, largest + 1), list_blocks(disk, largest + 1)], [1732, 24]);
+    }
+    // on a high-density disk 3,515 of them leave none; with 3,467 there is room for the 48 list blocks
+    let larger = Disk::of_blocks(HIGH_DENSITY);
+    for (disk, largest) in larger.iter().zip([1_691_896, 1_775_104, 1_691_896, 1_775_104]) {
+        assert_eq!(data_blocks(disk, disk.file_limit()), 3515);
+        assert_eq!(largest_file(disk), largest);
+        assert_eq!([data_blocks(disk, largest), list_blocks(disk, largest)], [3467, 48]);
+        assert_eq!(1 + 3467 + 48, disk.chain_limit());
+        assert_eq!([data_blocks(disk, largest + 1), list_blocks(disk, largest + 1)], [3468, 48]);
     }
 }
 
@@ -167,6 +186,18 @@ fn the_disks() {
     }
     for disk in [Disk::FAST, Disk::FAST_INTERNATIONAL] {
         assert_eq!((disk.data_start(), disk.data_bytes(), disk.file_limit()), (0, 512, 898_560));
+    }
+    assert_eq!(SIZES, [1760, 3520]);
+    assert_eq!((HIGH_DENSITY, ANY), (3520, 0));
+    assert_eq!(image_length(HIGH_DENSITY), 1_802_240);
+    assert_eq!(claim_length(HIGH_DENSITY), 3520);
+    for disk in Disk::of_blocks(HIGH_DENSITY) {
+        assert_eq!(disk.root(), 1760);
+        assert_eq!(disk.keys(), 2..3520);
+        assert_eq!(disk.chain_limit(), 3516);
+        assert_eq!(disk.bitmap_span(), 3518);
+        let limit = if [0, 2].contains(&disk.kind) { 1_715_320 } else { 1_799_680 };
+        assert_eq!(disk.file_limit(), limit);
     }
     assert_eq!(Disk::OLD.boot_tag(), [0x44, 0x4F, 0x53, 0x00]);
     assert_eq!(Disk::FAST.boot_tag(), [0x44, 0x4F, 0x53, 0x01]);

@@ -11,8 +11,9 @@ use std::path::{Path, PathBuf};
 use std::process::ExitCode;
 use std::time::{Duration, Instant, SystemTime, UNIX_EPOCH};
 
+use compare::disk::{Disk, FLOPPY};
 use compare::driver::{answers, framed, rattle, Request};
-use compare::fuzz::{compare, differ, due, exported, kinds, requests, round, told, Case, Difference, Tally};
+use compare::fuzz::{compare, differ, disks, due, exported, requests, round, told, Case, Difference, Tally};
 use compare::model::{AUDIT, FIND, LOAD, MOVE, READ};
 use compare::shrink::shrink;
 
@@ -54,12 +55,15 @@ fn counted(tally: &Tally) -> String {
 /// The names of the kinds, by the last byte of the tag.
 const KINDS: [&str; 4] = ["old", "fast", "old international", "fast international"];
 
-/// How often an image of each kind was asked about.
-fn by_kind(of_kind: &BTreeMap<u8, usize>) -> String {
-    let count = |(kind, name)| format!("{} {name}", of_kind.get(&kind).copied().unwrap_or(0));
+/// How often an image of each size and kind was asked about.
+fn by_disk(of_disk: &BTreeMap<Disk, usize>) -> String {
+    let count = |disk: &Disk| {
+        let size = if disk.blocks == FLOPPY { "" } else { " high-density" };
+        format!("{}{size} {}", of_disk.get(disk).copied().unwrap_or(0), KINDS[usize::from(disk.kind)])
+    };
     format!(
-        "calls on images by the kind that the tag says: {}",
-        (0..).zip(KINDS).map(count).collect::<Vec<_>>().join(", ")
+        "calls on images by the size that was settled and the kind that the tag says: {}",
+        Disk::ALL.iter().map(count).collect::<Vec<_>>().join(", ")
     )
 }
 
@@ -119,12 +123,12 @@ fn main() -> ExitCode {
     println!("seed {seed}");
     let start = Instant::now();
     let (mut tally, mut rounds, mut told_at) = (Tally::new(), 0, start);
-    let mut of_kind: BTreeMap<u8, usize> = BTreeMap::new();
+    let mut of_disk: BTreeMap<Disk, usize> = BTreeMap::new();
     while seconds.is_none_or(|seconds| start.elapsed().as_secs() < seconds) {
         let seed = seed.wrapping_add(rounds);
         let cases = round(seed);
-        for kind in cases.iter().filter_map(kinds).filter_map(|[_, asked]| asked) {
-            *of_kind.entry(kind).or_default() += 1;
+        for disk in cases.iter().filter_map(disks).filter_map(|[_, asked]| asked) {
+            *of_disk.entry(disk).or_default() += 1;
         }
         match compare(&cases, &mut due, &mut held) {
             Ok(more) => more.into_iter().for_each(|(kind, times)| *tally.entry(kind).or_default() += times),
@@ -140,6 +144,6 @@ fn main() -> ExitCode {
         }
     }
     println!("{rounds} rounds, no difference: {}\n{}", counted(&tally), by_number(&tally));
-    println!("{}", by_kind(&of_kind));
+    println!("{}", by_disk(&of_disk));
     ExitCode::SUCCESS
 }

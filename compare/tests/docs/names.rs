@@ -2,7 +2,7 @@
 
 use std::sync::OnceLock;
 
-use compare::samples::{FONT, LOGO, SETTINGS, TITLE};
+use compare::samples::{FONT, LOGO, PICTURE, SETTINGS, TITLE};
 
 use crate::declared::{all_declared, is_name, Declared};
 use crate::pages::{root, Span};
@@ -104,7 +104,7 @@ pub fn form(text: &str) -> Form<'_> {
 
 fn is_allowed(text: &str) -> bool {
     // the last three are paths on the volume of samples/
-    ALLOWED.contains(&text) || [TITLE, SETTINGS, FONT, LOGO].contains(&text)
+    ALLOWED.contains(&text) || [TITLE, SETTINGS, FONT, LOGO, PICTURE].contains(&text)
 }
 
 /// The code span that follows directly as `of` or `in`: the crate or the file that a name is said to be of.
