@@ -3,19 +3,25 @@
 
 use std::rc::Rc;
 
-use compare::disk::{Disk, FLOPPY};
+use compare::disk::{claim_length, Disk, HIGH_DENSITY};
 use compare::program::Memory;
 use compare::programs::{bytes, file, worked_file, Block, Body, Hunk, Program};
 use compare::rng::Rng;
 use compare::sizes::largest_file;
-use compare::volumes::{chain, full, mixed, Filling, Kind, Order, Plan, Style, Volume};
+use compare::volumes::{chain, full, mixed, nested, Filling, Kind, Order, Plan, Style, Volume};
 use compare::words::{sum, BLOCK_BYTES};
 use compare::{audit, loader, reading};
 use jufferdeeg as rattle;
 
 use crate::older::Older;
 
-const DISK: Disk = Disk::OLD;
+/// A floppy in the old file system, and the same in the Fast File System.
+const FLOPPY: Disk = Disk::OLD;
+const FAST: Disk = Disk::FAST;
+
+/// High-density disks of both.
+const LARGE: Disk = Disk::OLD.with_blocks(HIGH_DENSITY);
+const LARGE_FAST: Disk = Disk::FAST.with_blocks(HIGH_DENSITY);
 
 /// One of several ways to do the same.
 pub struct Side {
@@ -37,40 +43,68 @@ fn style(order: Order) -> Style {
     Style { filling: Filling::Random, order }
 }
 
-fn image(rng: &mut Rng, plan: &Plan) -> Vec<u8> {
-    Volume::new(rng, plan, style(Order::Shuffled)).image
+/// Images of disks with so many blocks, and how many; that number is named.
+pub struct Images {
+    blocks: u32,
+    images: Vec<Vec<u8>>,
 }
 
-/// Images of disks of this kind with no free block.
-pub fn full_images(disk: &Disk, count: usize) -> Vec<Vec<u8>> {
+impl Images {
+    fn one(rng: &mut Rng, plan: &Plan) -> Images {
+        Images { blocks: plan.disk.blocks, images: vec![Volume::new(rng, plan, style(Order::Shuffled)).image] }
+    }
+
+    /// A claim area for them, filled with this.
+    fn claim(&self, fill: u8) -> Vec<u8> {
+        vec![fill; claim_length(self.blocks)]
+    }
+}
+
+/// Images of disks of this size and kind with no free block.
+pub fn full_images(disk: &Disk, count: usize) -> Images {
     let mut rng = Rng::new(1);
     let mut one = || {
         let plan = full(&mut rng, disk);
-        image(&mut rng, &plan)
+        Images::one(&mut rng, &plan).images
     };
-    (0..count).map(|_| one()).collect()
+    Images { blocks: disk.blocks, images: (0..count).flat_map(|_| one()).collect() }
 }
 
 /// An image of which so many blocks are in use, at least 2.
-pub fn filled_image(used: u32) -> Vec<u8> {
+pub fn filled_image(disk: &Disk, used: u32) -> Images {
     let mut rng = Rng::new(2);
-    let plan = mixed(&mut rng, &DISK, used - 2);
-    image(&mut rng, &plan)
+    let plan = mixed(&mut rng, disk, used - 2);
+    Images::one(&mut rng, &plan)
 }
 
 /// An image with so many entries, all on one chain.
-pub fn chain_image(length: u32) -> Vec<u8> {
+pub fn chain_image(disk: &Disk, length: u32) -> Images {
     let mut rng = Rng::new(3);
-    let plan = chain(&mut rng, &DISK, length);
-    image(&mut rng, &plan)
+    let plan = chain(&mut rng, disk, length);
+    Images::one(&mut rng, &plan)
 }
 
-/// The largest file that a disk of this kind can hold, as `big`, and its size.
-pub fn big_file(disk: &Disk, order: Order) -> (Vec<u8>, usize) {
+/// An image with so many directories, each in the one before.
+pub fn nested_image(disk: &Disk, depth: u32) -> Images {
+    let mut rng = Rng::new(6);
+    let plan = nested(&mut rng, disk, depth);
+    Images::one(&mut rng, &plan)
+}
+
+/// An image with one file, `big`, its number of blocks, and the size of the file.
+pub struct Big {
+    blocks: u32,
+    image: Vec<u8>,
+    size: usize,
+}
+
+/// The largest file that a disk of this size and kind can hold.
+pub fn big_file(disk: &Disk, order: Order) -> Big {
     let size = largest_file(disk);
     let mut plan = Plan::new(disk);
     plan.add_named(None, b"big", Kind::File(size));
-    (Volume::new(&mut Rng::new(4), &plan, style(order)).image, size as usize)
+    let image = Volume::new(&mut Rng::new(4), &plan, style(order)).image;
+    Big { blocks: disk.blocks, image, size: size as usize }
 }
 
 /// A program of 8 hunks with 32,768 stored words and so many targets each, its bases, and others.
@@ -102,12 +136,12 @@ pub fn bss_program() -> Vec<u8> {
 }
 
 /// Audits all images, one after the other.
-pub fn audits(name: &str, images: Vec<Vec<u8>>) -> Case {
-    let images = Rc::new(images);
-    for image in images.iter() {
-        let (mut ours, mut theirs) = (vec![0xAA; 1_760], vec![0x55; 1_760]);
-        let answer = rattle::audit(image, &mut ours);
-        let wanted = audit::audit(FLOPPY, image, &mut theirs).expect("a volume");
+pub fn audits(name: &str, images: Images) -> Case {
+    let (blocks, images) = (images.blocks, Rc::new(images));
+    for image in &images.images {
+        let (mut ours, mut theirs) = (images.claim(0xAA), images.claim(0x55));
+        let answer = rattle::audit(blocks, image, &mut ours);
+        let wanted = audit::audit(blocks, image, &mut theirs).expect("a volume");
         let numbers =
             [wanted.directories, wanted.files, wanted.list_blocks, wanted.data_blocks, wanted.used, wanted.free];
         let given =
@@ -116,20 +150,20 @@ pub fn audits(name: &str, images: Vec<Vec<u8>>) -> Case {
         assert_eq!(ours, theirs);
     }
     let (first, second, third) = (images.clone(), images.clone(), images);
-    let (mut ours, mut theirs) = (vec![0; 1_760], vec![0; 1_760]);
+    let (mut ours, mut theirs) = (first.claim(0), first.claim(0));
     let sides = vec![
         side("Rattle", move || {
-            for image in first.iter() {
-                assert_eq!(rattle::audit(image, &mut ours).number, 0);
+            for image in &first.images {
+                assert_eq!(rattle::audit(blocks, image, &mut ours).number, 0);
             }
         }),
         side("Rust", move || {
-            for image in second.iter() {
-                assert!(audit::audit(FLOPPY, image, &mut theirs).is_ok());
+            for image in &second.images {
+                assert!(audit::audit(blocks, image, &mut theirs).is_ok());
             }
         }),
         side("sums alone, in Rust", move || {
-            for image in third.iter() {
+            for image in &third.images {
                 let blocks = image.chunks_exact(BLOCK_BYTES);
                 std::hint::black_box(blocks.map(sum).fold(0, |all, one| all ^ one));
             }
@@ -139,17 +173,17 @@ pub fn audits(name: &str, images: Vec<Vec<u8>>) -> Case {
 }
 
 /// Reads the last bytes of `big`, so many.
-pub fn reads(name: &str, (image, size): (Vec<u8>, usize), count: usize) -> Case {
+pub fn reads(name: &str, Big { blocks, image, size }: Big, count: usize) -> Case {
     let (image, offset) = (Rc::new(image), size - count);
     let (mut ours, mut theirs) = (vec![0; count], vec![0; count]);
-    let answer = rattle::read(&image, b"big", offset, &mut ours);
+    let answer = rattle::read(blocks, &image, b"big", offset, &mut ours);
     assert_eq!((answer.number, answer.count), (0, count));
-    assert_eq!(reading::read(FLOPPY, &image, b"big", offset, &mut theirs), Ok(count));
+    assert_eq!(reading::read(blocks, &image, b"big", offset, &mut theirs), Ok(count));
     assert_eq!(ours, theirs);
     let other = image.clone();
     let sides = vec![
-        side("Rattle", move || assert_eq!(rattle::read(&image, b"big", offset, &mut ours).count, count)),
-        side("Rust", move || assert_eq!(reading::read(FLOPPY, &other, b"big", offset, &mut theirs), Ok(count))),
+        side("Rattle", move || assert_eq!(rattle::read(blocks, &image, b"big", offset, &mut ours).count, count)),
+        side("Rust", move || assert_eq!(reading::read(blocks, &other, b"big", offset, &mut theirs), Ok(count))),
     ];
     Case { name: name.to_string(), sides }
 }
@@ -225,41 +259,95 @@ pub fn moves(name: &str, file: Vec<u8>, old: Vec<u32>, new: Vec<u32>) -> Case {
     Case { name: name.to_string(), sides }
 }
 
+/// What is said of a disk after the name of a call; nothing of a floppy in the old file system.
+fn on(disk: &Disk) -> String {
+    let size = if disk.blocks == HIGH_DENSITY { ", high density" } else { "" };
+    let system = if disk.has_data_words() { "" } else { ", Fast File System" };
+    let names = if disk.is_international() { ", international" } else { "" };
+    format!("{size}{system}{names}")
+}
+
+/// A number with commas, as it stands in the tables.
+fn written(number: usize) -> String {
+    let digits = number.to_string();
+    let place = |(at, digit): (usize, char)| {
+        let comma = (at > 0 && (digits.len() - at).is_multiple_of(3)).then_some(',');
+        comma.into_iter().chain([digit])
+    };
+    digits.chars().enumerate().flat_map(place).collect()
+}
+
+/// Audits of one full image of each size and kind, and of the longest chain and the deepest directories of each size.
+fn audit_cases() -> Vec<Case> {
+    let full = Disk::ALL.iter().map(|disk| {
+        let name = format!("audit of one full image{}", on(disk));
+        audits(&name, full_images(disk, 1))
+    });
+    let chains = [FLOPPY, LARGE].map(|disk| {
+        let entries = disk.chain_limit();
+        let name = format!("audit of one chain of {} entries{}", written(entries as usize), on(&disk));
+        audits(&name, chain_image(&disk, entries))
+    });
+    let depths = [FLOPPY, LARGE].map(|disk| {
+        let depth = disk.chain_limit();
+        let name = format!("audit of {} nested directories{}", written(depth as usize), on(&disk));
+        audits(&name, nested_image(&disk, depth))
+    });
+    full.chain(chains).chain(depths).collect()
+}
+
+/// A read of the whole largest file of a disk, and what it is called.
+fn whole(disk: &Disk, order: Order) -> (String, Big) {
+    let big = big_file(disk, order);
+    let blocks = if order == Order::Rising { "blocks in order" } else { "blocks in any order" };
+    (format!("read of a file of {} bytes{}, {blocks}", written(big.size), on(disk)), big)
+}
+
+/// Reads of the largest file of each size in both file systems, whole and the last byte alone.
+fn read_cases() -> Vec<Case> {
+    let whole_file = |disk: &Disk, order: Order| {
+        let (name, big) = whole(disk, order);
+        let size = big.size;
+        reads(&name, big, size)
+    };
+    let last_byte = |disk: &Disk| {
+        let name = format!("read of its last byte{}, blocks in any order", on(disk));
+        reads(&name, big_file(disk, Order::Shuffled), 1)
+    };
+    let mut all = vec![whole_file(&FLOPPY, Order::Rising)];
+    for disk in [FLOPPY, FAST, LARGE, LARGE_FAST] {
+        all.extend([whole_file(&disk, Order::Shuffled), last_byte(&disk)]);
+    }
+    all
+}
+
 /// The cases of the main table.
 pub fn main_cases() -> Vec<Case> {
     let (file, old, new) = program(4_096);
-    vec![
-        audits("audit of a hundred full images", full_images(&DISK, 100)),
-        audits("audit of one full image", full_images(&DISK, 1)),
-        audits("audit of one full image, international", full_images(&Disk::OLD_INTERNATIONAL, 1)),
-        audits("audit of one full image, Fast File System", full_images(&Disk::FAST, 1)),
-        audits(
-            "audit of one full image, Fast File System, international",
-            full_images(&Disk::FAST_INTERNATIONAL, 1),
-        ),
-        reads("read of a file of 844,728 bytes, blocks in any order", big_file(&DISK, Order::Shuffled), 844_728),
-        reads("read of a file of 844,728 bytes, blocks in order", big_file(&DISK, Order::Rising), 844_728),
-        reads("read of its last byte, blocks in any order", big_file(&DISK, Order::Shuffled), 1),
-        reads(
-            "read of a file of 886,272 bytes, Fast File System, blocks in any order",
-            big_file(&Disk::FAST, Order::Shuffled),
-            886_272,
-        ),
-        reads("read of its last byte, blocks in any order", big_file(&Disk::FAST, Order::Shuffled), 1),
+    let mut all = vec![audits("audit of a hundred full images", full_images(&FLOPPY, 100))];
+    all.extend(audit_cases());
+    all.extend(read_cases());
+    all.extend([
         loads("load of 1 MiB with 32,768 targets", file.clone(), old.clone()),
         moves("move of 1 MiB with 32,768 targets", file, old, new),
         loads("load of 256 KiB with nothing stored", bss_program(), vec![0]),
         loads("load of the manual's program, 148 bytes, room of 1 MiB", worked_file(), vec![0x3000, 0x7000]),
-    ]
+    ]);
+    all
 }
 
-/// A case for counting instructions, by a short name.
+/// A case for counting instructions, by a short name; those of high-density disks begin with `large-`.
 pub fn case_named(name: &str) -> Option<Case> {
     let (file, old, new) = program(4_096);
-    Some(match name {
-        "audit" => audits(name, full_images(&DISK, 1)),
-        "chain" => audits(name, vec![chain_image(1_756)]),
-        "read" => reads(name, big_file(&DISK, Order::Shuffled), 844_728),
+    let (disk, call) = name.strip_prefix("large-").map_or((FLOPPY, name), |call| (LARGE, call));
+    Some(match call {
+        "audit" => audits(name, full_images(&disk, 1)),
+        "chain" => audits(name, chain_image(&disk, disk.chain_limit())),
+        "read" => {
+            let big = big_file(&disk, Order::Shuffled);
+            let size = big.size;
+            reads(name, big, size)
+        }
         "load" => loads(name, file, old),
         "move" => moves(name, file, old, new),
         _ => return None,
@@ -267,77 +355,106 @@ pub fn case_named(name: &str) -> Option<Case> {
 }
 
 /// Audits all images with the present archive and with an older one.
-fn audits_since(name: &str, older: Older, images: Vec<Vec<u8>>) -> Case {
-    let images = Rc::new(images);
-    let (mut before, mut now) = (vec![0xAA; 1_760], vec![0x55; 1_760]);
-    for image in images.iter() {
-        assert_eq!(older.audit(image, &mut before), rattle::audit(image, &mut now));
+fn audits_since(name: &str, older: Older, images: Images) -> Case {
+    let (blocks, images) = (images.blocks, Rc::new(images));
+    let (mut before, mut now) = (images.claim(0xAA), images.claim(0x55));
+    for image in &images.images {
+        assert_eq!(older.audit(blocks, image, &mut before), rattle::audit(blocks, image, &mut now));
         assert_eq!(before, now);
     }
     let same = images.clone();
     let sides = vec![
-        side("now", move || images.iter().for_each(|i| assert_eq!(rattle::audit(i, &mut now).number, 0))),
-        side("before", move || same.iter().for_each(|i| assert_eq!(older.audit(i, &mut before).number, 0))),
+        side("now", move || {
+            images.images.iter().for_each(|i| assert_eq!(rattle::audit(blocks, i, &mut now).number, 0))
+        }),
+        side("before", move || {
+            same.images.iter().for_each(|i| assert_eq!(older.audit(blocks, i, &mut before).number, 0))
+        }),
     ];
     Case { name: name.to_string(), sides }
 }
 
 /// Reads the last bytes of `big`, so many, with the present archive and with an older one.
-fn reads_since(name: &str, older: Older, (image, size): (Vec<u8>, usize), count: usize) -> Case {
+fn reads_since(name: &str, older: Older, Big { blocks, image, size }: Big, count: usize) -> Case {
     let (image, offset) = (Rc::new(image), size - count);
     let (mut before, mut now) = (vec![0; count], vec![0; count]);
-    assert_eq!(older.read(&image, b"big", offset, &mut before), rattle::read(&image, b"big", offset, &mut now));
+    let answer = rattle::read(blocks, &image, b"big", offset, &mut now);
+    assert_eq!(older.read(blocks, &image, b"big", offset, &mut before), answer);
     assert_eq!(before, now);
     let same = image.clone();
     let sides = vec![
-        side("now", move || assert_eq!(rattle::read(&image, b"big", offset, &mut now).count, count)),
-        side("before", move || assert_eq!(older.read(&same, b"big", offset, &mut before).count, count)),
+        side("now", move || assert_eq!(rattle::read(blocks, &image, b"big", offset, &mut now).count, count)),
+        side("before", move || assert_eq!(older.read(blocks, &same, b"big", offset, &mut before).count, count)),
     ];
     Case { name: name.to_string(), sides }
 }
 
-/// The cases that hold the present archive to an older one.
+/// The cases that hold the present archive to an older one. Those of high-density disks are left out where that has
+/// floppies alone.
 pub fn cases_since(older: Older) -> Vec<Case> {
-    let shuffled = || big_file(&DISK, Order::Shuffled);
-    vec![
-        audits_since("audit of a hundred full images", older, full_images(&DISK, 100)),
-        audits_since("audit of one full image", older, full_images(&DISK, 1)),
-        audits_since("audit of one full image, international", older, full_images(&Disk::OLD_INTERNATIONAL, 1)),
-        audits_since("audit of one chain of 1,756 entries", older, vec![chain_image(1_756)]),
-        reads_since("read of a file of 844,728 bytes, blocks in any order", older, shuffled(), 844_728),
-        reads_since(
-            "read of a file of 844,728 bytes, blocks in order",
-            older,
-            big_file(&DISK, Order::Rising),
-            844_728,
-        ),
-        reads_since("read of its last byte, blocks in any order", older, shuffled(), 1),
-    ]
+    let mut all = vec![audits_since("audit of a hundred full images", older, full_images(&FLOPPY, 100))];
+    let disks: &[Disk] = if older.names_blocks() { &[FLOPPY, LARGE] } else { &[FLOPPY] };
+    for disk in disks {
+        for one in [*disk, Disk { kind: Disk::OLD_INTERNATIONAL.kind, ..*disk }] {
+            let name = format!("audit of one full image{}", on(&one));
+            all.push(audits_since(&name, older, full_images(&one, 1)));
+        }
+        let entries = disk.chain_limit();
+        let name = format!("audit of one chain of {} entries{}", written(entries as usize), on(disk));
+        all.push(audits_since(&name, older, chain_image(disk, entries)));
+        for order in [Order::Shuffled, Order::Rising] {
+            let (name, big) = whole(disk, order);
+            let size = big.size;
+            all.push(reads_since(&name, older, big, size));
+        }
+        let name = format!("read of its last byte{}, blocks in any order", on(disk));
+        all.push(reads_since(&name, older, big_file(disk, Order::Shuffled), 1));
+    }
+    all
 }
 
 /// One of them for counting instructions, by a short name.
 pub fn case_since(name: &str, older: Older) -> Option<Case> {
     Some(match name {
-        "audit" => audits_since(name, older, full_images(&DISK, 1)),
-        "chain" => audits_since(name, older, vec![chain_image(1_756)]),
-        "read" => reads_since(name, older, big_file(&DISK, Order::Shuffled), 844_728),
+        "audit" => audits_since(name, older, full_images(&FLOPPY, 1)),
+        "chain" => audits_since(name, older, chain_image(&FLOPPY, FLOPPY.chain_limit())),
+        "read" => {
+            let big = big_file(&FLOPPY, Order::Shuffled);
+            let size = big.size;
+            reads_since(name, older, big, size)
+        }
         _ => return None,
     })
 }
 
-/// The cases of each growing number: what grows, to how much, and the case.
+/// The cases of each growing number: what grows, to how much, and the case. On high-density disks what grows is called
+/// so, and goes on to twice as much.
 pub fn growing() -> Vec<(&'static str, u32, Case)> {
     let mut all = Vec::new();
-    for used in [2, 220, 440, 660, 880, 1_100, 1_320, 1_540, 1_758] {
-        all.push(("used blocks", used, audits("audit", vec![filled_image(used)])));
+    for (what, disk, eighth) in [("used blocks", FLOPPY, 220), ("used blocks, high density", LARGE, 440)] {
+        for used in (1..8).map(|eighths| eighths * eighth).chain([2, disk.bitmap_span()]) {
+            all.push((what, used, audits("audit", filled_image(&disk, used))));
+        }
     }
-    for length in [1, 4, 16, 64, 128, 256, 512, 1_024, 1_756] {
-        all.push(("entries on one chain", length, audits("audit", vec![chain_image(length)])));
+    let lengths = [1, 4, 16, 64, 128, 256, 512, 1_024];
+    for length in lengths.into_iter().chain([FLOPPY.chain_limit()]) {
+        all.push(("entries on one chain", length, audits("audit", chain_image(&FLOPPY, length))));
+    }
+    for length in [1, 64, 512, 1_756, 2_500].into_iter().chain([LARGE.chain_limit()]) {
+        all.push(("entries on one chain, high density", length, audits("audit", chain_image(&LARGE, length))));
     }
     for targets in [0, 512, 1_024, 2_048, 4_096, 8_192, 16_384] {
         let (file, old, new) = program(targets);
         all.push(("targets, load", 8 * targets, loads("load", file.clone(), old.clone())));
         all.push(("targets, move", 8 * targets, moves("move", file, old, new)));
     }
+    all.sort_by_key(|(what, number, _)| (place_of(what), *number));
     all
+}
+
+/// The place of what grows in the list of all of it.
+fn place_of(what: &str) -> usize {
+    let all =
+        ["used blocks", "used blocks, high density", "entries on one chain", "entries on one chain, high density"];
+    all.iter().position(|one| *one == what).unwrap_or(all.len())
 }

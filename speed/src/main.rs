@@ -95,7 +95,9 @@ fn main() {
         ["since", library, "repeat", name, side, times]
             if repeat(cases::case_since(name, Older::load(library)), side, times).is_some() => {}
         _ => {
-            eprintln!("speed time | growth | plot FILE | repeat audit|chain|read|load|move Rattle|Rust TIMES");
+            eprintln!(
+                "speed time | growth | plot FILE | repeat [large-]audit|chain|read|load|move Rattle|Rust TIMES"
+            );
             eprintln!("speed since LIBRARY time | since LIBRARY repeat audit|chain|read now|before TIMES")
         }
     }

@@ -57,7 +57,10 @@ impl Scale {
     }
 }
 
-/// One panel: times over what grows.
+/// What ends the name of a number that grows on high-density disks.
+const LARGE: &str = ", high density";
+
+/// One panel: times over what grows. What grows on high-density disks is drawn in dashes.
 fn panel(title: &str, what: &str, rows: &[&Row], powers: bool, left: f64) -> String {
     let top = 45.0;
     let across = Scale::new(powers, rows.iter().map(|row| row.number), WIDTH);
@@ -75,16 +78,27 @@ fn panel(title: &str, what: &str, rows: &[&Row], powers: bool, left: f64) -> Str
     }
     let below = top + HEIGHT + 34.0;
     svg += &format!("<text x='{}' y='{below}' text-anchor='middle'>{what}</text>\n", left + WIDTH / 2.0);
+    let large = |row: &&&Row| row.what.ends_with(LARGE);
+    let (dashed, plain): (Vec<&Row>, Vec<&Row>) = rows.iter().partition(large);
     for (side, (name, colour)) in [("Rattle", "#1663b0"), ("Rust", "#c4571b")].into_iter().enumerate() {
         let point = |row: &&Row| (left + across.place(row.number), top + HEIGHT - up.place(row.times[side] / 1e3));
-        let points: Vec<String> = rows.iter().map(point).map(|(x, y)| format!("{x:.1},{y:.1}")).collect();
-        svg +=
-            &format!("<polyline points='{}' fill='none' stroke='{colour}' stroke-width='2'/>\n", points.join(" "));
-        for (x, y) in rows.iter().map(point) {
-            svg += &format!("<circle cx='{x:.1}' cy='{y:.1}' r='3' fill='{colour}'/>");
+        for (rows, dashes) in [(&plain, ""), (&dashed, " stroke-dasharray='6 4'")] {
+            if rows.is_empty() {
+                continue;
+            }
+            let points: Vec<String> = rows.iter().map(point).map(|(x, y)| format!("{x:.1},{y:.1}")).collect();
+            let points = points.join(" ");
+            svg +=
+                &format!("<polyline points='{points}' fill='none' stroke='{colour}' stroke-width='2'{dashes}/>\n");
+            for (x, y) in rows.iter().map(point) {
+                svg += &format!("<circle cx='{x:.1}' cy='{y:.1}' r='3' fill='{colour}'/>");
+            }
         }
         let y = top + 18.0 + 16.0 * side as f64;
         svg += &format!("<text x='{}' y='{y}' fill='{colour}'>{name}</text>\n", left + 12.0);
+    }
+    if !dashed.is_empty() {
+        svg += &format!("<text x='{}' y='{}'>dashed: high density</text>\n", left + 12.0, top + 50.0);
     }
     svg
 }
@@ -99,7 +113,8 @@ pub fn plot(text: &str) -> String {
         ("Move of 1 MiB, µs", "targets, move", false),
     ];
     let drawn = panels.iter().enumerate().map(|(index, (title, what, powers))| {
-        let own: Vec<&Row> = rows.iter().filter(|row| row.what == *what).collect();
+        let is_own = |row: &&Row| row.what.strip_suffix(LARGE).unwrap_or(&row.what) == *what;
+        let own: Vec<&Row> = rows.iter().filter(is_own).collect();
         let below = what.split(',').next().unwrap_or(what);
         let (column, line) = ((index % 2) as f64, (index / 2) as f64);
         let inner = panel(title, below, &own, *powers, GAP + column * (WIDTH + GAP));
