@@ -69,13 +69,20 @@ module _ (d : Disk) (s : List ℕ) (n k : ℕ) where
   unfolding pick
   refused-17 = refused-exactly d s n fault.wrongBit k
 
--- Of a call that names b: 1 if and only if no disk fits, and 3 if and only if the image has the boot tag of none.
+-- Of a call that names b: 1 if and only if no disk fits, 2 if and only if one does and the claim area has not a byte
+-- for each of its blocks, and 3 if and only if the image has the boot tag of none.
 module _ (b : ℕ) (s : List ℕ) (n k : ℕ) where
   pub refused-unfit : (auditOf (diskOf b s) s n ≡ refuse fault.imageLength k) ↔ ((k ≡ 0) × Unfit b s)
   refused-unfit =
       let r = refused-1 (diskOf b s) s n k in
       let u = unfit b s in
       (λ e. let (q, l) = r .0 e in (q, u .0 l), λ (q, l). r .1 (q, u .1 l))
+
+  pub refused-short : (auditOf (diskOf b s) s n ≡ refuse fault.claimArea k)
+      ↔ ((k ≡ 0) × Fits b s (diskOf b s) × (n < claimBytes (diskOf b s)))
+  refused-short =
+      let r = refused-2 (diskOf b s) s n k in
+      (λ e. let (q, l, h) = r .0 e in (q, long-fits b s l, h), λ (q, f, h). r .1 (q, f .long, h))
 
   pub refused-tag : (auditOf (diskOf b s) s n ≡ refuse fault.bootTag k)
       ↔ ((k ≡ 0) × Fits b s (diskOf b s) × (claimBytes (diskOf b s) ≤ n) × NoTag s)

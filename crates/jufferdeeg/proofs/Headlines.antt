@@ -131,6 +131,10 @@ module _ (d : Disk) (s : List ℕ) (n : ℕ) where
 pub disk-is : (b : ℕ) (s : List ℕ) (d : Disk) → Fits b s d → wordAt s 0 ≡ tagOf d → diskOf b s ≡ d
 disk-is = disks.disk-is
 
+-- it has as many blocks as any disk that fits
+pub disk-size : (b : ℕ) (s : List ℕ) (d : Disk) → Fits b s d → diskOf b s .blocks ≡ d .blocks
+disk-size = disks.disk-size
+
 -- one statement for all disks: accepted if and only if a volume of a disk that exists and is named; 1 if and only if no
 -- disk fits; 3 if and only if one does and the tag is that of none
 module _ (b : ℕ) (s : List ℕ) (n : ℕ) where
@@ -422,6 +426,12 @@ module _ (b : ℕ) (s : List ℕ) (n : ℕ) (r : AuditNumbers) (claim : List ℕ
   -- 1 if and only if no disk fits
   pub audit-unfit : (k : ℕ) → ((r .number ≡ fault.imageLength) × (r .place ≡ k)) ↔ ((k ≡ 0) × Unfit b s)
   audit-unfit = seen.audit-unfit b s n r claim a
+
+  -- 2 if and only if the disk fits and the claim area has not a byte for each of its blocks
+  pub audit-short : (k : ℕ)
+      → ((r .number ≡ fault.claimArea) × (r .place ≡ k))
+      ↔ ((k ≡ 0) × Fits b s (diskOf b s) × (n < claimBytes (diskOf b s)))
+  audit-short = seen.audit-short b s n r claim a
 
   -- 3 if and only if the disk fits, the claim area is long enough, and the image has the boot tag of no disk
   pub audit-no-tag : (k : ℕ)

@@ -1,6 +1,6 @@
 -- What a C program sees: when the number of an exported call is 0, which numbers there are else, when each of them is
 -- given at which place, and what a refused call leaves. Assumes nothing.
-use Prim.Native.Nat.{ℕ, _*_, _≤_}
+use Prim.Native.Nat.{ℕ, _*_, _≤_, _<_}
 use mathlib.Core.Path.{_≡_, refl, sym, ap, ap₂, _∙_}
 use mathlib.Core.Logic.{_≢_, _↔_, _⊎_, inl, inr, Iff·trans}
 use mathlib.Core.List.{List, [], _∷_}
@@ -104,6 +104,14 @@ module _ (b : ℕ) (s : List ℕ) (n : ℕ) (r : AuditNumbers) (claim′ : List 
   audit-unfit k =
       rw (a .answer) (Iff·trans (audit-says (audit.auditOf (diskOf b s) s n) fault.imageLength k (λ e. omega arith))
       (audit-refusing.refused-unfit b s n k))
+
+  -- 2 if and only if the disk fits and the claim area has not a byte for each of its blocks
+  pub audit-short : (k : ℕ)
+      → ((r .number ≡ fault.claimArea) × (r .place ≡ k))
+      ↔ ((k ≡ 0) × Fits b s (diskOf b s) × (n < claimBytes (diskOf b s)))
+  audit-short k =
+      rw (a .answer) (Iff·trans (audit-says (audit.auditOf (diskOf b s) s n) fault.claimArea k (λ e. omega arith))
+      (audit-refusing.refused-short b s n k))
 
   -- 3 if and only if the disk fits, the claim area is long enough, and the image has the boot tag of no disk
   pub audit-no-tag : (k : ℕ)

@@ -15,7 +15,7 @@ use Rattle.words.specs.Word.{wordAt}
 use Rattle.volume.specs.declared.disk.Disk.{Disk}
 use Rattle.volume.specs.Blocks.{blockBytes}
 use Rattle.volume.specs.Disks.{doubleDensity, highDensity, sizes, Exists, Sized, mostBlocks, imageBytes, tagOf}
-use Rattle.volume.specs.Disks.{anySize, sizeIn, otherSize, sizeFor, kindIn, diskOf, Names, Fits, Unfit, NoTag}
+use Rattle.volume.specs.Disks.{anySize, sizeIn, otherSize, sizeFor, diskOf, Names, Fits, Unfit, NoTag}
 use Rattle.volume.specs.Law.{Volume, IsVolume}
 use Rattle.volume.proofs.Tags.{true-is, kind-known, tag-kind}
 
@@ -103,8 +103,8 @@ module _ (n : ℕ) (s : List ℕ) where
   size-known : sizeFor n s ∈ sizes
   size-known = by-own (λ b. b ∈ sizes) (λ h. own-known s) (other-known (sizeIn s) (own-known s))
 
-  fit-size : (d : Disk) → Fits n s d → sizeFor n s ≡ d .blocks
-  fit-size d f = sym (size-named (named (f .named))) ∙ own
+  pub disk-size : (d : Disk) → Fits n s d → diskOf n s .blocks ≡ d .blocks
+  disk-size d f = sym (size-named (named (f .named))) ∙ own
     where
       own : sizeIn s ≡ d .blocks
       own = own-fits s (d .blocks) (f .exists .size) (f .long)
@@ -141,7 +141,7 @@ module _ (n : ℕ) (s : List ℕ) where
   -- it is not as long as the disk that it is taken for if and only if no disk fits: 1
   pub unfit : (length s ≢ imageBytes (diskOf n s)) ↔ Unfit n s
   unfit = (
-    (λ h d f. h (f .long ∙ ap (λ (b : ℕ). b * blockBytes) (sym (fit-size d f)))),
+    (λ h d f. h (f .long ∙ ap (λ (b : ℕ). b * blockBytes) (sym (disk-size d f)))),
     λ u l. u (diskOf n s) (long-fits l),
   )
 
@@ -154,7 +154,7 @@ module _ (n : ℕ) (s : List ℕ) where
 
   -- an image of a disk that fits, with that disk's boot tag, is taken for it
   pub disk-is : (d : Disk) → Fits n s d → wordAt s 0 ≡ tagOf d → diskOf n s ≡ d
-  disk-is d f t = rw (fit-size d f, tag-kind s d (f .exists .kind) t) refl
+  disk-is d f t = rw (disk-size d f, tag-kind s d (f .exists .kind) t) refl
 
   pub volume-is : Volume (diskOf n s) s ↔ IsVolume n s
   volume-is = (

@@ -1,7 +1,6 @@
 -- The worked cases that docs/FORMAT.md stars hold, all in one statement. Assumes nothing.
 use Prim.Native.Nat.{ℕ}
 use mathlib.Core.Path.{refl}
-use Rattle.answers.specs.Members.{_∈_}
 use Rattle.answers.specs.Tests.{pick}
 use Rattle.answers.proofs.Members.{each-in}
 use Rattle.volume.specs.declared.disk.Disk.{Disk}

@@ -31,8 +31,8 @@ abbrev pub case : Star → List ℕ → Case
 case q a = record { of = q; is = a }
 
 -- sizes of 0, 1, 2, 72 and 73 data blocks: those of 1 and of 72 are full
-abbrev pub sizes : ℕ → ℕ → ℕ → ℕ → List Case
-sizes one two many more =
+abbrev pub sizeCases : ℕ → ℕ → ℕ → ℕ → List Case
+sizeCases one two many more =
     case (size 0) (0 ∷ 0 ∷ 0 ∷ 0 ∷ [])
     ∷ case (size one) (1 ∷ 1 ∷ 0 ∷ 1 ∷ [])
     ∷ case (size two) (2 ∷ 2 ∷ 0 ∷ 2 ∷ [])
@@ -52,7 +52,7 @@ stars d =
     ∷ case (bit 880) (28 ∷ 14 ∷ [])
     ∷ case (bit 1759) (55 ∷ 29 ∷ [])
     ∷ case (bit 3519) (110 ∷ 29 ∷ [])
-    ∷ pick (isOld d) (sizes 488 489 35136 35137) (sizes 512 513 36864 36865)
+    ∷ pick (isOld d) (sizeCases 488 489 35136 35137) (sizeCases 512 513 36864 36865)
 
 -- every case has its answer
 abbrev pub Hold : Disk → List Case → Type 0
