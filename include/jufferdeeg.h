@@ -37,7 +37,7 @@ extern "C" {
 /* The numbers of refusals. In brackets the place: the key of a block, or a key just as it was read; a component of
  * the path, counted from 0; the byte of a word of the program file; an entry of the bases, counted from 0. The root is
  * block 880 of 1,760 blocks, and block 1,760 of 3,520. */
-#define JUFFERDEEG_IMAGE_LENGTH 1     /* [0] the image's length does not fit the number of blocks that is named */
+#define JUFFERDEEG_IMAGE_LENGTH 1     /* [0] no disk that is asked for has the image's length */
 #define JUFFERDEEG_CLAIM_AREA 2       /* [0] the claim area is short */
 #define JUFFERDEEG_BOOT_TAG 3         /* [0] the boot tag is not 44 4F 53 and 00, 01, 02 or 03 */
 #define JUFFERDEEG_ROOT_WORDS 4       /* [root] a word of the root that has one value only is wrong */
@@ -116,7 +116,7 @@ struct jufferdeeg_audit_numbers {
 };
 
 /* Audits an image: with a claim area that is long enough, number is 0 if and only if it is a sound volume of a size
- * that is named and of the kind that its boot tag names, without links.
+ * that is asked for and of the kind that its boot tag names, without links.
  *
  * Lent: the image; a claim area, of a byte or more for each block, whose contents do not matter.
  * Left: accepted, claim byte k is 1 if block k is in use, and every other byte of the claim area is 0; refused, the

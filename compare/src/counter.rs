@@ -26,7 +26,7 @@ pub const BASES: usize = 256;
 pub const SENTENCES: [(u32, &str); 34] = [
     (
         1,
-        "the image's length does not fit the named number of blocks: 901120 bytes are 1760 blocks, 1802240 are 3520",
+        "no disk that is asked for has the image's length: 901120 bytes are 1760 blocks, 1802240 are 3520",
     ),
     (2, "the claim area is too short"),
     (3, "the image does not begin with a boot tag DOS 0 to DOS 3"),

@@ -73,8 +73,7 @@ impl Named {
 }
 
 /// The sentence of refusal 1.
-const UNFIT: &str = "the image's length does not fit the named number of blocks: 901120 bytes are 1760 blocks, \
-                     1802240 are 3520";
+const UNFIT: &str = "no disk that is asked for has the image's length: 901120 bytes are 1760 blocks, 1802240 are 3520";
 
 /// A folder in which the tool is run, and the files in it.
 struct Desk {

@@ -1,4 +1,4 @@
-/* Audits an image: is it a sound volume? */
+/* Audits an image: is it a sound volume of 1,760 blocks? */
 #include <stdio.h>
 
 #include "jufferdeeg.h"
@@ -20,7 +20,7 @@ int main(int argc, char **argv) {
     size_t image_bytes = fread(image, 1, sizeof image, f);
     fclose(f);
     struct jufferdeeg_audit_numbers a =
-        jufferdeeg_audit(JUFFERDEEG_ANY_SIZE, image, image_bytes, claim, sizeof claim);
+        jufferdeeg_audit(JUFFERDEEG_DOUBLE_DENSITY, image, image_bytes, claim, sizeof claim);
     if (a.number == 0) {
         printf("a volume: %u directories, %u files, %u blocks free\n", a.directories, a.files, a.free);
     } else {

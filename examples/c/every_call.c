@@ -57,7 +57,7 @@ static void audit(const char *what, uint32_t disk_blocks, size_t image_bytes) {
 
 static void find(size_t image_bytes, const char *path) {
     struct jufferdeeg_find_numbers f =
-        jufferdeeg_find(JUFFERDEEG_ANY_SIZE, image, image_bytes, (const uint8_t *)path, strlen(path));
+        jufferdeeg_find(JUFFERDEEG_DOUBLE_DENSITY, image, image_bytes, (const uint8_t *)path, strlen(path));
     printf("find \"%s\": number %u, place %zu, kind %X, key %u, size %u, compared %u\n", path, f.number, f.place,
            f.kind, f.key, f.size, f.compared);
 }
@@ -65,8 +65,8 @@ static void find(size_t image_bytes, const char *path) {
 /* Reads into room that is full of AA, and says whether what is after the bytes is so still. */
 static size_t read_file(size_t image_bytes, const char *path, size_t offset) {
     memset(file, 0xAA, sizeof file);
-    struct jufferdeeg_read_numbers r = jufferdeeg_read(JUFFERDEEG_ANY_SIZE, image, image_bytes, (const uint8_t *)path,
-                                                       strlen(path), offset, file, sizeof file);
+    struct jufferdeeg_read_numbers r = jufferdeeg_read(JUFFERDEEG_DOUBLE_DENSITY, image, image_bytes,
+                                                       (const uint8_t *)path, strlen(path), offset, file, sizeof file);
     printf("read \"%s\" from %zu: number %u, place %zu, count %zu; the rest stays: %s\n", path, offset, r.number,
            r.place, r.count, yes_or_no(all_are(file + r.count, sizeof file - r.count, 0xAA)));
     return r.count;
@@ -135,8 +135,8 @@ int main(int argc, char **argv) {
     fclose(f);
 
     memset(claim, 0xAA, sizeof claim);
-    audit("of the image", JUFFERDEEG_ANY_SIZE, image_bytes);
-    audit("that names 1760 blocks", JUFFERDEEG_DOUBLE_DENSITY, image_bytes);
+    audit("of the image", JUFFERDEEG_DOUBLE_DENSITY, image_bytes);
+    audit("that takes either size", JUFFERDEEG_ANY_SIZE, image_bytes);
     audit("that names 3520 blocks", JUFFERDEEG_HIGH_DENSITY, image_bytes);
     audit("of half of it", JUFFERDEEG_ANY_SIZE, image_bytes / 2);
     reason(JUFFERDEEG_IMAGE_LENGTH);

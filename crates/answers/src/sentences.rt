@@ -5,9 +5,9 @@ ghost use lib.ListN.{length};
 ghost use Rattle.answers.specs.Lines.{BeginsLine, EndsLine, copied, PutsLine};
 
 // Line n, from line 0 on, is the sentence of number n. An empty line is for a number that no refusal has.
-pub const SENTENCES: [u8; 1516] = *b"\
+pub const SENTENCES: [u8; 1506] = *b"\
 \n\
-the image's length does not fit the named number of blocks: 901120 bytes are 1760 blocks, 1802240 are 3520\n\
+no disk that is asked for has the image's length: 901120 bytes are 1760 blocks, 1802240 are 3520\n\
 the claim area is too short\n\
 the image does not begin with a boot tag DOS 0 to DOS 3\n\
 a fixed word of the root block is wrong\n\

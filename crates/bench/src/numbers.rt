@@ -30,9 +30,9 @@ fn longer(n: u64, radix: u32, d: u32) -> u64
     n % 68719476736 * radix as u64 + d as u64
 }
 
-// What the digits make, the highest first: at least one, at most so many and at most ten, and below 2^32.
+// What the digits make, the highest first: at least one and at most so many, and below 2^32.
 pub fn number(digits: &[u8], radix: u32, most: usize) -> Parsed
-    requires { ⌜ radix ≤ 16 ⌝ }
+    requires { ⌜ (radix ≤ 16) × (most ≤ 10) ⌝ }
 {
     if digits.len() == 0 {
         return Parsed::None;

@@ -2,7 +2,7 @@
 use crate::build::IMAGE;
 use crate::build::block;
 use crate::build::fill;
-use crate::build::floppy;
+use crate::build::of_kind;
 use console::say;
 use volume::disk::Disk;
 use volume::name;
@@ -10,10 +10,10 @@ use volume::name;
 fn fold(b: u8) {
     say::text(b"folds");
     say::byte(b);
-    say::byte(name::fold(floppy(Disk::OLD), b));
-    say::byte(name::fold(floppy(Disk::FAST), b));
-    say::byte(name::fold(floppy(Disk::OLD_INTERNATIONAL), b));
-    say::byte(name::fold(floppy(Disk::FAST_INTERNATIONAL), b));
+    say::byte(name::fold(of_kind(Disk::OLD), b));
+    say::byte(name::fold(of_kind(Disk::FAST), b));
+    say::byte(name::fold(of_kind(Disk::OLD_INTERNATIONAL), b));
+    say::byte(name::fold(of_kind(Disk::FAST_INTERNATIONAL), b));
     say::end();
 }
 
@@ -39,8 +39,8 @@ fn slot(spelled: &[u8], text: &[u8]) {
     if n <= 255 {
         say::text(b"slots ");
         say::text(spelled);
-        say::number(name::slot(floppy(Disk::OLD), text, 0, n));
-        say::number(name::slot(floppy(Disk::OLD_INTERNATIONAL), text, 0, n));
+        say::number(name::slot(of_kind(Disk::OLD), text, 0, n));
+        say::number(name::slot(of_kind(Disk::OLD_INTERNATIONAL), text, 0, n));
         say::end();
     }
 }
@@ -68,8 +68,8 @@ fn pair(spelled: &[u8], one: &[u8], two: &[u8]) {
     if n == two.len() {
         say::text(b"same ");
         say::text(spelled);
-        say::truth(name::same_bytes(floppy(Disk::OLD), one, 0, two, 0, n));
-        say::truth(name::same_bytes(floppy(Disk::OLD_INTERNATIONAL), one, 0, two, 0, n));
+        say::truth(name::same_bytes(of_kind(Disk::OLD), one, 0, two, 0, n));
+        say::truth(name::same_bytes(of_kind(Disk::OLD_INTERNATIONAL), one, 0, two, 0, n));
         say::end();
     }
 }
@@ -101,6 +101,6 @@ fn names(disk: Disk, image: &[u8; IMAGE]) {
 pub fn in_blocks() {
     let mut image = block(2, &[108, 0x03E974E9]);
     fill(&mut image, 3, &[108, 0x03C954C9]);
-    names(floppy(Disk::OLD), &image);
-    names(floppy(Disk::OLD_INTERNATIONAL), &image);
+    names(of_kind(Disk::OLD), &image);
+    names(of_kind(Disk::OLD_INTERNATIONAL), &image);
 }

@@ -10,8 +10,8 @@ pub const IMAGE: usize = 4096;
 // The word that mends a block's sum.
 const SUM: usize = 5;
 
-// A disk of 880 KB and any kind.
-pub fn floppy(kind: u8) -> Disk {
+// A disk of 1,760 blocks.
+pub fn of_kind(kind: u8) -> Disk {
     Disk {
         blocks: Disk::DOUBLE_DENSITY,
         kind: kind,

@@ -2,7 +2,7 @@
 use crate::build::IMAGE;
 use crate::build::block;
 use crate::build::fill;
-use crate::build::floppy;
+use crate::build::of_kind;
 use console::say;
 use volume::disk::Disk;
 use volume::name;
@@ -12,7 +12,7 @@ fn slot(text: &[u8]) {
     if n <= 255 {
         say::text(b"slot ");
         say::text(text);
-        say::number(name::slot(floppy(Disk::OLD), text, 0, n));
+        say::number(name::slot(of_kind(Disk::OLD), text, 0, n));
         say::end();
     }
 }
@@ -28,17 +28,17 @@ pub fn slots() {
     slot(b"a{b}`~");
     slot(b"abcdefghijklmnopqrstuvwxyz0123");
     say::text(b"slot high");
-    say::number(name::slot(floppy(Disk::OLD), b"\xE0\xC0", 0, 2));
+    say::number(name::slot(of_kind(Disk::OLD), b"\xE0\xC0", 0, 2));
     say::end();
     say::text(b"slot part");
-    say::number(name::slot(floppy(Disk::OLD), b"/MARY/", 1, 4));
+    say::number(name::slot(of_kind(Disk::OLD), b"/MARY/", 1, 4));
     say::end();
 }
 
 fn fold(b: u8) {
     say::text(b"fold");
     say::byte(b);
-    say::byte(name::fold(floppy(Disk::OLD), b));
+    say::byte(name::fold(of_kind(Disk::OLD), b));
     say::end();
 }
 
@@ -81,7 +81,7 @@ fn pair(one: &[u8], two: &[u8]) {
         say::text(one);
         say::text(b" ");
         say::text(two);
-        say::truth(name::same_bytes(floppy(Disk::OLD), one, 0, two, 0, n));
+        say::truth(name::same_bytes(of_kind(Disk::OLD), one, 0, two, 0, n));
         say::end();
     }
 }
@@ -101,7 +101,7 @@ fn has(text: &[u8]) {
     if name::name_length(&image, 2) <= name::LONGEST {
         say::text(b"has ");
         say::text(text);
-        say::truth(name::has_name(floppy(Disk::OLD), &image, 2, text, 0, text.len()));
+        say::truth(name::has_name(of_kind(Disk::OLD), &image, 2, text, 0, text.len()));
         say::end();
     }
 }
@@ -114,7 +114,7 @@ fn named(first: u32, second: u32) {
     say::count(n);
     say::truth(name::name_good(&image, 2));
     if n <= name::LONGEST {
-        say::number(name::slot_of(floppy(Disk::OLD), &image, 2));
+        say::number(name::slot_of(of_kind(Disk::OLD), &image, 2));
     }
     say::end();
 }
@@ -124,7 +124,7 @@ fn same_names(image: &[u8; IMAGE]) {
     if name::name_length(image, 2) <= name::LONGEST {
         if name::name_length(image, 3) <= name::LONGEST {
             say::text(b"same names");
-            say::truth(name::same_names(floppy(Disk::OLD), image, 2, 3));
+            say::truth(name::same_names(of_kind(Disk::OLD), image, 2, 3));
             say::end();
         }
     }

@@ -2,8 +2,8 @@
 use crate::build::IMAGE;
 use crate::build::block;
 use crate::build::fill;
-use crate::build::floppy;
 use crate::build::mend;
+use crate::build::of_kind;
 use console::say;
 use volume::bitmap::Bit;
 use volume::bitmap::is_free;
@@ -169,7 +169,7 @@ fn hold(bytes: u32, n: u32)
     say::text(b"held");
     say::number(bytes);
     say::number(n);
-    say::number(floppy(Disk::OLD).held(bytes, n));
+    say::number(of_kind(Disk::OLD).held(bytes, n));
     say::end();
 }
 
@@ -205,10 +205,10 @@ fn tagged(a: u8, b: u8, c: u8, d: u8) {
     let bytes = [a, b, c, d];
     say::text(b"tagged");
     say::word(words::word(&bytes, 0));
-    say::truth(floppy(Disk::OLD).has_tag(&bytes));
-    say::truth(floppy(Disk::FAST).has_tag(&bytes));
-    say::truth(floppy(Disk::OLD_INTERNATIONAL).has_tag(&bytes));
-    say::truth(floppy(Disk::FAST_INTERNATIONAL).has_tag(&bytes));
+    say::truth(of_kind(Disk::OLD).has_tag(&bytes));
+    say::truth(of_kind(Disk::FAST).has_tag(&bytes));
+    say::truth(of_kind(Disk::OLD_INTERNATIONAL).has_tag(&bytes));
+    say::truth(of_kind(Disk::FAST_INTERNATIONAL).has_tag(&bytes));
     say::number(Disk::of(0, &bytes).kind as u32);
     say::end();
 }
@@ -289,7 +289,7 @@ pub fn disk() {
     say::text(b"place 880 w127");
     say::count(Block::byte(880, 127));
     say::text(b"\ntag");
-    say::word(floppy(Disk::OLD).tag());
+    say::word(of_kind(Disk::OLD).tag());
     say::end();
     tagged(0x44, 0x4F, 0x53, 0x00);
     tagged(0x44, 0x4F, 0x53, 0x01);

@@ -62,7 +62,7 @@ pub const FAST_MEMORY: u32 = 2;
 /// the path, counted from 0; the byte of a word of the program file; an entry of the bases, counted from 0. The root is
 /// block 880 of 1,760 blocks, and block 1,760 of 3,520.
 pub mod fault {
-    /// `[0]` the image's length does not fit the number of blocks that is named.
+    /// `[0]` no disk that is asked for has the image's length.
     pub const IMAGE_LENGTH: u32 = 1;
     /// `[0]` the claim area is short.
     pub const CLAIM_AREA: u32 = 2;
