@@ -13,7 +13,7 @@ use crate::reading::read;
 
 /// The longest image that the tool takes, the longest program file, and the longest argument.
 pub const IMAGE_ROOM: usize = 1_802_240;
-pub const FILE_ROOM: usize = 1_048_576;
+pub const FILE_ROOM: usize = 1_802_240;
 pub const ARGUMENT_ROOM: usize = 4_096;
 
 /// The memory that it lends a program, and as much of a work area.

@@ -3,6 +3,8 @@
 use std::fs::read_to_string;
 use std::mem::{offset_of, size_of};
 
+use compare::disk::{claim_length, image_length, ANY, FLOPPY, HIGH_DENSITY};
+
 fn text(name: &str) -> String {
     let path = format!("{}/../{name}", env!("CARGO_MANIFEST_DIR"));
     read_to_string(&path).unwrap_or_else(|e| panic!("{path}: {e}"))
@@ -169,12 +171,24 @@ fn refusals_have_the_same_numbers() {
     assert_eq!(constants(faults, "pub const ", ": u32 = "), proved);
 }
 
+/// The sizes of disks are those of this package.
+#[test]
+fn sizes_are_the_same() {
+    let sizes = [jufferdeeg::ANY_SIZE, jufferdeeg::DOUBLE_DENSITY, jufferdeeg::HIGH_DENSITY];
+    assert_eq!(sizes, [ANY, FLOPPY, HIGH_DENSITY]);
+    assert_eq!(jufferdeeg::MOST_IMAGE_BYTES, image_length(HIGH_DENSITY));
+    assert_eq!(jufferdeeg::MOST_CLAIM_BYTES, claim_length(HIGH_DENSITY));
+}
+
 #[test]
 fn lengths_and_versions_are_the_same() {
     let c = constants(&text("include/jufferdeeg.h"), "#define JUFFERDEEG_", " ");
     let of = |name: &str| &c.iter().find(|(one, _)| one == name).unwrap_or_else(|| panic!("{name}")).1[..];
-    assert_eq!(of("IMAGE_BYTES"), jufferdeeg::IMAGE_BYTES.to_string());
-    assert_eq!(of("CLAIM_BYTES"), jufferdeeg::CLAIM_BYTES.to_string());
+    assert_eq!(of("ANY_SIZE"), format!("{}u", jufferdeeg::ANY_SIZE));
+    assert_eq!(of("DOUBLE_DENSITY"), format!("{}u", jufferdeeg::DOUBLE_DENSITY));
+    assert_eq!(of("HIGH_DENSITY"), format!("{}u", jufferdeeg::HIGH_DENSITY));
+    assert_eq!(of("MOST_IMAGE_BYTES"), jufferdeeg::MOST_IMAGE_BYTES.to_string());
+    assert_eq!(of("MOST_CLAIM_BYTES"), jufferdeeg::MOST_CLAIM_BYTES.to_string());
     assert_eq!(of("MOST_HUNKS"), jufferdeeg::MOST_HUNKS.to_string());
     assert_eq!(of("MOST_BYTES"), jufferdeeg::MOST_BYTES.to_string());
     assert_eq!(of("REASON_BYTES"), jufferdeeg::REASON_BYTES.to_string());

@@ -416,7 +416,7 @@ const NO_NUMBERS: [&str; 19] = [
 ];
 
 /// What is said of such a text, after the text.
-const NO_NUMBER: &str = " is not a number of blocks (1760, 3520 or any)";
+const NO_NUMBER: &str = " is no number of blocks: name 1760, 3520 or any";
 
 /// The verbs with an image, and what may stand after it in a call; the image is the second word.
 const WITH_IMAGE: [&[&str]; 4] = [
@@ -442,15 +442,12 @@ fn numbers_of_blocks_that_are_none() {
     desk.hold_err(&["find", "-b", &longest, "titles.adf", TITLE], format!("{longest}{NO_NUMBER}"));
 }
 
-/// A number that is not there is said so in one line, which names -b.
+/// A number that is not there is said so before an image is missed.
 #[test]
 fn numbers_of_blocks_that_are_missing() {
     let desk = Desk::with_samples();
     for words in WITH_IMAGE {
-        let said = desk.said(&[words[0], "-b"]);
-        let err = String::from_utf8(said.err).expect("a text");
-        assert!(err.starts_with("bench: ") && err.contains("-b") && err.ends_with('\n'), "{err}");
-        assert_eq!((said.out.len(), err.lines().count(), said.status), (0, 1, UNASKED), "{err}");
+        desk.hold_err(&[words[0], "-b"], "-b needs a number of blocks: name 1760, 3520 or any");
     }
 }
 
@@ -571,7 +568,7 @@ fn files_that_cannot_be_had() {
             let room = if in_image {
                 "1802240 bytes, the room for an image"
             } else {
-                "1048576 bytes, the room for a program file"
+                "1802240 bytes, the room for a program file"
             };
             desk.hold_err(&words, format!("{name}: longer than {room}"));
         }
