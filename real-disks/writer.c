@@ -1,8 +1,9 @@
-/* Copies a folder to a new 880 KB disk, by ADFlib:
-       writer IMAGE LABEL KIND keep|remove|mend FOLDER
-   KIND is the last byte of the boot tag: 0 for the old file system, 1 for the Fast File System, 2 and 3 for the same
-   with accents folded. With remove and mend the files called gone.. leave the disk again before those called late..
-   come, so that blocks do not lie in order. */
+/* Copies a folder to a new disk, by ADFlib:
+       writer IMAGE LABEL BLOCKS KIND keep|remove|mend FOLDER
+   BLOCKS is 1760 or 3520: 80 cylinders of two tracks, with 11 or 22 blocks each. KIND is the last byte of the boot
+   tag: 0 for the old file system, 1 for the Fast File System, 2 and 3 for the same with accents folded. With remove
+   and mend the files called gone.. leave the disk again before those called late.. come, so that blocks do not lie in
+   order. */
 #include <dirent.h>
 #include <stdio.h>
 #include <stdlib.h>
@@ -19,7 +20,7 @@ static void fail(const char *what, const char *name) {
 }
 
 static void put_file(struct Volume *volume, const char *from, char *name) {
-    static unsigned char bytes[1 << 20];
+    static unsigned char bytes[1 << 21];
     FILE *file = fopen(from, "rb");
     if (!file) fail("cannot open", from);
     long n = (long)fread(bytes, 1, sizeof bytes, file);
@@ -72,16 +73,17 @@ static void walk(struct Volume *volume, const char *from, enum pass pass) {
 }
 
 int main(int count, char **words) {
-    if (count != 6) return 2;
+    if (count != 7) return 2;
+    char *how = words[5], *folder = words[6];
     adfEnvInitDefault();
-    struct Device *device = adfCreateDumpDevice(words[1], 80, 2, 11);
-    if (!device || adfCreateFlop(device, words[2], atoi(words[3])) != RC_OK) fail("cannot format", words[1]);
+    struct Device *device = adfCreateDumpDevice(words[1], 80, 2, atoi(words[3]) / 160);
+    if (!device || adfCreateFlop(device, words[2], atoi(words[4])) != RC_OK) fail("cannot format", words[1]);
     struct Volume *volume = adfMount(device, 0, FALSE);
     if (!volume) fail("cannot mount", words[1]);
-    walk(volume, words[5], FIRST);
-    if (!strcmp(words[4], "remove")) walk(volume, words[5], REMOVE);
-    if (!strcmp(words[4], "mend")) walk(volume, words[5], MEND);
-    walk(volume, words[5], LATE);
+    walk(volume, folder, FIRST);
+    if (!strcmp(how, "remove")) walk(volume, folder, REMOVE);
+    if (!strcmp(how, "mend")) walk(volume, folder, MEND);
+    walk(volume, folder, LATE);
     adfUnMount(volume);
     adfUnMountDev(device);
     adfEnvCleanUp();
