@@ -284,7 +284,7 @@ fn claim_areas_above_the_room_and_short_bodies_are_bad() {
 }
 
 /// Lengths of image and claim area on both sides of what is right, and numbers of blocks that are named: each length
-/// with every number that a disk can have, with none and with some others; with good and with bad tags and roots.
+/// with every number that a disk can have, with none and with another; with good and with bad tags and roots.
 fn lengths(who: Who, rng: &mut Rng, disk: &Disk) -> Talk {
     let mut talk = Talk { sent: *disk, ..Talk::new(who) };
     let volume = laid_out(rng, &empty(disk));
@@ -295,13 +295,12 @@ fn lengths(who: Who, rng: &mut Rng, disk: &Disk) -> Talk {
         image.resize(length, 0);
         talk.about(format!("{length} bytes"));
         talk.image(&image);
-        let others: Vec<u32> = (0..3).map(|_| rng.pick(&NO_SIZES)).collect();
-        for named in [ANY, FLOPPY, HIGH_DENSITY].into_iter().chain(others) {
+        for named in [ANY, FLOPPY, HIGH_DENSITY, rng.pick(&NO_SIZES)] {
             talk.about(format!("{length} bytes, {named} blocks named"));
             talk.name(named);
             let enough = settled(named, length).map(claim_length);
-            let some = rng.pick(&short_claims(disk.blocks));
-            for claim in [enough.unwrap_or(1_760) - 1, enough.unwrap_or(3_520), some, CLAIM_ROOM] {
+            let some = rng.pick(&[short_claims(disk.blocks), vec![CLAIM_ROOM, disk.blocks as usize + 1]].concat());
+            for claim in [enough.unwrap_or(1_760) - 1, enough.unwrap_or(3_520), some] {
                 let due = match enough {
                     None => refused(1),
                     Some(enough) if claim < enough => refused(2),
@@ -315,7 +314,7 @@ fn lengths(who: Who, rng: &mut Rng, disk: &Disk) -> Talk {
                 };
                 talk.expect(claim, due);
             }
-            if length >= 4 {
+            if length >= 4 && (enough.is_some() || rng.below(2) == 0) {
                 talk.about(format!("{length} bytes with another boot tag, {named} blocks named"));
                 talk.patched(&[(0, b"KICK".to_vec())], |talk| {
                     let [short, long] = if enough.is_some() { [2, 3] } else { [1, 1] };
@@ -328,17 +327,17 @@ fn lengths(who: Who, rng: &mut Rng, disk: &Disk) -> Talk {
     talk
 }
 
-/// One image that is a floppy if it is cut to a floppy's length, and a high-density disk if it is not.
-fn sizes_in_one(who: Who, rng: &mut Rng) -> Talk {
+/// Images that are floppies if they are cut to a floppy's length, and else such high-density disks.
+fn sizes_in_one(who: Who, rng: &mut Rng, larger: &[Disk]) -> Talk {
     let mut talk = Talk::new(who);
-    for kind in 0..4 {
+    for disk in larger {
         let blocks = rng.pick(&[0, 3, 20, 60]);
-        let both = both_sizes(rng, kind, blocks);
+        let both = both_sizes(rng, disk.kind, blocks);
         for volume in &both {
             talk.about(format!("{:?}, {blocks} blocks in use", volume.disk));
             talk.image(&both[1].image[..volume.image.len()]);
             let enough = talk.enough();
-            for named in [FLOPPY, ANY, HIGH_DENSITY, ANY, rng.pick(&NO_SIZES)] {
+            for named in [FLOPPY, ANY, HIGH_DENSITY, rng.pick(&NO_SIZES)] {
                 let is_right = [ANY, volume.disk.blocks].contains(&named);
                 talk.name(named);
                 talk.expect(enough, if is_right { Ok(volume.report()) } else { refused(1) });
@@ -350,8 +349,7 @@ fn sizes_in_one(who: Who, rng: &mut Rng) -> Talk {
 }
 
 /// Keys around both ends of either size of disk, and around the roots.
-const KEYS: [u32; 17] =
-    [0, 1, 2, 3, 879, 880, 881, 1_757, 1_758, 1_759, 1_760, 1_761, 3_518, 3_519, 3_520, 3_521, u32::MAX];
+const KEYS: [u32; 12] = [0, 1, 2, 880, 1_758, 1_759, 1_760, 1_761, 3_519, 3_520, 3_521, u32::MAX];
 
 /// The block of a volume with one word changed and its sum mended, as a patch.
 fn with_word(volume: &Volume, key: u32, index: usize, value: u32) -> Patch {
@@ -376,7 +374,7 @@ fn limits(who: Who, rng: &mut Rng, disk: &Disk) -> Talk {
     let [file, directory] = [&volume.entries[0], &volume.entries[1]];
     let list = file.lists[0];
     let empty_slot = slot_word(60);
-    for key in KEYS.into_iter().chain([blocks - 2, blocks - 1, blocks, blocks + 1]) {
+    for key in KEYS {
         let is_key = (2..blocks).contains(&key);
         for (what, holder, index) in [
             ("slot", root, empty_slot),
@@ -481,16 +479,27 @@ fn moderate(rng: &mut Rng, disk: &Disk) -> Vec<(String, Volume)> {
     plans.iter().map(|(what, plan)| (named(what), laid_out(rng, plan))).collect()
 }
 
-/// Volumes that fill disks of this size, each of some kind.
-fn large(rng: &mut Rng, blocks: u32) -> Vec<(String, Volume)> {
-    let [one, two, three, four] = [(); 4].map(|()| rng.pick(&Disk::of_blocks(blocks)));
-    let plans = [
-        ("nested throughout", nested(rng, &one, one.chain_limit())),
-        ("one chain", chain(rng, &two, two.chain_limit())),
-        ("the largest file", files(rng, &three, &[largest_file(&three)])),
-        ("full", full(rng, &four)),
-    ];
-    plans.iter().map(|(what, plan)| (format!("{blocks} blocks, {what}"), laid_out(rng, plan))).collect()
+/// How a volume fills its disk.
+#[derive(Clone, Copy, Debug)]
+enum Fill {
+    Nested,
+    OneChain,
+    LargestFile,
+    Mixed,
+}
+
+const FILLS: [Fill; 4] = [Fill::Nested, Fill::OneChain, Fill::LargestFile, Fill::Mixed];
+
+/// A volume that fills its disk, which is of this size and of some kind.
+fn large(rng: &mut Rng, blocks: u32, fill: Fill) -> (String, Volume) {
+    let disk = &rng.pick(&Disk::of_blocks(blocks));
+    let plan = match fill {
+        Fill::Nested => nested(rng, disk, disk.chain_limit()),
+        Fill::OneChain => chain(rng, disk, disk.chain_limit()),
+        Fill::LargestFile => files(rng, disk, &[largest_file(disk)]),
+        Fill::Mixed => full(rng, disk),
+    };
+    (format!("{blocks} blocks, {fill:?}"), laid_out(rng, &plan))
 }
 
 /// The largest file of a disk, with more than it can hold: a header may state as many data blocks as there are besides
@@ -549,10 +558,10 @@ fn other_kinds(talk: &mut Talk, what: &str, volume: &Volume) {
 }
 
 /// Small volumes of each kind under the tags of all others: good there, or with so many double names, or with a file
-/// that has other blocks or other words there. On disks of this size, in so many rounds.
-fn tagged_anew(who: Who, rng: &mut Rng, blocks: u32, rounds: u32) -> Talk {
+/// that has other blocks or other words there. On these disks, in so many rounds.
+fn tagged_anew(who: Who, rng: &mut Rng, disks: &[Disk], rounds: u32) -> Talk {
     let mut talk = Talk::new(who);
-    for disk in &Disk::of_blocks(blocks) {
+    for disk in disks {
         for round in 0..rounds {
             let pairs = if disk.is_international() { 0 } else { round % 4 };
             // one block in both file systems, or two in the old one; with a list block in one or in both
@@ -963,27 +972,40 @@ fn block_sums() {
     }
 }
 
-/// All requests of the great comparison, as the seed draws them.
-fn talks(who: Who, seed: u64) -> Vec<Talk> {
+/// The high-density disks of all kinds.
+fn all_larger() -> [Disk; 4] {
+    Disk::of_blocks(HIGH_DENSITY)
+}
+
+/// One of something for each seed, in turn.
+fn in_turn<T: Copy>(all: &[T], seed: u64) -> T {
+    all[seed as usize % all.len()]
+}
+
+/// All requests of the great comparison, as the seed draws them: about floppies of all kinds, and about these
+/// high-density disks, which are filled in these ways.
+fn talks(who: Who, seed: u64, larger: &[Disk], fills: &[Fill]) -> Vec<Talk> {
     let mut rng = Rng::new(seed);
     let rng = &mut rng;
+    let one_floppy = in_turn(&Disk::FLOPPIES, seed);
+    let one_larger = in_turn(larger, seed / 4);
     let mut talks = vec![
-        tagged_anew(who, rng, FLOPPY, 24),
-        tagged_anew(who, rng, HIGH_DENSITY, 3),
-        sizes_in_one(who, rng),
-        // the kinds take turns with the seed
-        lengths(who, rng, &Disk::of_blocks(HIGH_DENSITY)[seed as usize % 4]),
-        largest_size(who, rng, &Disk::of_blocks(FLOPPY)[seed as usize % 4]),
-        largest_size(who, rng, &Disk::of_blocks(HIGH_DENSITY)[(seed as usize + 1) % 4]),
+        tagged_anew(who, rng, &Disk::FLOPPIES, 24),
+        tagged_anew(who, rng, larger, 3),
+        sizes_in_one(who, rng, larger),
+        lengths(who, rng, &one_larger),
+        largest_size(who, rng, &one_floppy),
+        largest_size(who, rng, &one_larger),
     ];
-    for disk in &Disk::ALL {
-        let is_floppy = disk.blocks == FLOPPY;
-        if is_floppy {
-            talks.push(lengths(who, rng, disk));
-        }
-        talks.push(limits(who, rng, disk));
+    talks.extend(Disk::FLOPPIES.iter().map(|disk| lengths(who, rng, disk)));
+    // as many floppies as larger disks, in turn
+    let floppies = (0..larger.len()).map(|after| in_turn(&Disk::FLOPPIES, seed + after as u64));
+    for disk in floppies.chain(larger.iter().copied()) {
+        talks.push(limits(who, rng, &disk));
+    }
+    for disk in Disk::FLOPPIES.iter().chain(larger) {
         talks.push(sizes(who, rng, disk));
-        let (scratches, chance, most) = if is_floppy { (16, 80, 10) } else { (12, 60, 3) };
+        let (scratches, chance, most) = if disk.blocks == FLOPPY { (16, 80, 10) } else { (12, 50, 2) };
         let mut talk = Talk::new(who);
         for (what, volume) in moderate(rng, disk) {
             as_is(&mut talk, rng, &what, &volume, scratches);
@@ -995,18 +1017,19 @@ fn talks(who: Who, seed: u64) -> Vec<Talk> {
         talks.push(talk);
     }
     let mut talk = Talk::new(who);
-    for (what, volume) in large(rng, FLOPPY) {
+    for fill in FILLS {
+        let (what, volume) = large(rng, FLOPPY, fill);
         as_is(&mut talk, rng, &what, &volume, 3);
         other_kinds(&mut talk, &what, &volume);
         harms(&mut talk, rng, &what, &volume, 10);
     }
-    // these take long, the chain most of all
-    for (what, volume) in large(rng, HIGH_DENSITY) {
+    for &fill in fills {
+        let (what, volume) = large(rng, HIGH_DENSITY, fill);
         as_is(&mut talk, rng, &what, &volume, 0);
-        if volume.entries.last().is_some_and(|entry| entry.place() + 1 == volume.disk.chain_limit()) {
-            longest_chain(&mut talk, &what, &volume);
-        } else {
-            harms(&mut talk, rng, &what, &volume, 2);
+        match fill {
+            // it takes longest
+            Fill::OneChain => longest_chain(&mut talk, &what, &volume),
+            _ => harms(&mut talk, rng, &what, &volume, 2),
         }
     }
     talks.push(talk);
@@ -1047,16 +1070,17 @@ fn of_disk(answers: &BTreeMap<Answer, usize>, disk: Disk) -> BTreeMap<u32, usize
 }
 
 /// Enough of everything is asked: of each kind of floppy at least 2,000 audits, each number at least 20 times; of each
-/// kind of high-density disk a few hundred, each number at least 4 times. Where data blocks have no words, 15 is never
-/// due.
-fn are_enough(talks: &[Talk]) {
+/// of these high-density disks a few hundred, each number at least 3 times. Where data blocks have no words, 15 is
+/// never due.
+fn are_enough(talks: &[Talk], larger: &[Disk]) {
+    let disks = || Disk::FLOPPIES.into_iter().chain(larger.iter().copied());
     let audits = sum(talks, |tally| &tally.audits);
     let unnamed = sum(talks, |tally| &tally.unnamed);
-    for disk in Disk::ALL {
+    for disk in disks() {
         let by_number = of_disk(&audits, disk);
         let total: usize = by_number.values().sum();
         println!("{disk:?}: {total} audits, by number: {by_number:?}");
-        let (least, accepted, times) = if disk.blocks == FLOPPY { (2_000, 150, 20) } else { (700, 50, 4) };
+        let (least, accepted, times) = if disk.blocks == FLOPPY { (2_000, 150, 20) } else { (500, 40, 3) };
         assert!(total >= least, "{total} audits of {disk:?}");
         let wanted = (0..18).filter(|&number| number != 15 || disk.has_data_words());
         assert!(by_number.keys().copied().eq(wanted), "other numbers for {disk:?}: {by_number:?}");
@@ -1071,15 +1095,15 @@ fn are_enough(talks: &[Talk]) {
     }
     let allowed = sum(talks, |tally| &tally.allowed);
     println!("no harm in the Fast File System, by disk and number due elsewhere: {allowed:?}");
-    let fast = Disk::ALL.into_iter().filter(|disk| !disk.has_data_words());
-    let wanted = fast.flat_map(|disk| [7, 8, 14, 15].map(|number| (disk, number)));
-    assert!(allowed.keys().copied().eq(wanted), "{allowed:?}");
+    let fast = disks().filter(|disk| !disk.has_data_words());
+    let wanted: Vec<Answer> = fast.flat_map(|disk| [7, 8, 14, 15].map(|number| (disk, number))).collect();
+    assert!(allowed.keys().eq(&wanted), "{allowed:?}");
     let is_often = |disk: &Disk, times: usize| times >= if disk.blocks == FLOPPY { 5 } else { 2 };
     assert!(allowed.iter().all(|((disk, _), &times)| is_often(disk, times)), "{allowed:?}");
 
     let retagged = sum(talks, |tally| &tally.retagged);
     println!("under another tag, by disk, that disk and number: {retagged:?}");
-    let pairs = Disk::ALL.into_iter().flat_map(|from| from.others().map(move |to| (from, to)));
+    let pairs = disks().flat_map(|from| from.others().map(move |to| (from, to)));
     for (from, to) in pairs {
         let wanted = numbers_of_tags(&from, &to);
         let all = retagged.keys().filter(|&&(disk, (other, _))| (disk, other) == (from, to));
@@ -1094,19 +1118,23 @@ fn are_enough(talks: &[Talk]) {
 /// The two opinions agree on all that is asked, and with what is known beforehand; no one else is needed for that.
 #[test]
 fn both_opinions_agree() {
-    are_enough(&talks(Who::Nobody, 92));
+    are_enough(&talks(Who::Nobody, 92, &all_larger(), &FILLS), &all_larger());
 }
 
 /// `probe` and the exported functions agree too.
 #[test]
 fn volumes_good_and_bad() {
-    let talks = talks(Who::Both, 92);
-    are_enough(&talks);
+    let talks = talks(Who::Both, 92, &all_larger(), &FILLS);
+    are_enough(&talks, &all_larger());
     talks.into_iter().for_each(Talk::run);
 }
 
-/// The exported functions are fast, and are asked ten times as much.
+/// The exported functions are fast, and are asked ten times as much. High-density disks of the four kinds take turns,
+/// and so do the ways to fill one.
 #[test]
 fn volumes_for_the_exported_functions() {
-    with_seeds(900, 10, |seed| are_enough(&talks(Who::Exports, seed)));
+    with_seeds(900, 10, |seed| {
+        let larger = [in_turn(&all_larger(), seed)];
+        are_enough(&talks(Who::Exports, seed, &larger, &[in_turn(&FILLS, seed)]), &larger);
+    });
 }

@@ -373,30 +373,44 @@ fn moderate(rng: &mut Rng, disk: &Disk) -> Vec<(String, Volume)> {
     volumes.into_iter().map(named).collect()
 }
 
-/// Volumes that fill disks of this size, each of some kind.
-fn large(rng: &mut Rng, blocks: u32) -> Vec<(String, Volume)> {
-    let [one, two, three, four] = [(); 4].map(|()| rng.pick(&Disk::of_blocks(blocks)));
-    let plans = [
-        ("nested throughout", nested(rng, &one, one.chain_limit())),
-        ("one chain", chain(rng, &two, two.chain_limit())),
-        ("the largest file", files(rng, &three, &[largest_file(&three)])),
-        ("full", full(rng, &four)),
-    ];
-    plans.iter().map(|(what, plan)| (format!("{blocks} blocks, {what}"), laid_out(rng, plan))).collect()
+/// How a volume fills its disk.
+#[derive(Clone, Copy, Debug)]
+enum Fill {
+    Nested,
+    OneChain,
+    LargestFile,
+    Mixed,
 }
 
-/// All entries of all volumes, by their paths.
+const FILLS: [Fill; 4] = [Fill::Nested, Fill::OneChain, Fill::LargestFile, Fill::Mixed];
+
+/// A volume that fills its disk, which is of this size and of some kind.
+fn large(rng: &mut Rng, blocks: u32, fill: Fill) -> (String, Volume) {
+    let disk = &rng.pick(&Disk::of_blocks(blocks));
+    let plan = match fill {
+        Fill::Nested => nested(rng, disk, disk.chain_limit()),
+        Fill::OneChain => chain(rng, disk, disk.chain_limit()),
+        Fill::LargestFile => files(rng, disk, &[largest_file(disk)]),
+        Fill::Mixed => full(rng, disk),
+    };
+    (format!("{blocks} blocks, {fill:?}"), laid_out(rng, &plan))
+}
+
+/// All entries of all volumes, by their paths; of those that fill a high-density disk one in ten, and the last.
 #[test]
 fn every_entry_is_found_and_every_file_read() {
     let mut rng = Rng::new(142);
     let (mut found, mut out_of_reach, mut bytes) = (0, 0, 0);
     let mut volumes: Vec<(String, Volume)> = Disk::ALL.iter().flat_map(|disk| moderate(&mut rng, disk)).collect();
-    volumes.extend(large(&mut rng, FLOPPY));
-    volumes.extend(large(&mut rng, HIGH_DENSITY));
+    for blocks in [FLOPPY, HIGH_DENSITY] {
+        volumes.extend(FILLS.map(|fill| large(&mut rng, blocks, fill)));
+    }
     for (what, volume) in &volumes {
         let named = rng.pick(&[volume.disk.blocks, ANY]);
         let paths = Paths::new(volume);
-        for (number, entry) in volume.entries.iter().enumerate() {
+        let count = volume.entries.len();
+        let is_asked = |number: usize| count < 1_800 || number % 10 == 0 || number + 1 == count;
+        for (number, entry) in volume.entries.iter().enumerate().filter(|&(number, _)| is_asked(number)) {
             let Question { path, due, .. } = paths.existing(&mut rng, number);
             let answer = find(named, &volume.image, &path);
             assert_eq!(answer, due, "{what}: {path:?}");
@@ -420,7 +434,7 @@ fn every_entry_is_found_and_every_file_read() {
             bytes += size;
         }
     }
-    assert!(found > 6_000 && out_of_reach > 4_000 && bytes > 5_000_000, "{found} {out_of_reach} {bytes}");
+    assert!(found > 3_000 && out_of_reach > 1_500 && bytes > 4_000_000, "{found} {out_of_reach} {bytes}");
 }
 
 /// Images of every length with every number of blocks that may be named, and with some that may not, and good images
@@ -436,11 +450,11 @@ fn lengths(who: Who, rng: &mut Rng, disk: &Disk) -> Talk {
         let mut image = volume.image.clone();
         image.resize(length, 0);
         talk.image(&image);
-        for named in [ANY, FLOPPY, HIGH_DENSITY, rng.pick(&NO_SIZES), rng.pick(&NO_SIZES)] {
+        for named in [ANY, FLOPPY, HIGH_DENSITY, rng.pick(&NO_SIZES)] {
             talk.about(format!("{length} bytes, {named} blocks named"));
             talk.name(named);
             let is_settled = settled(named, length).is_some();
-            for path in all.into_iter().filter(|_| !is_settled) {
+            for path in [rng.pick(&all), rng.pick(&all)].into_iter().filter(|_| !is_settled) {
                 talk.expect_find(path, Err(Refusal::at(1, 0)));
                 talk.expect_refused(path, 0, 9, Refusal::at(1, 0));
             }
@@ -464,11 +478,11 @@ fn lengths(who: Who, rng: &mut Rng, disk: &Disk) -> Talk {
     talk
 }
 
-/// One image that is a floppy if it is cut to a floppy's length, and a high-density disk if it is not.
-fn sizes_in_one(who: Who, rng: &mut Rng) -> Talk {
+/// Images that are floppies if they are cut to a floppy's length, and else such high-density disks.
+fn sizes_in_one(who: Who, rng: &mut Rng, larger: &[Disk]) -> Talk {
     let mut talk = Talk::new(who);
-    for kind in 0..4 {
-        let both = both_sizes(rng, kind, 25);
+    for disk in larger {
+        let both = both_sizes(rng, disk.kind, 25);
         for volume in &both {
             talk.about(format!("{:?} in one image with the other size", volume.disk));
             talk.image(&both[1].image[..volume.image.len()]);
@@ -1386,31 +1400,44 @@ fn bytes_as_names(who: Who, rng: &mut Rng, disk: &Disk) -> Talk {
     talk
 }
 
-/// All requests of the great comparison, as the seed draws them.
-fn talks(who: Who, seed: u64) -> Vec<Talk> {
+/// The high-density disks of all kinds.
+fn all_larger() -> [Disk; 4] {
+    Disk::of_blocks(HIGH_DENSITY)
+}
+
+/// One of something for each seed, in turn.
+fn in_turn<T: Copy>(all: &[T], seed: u64) -> T {
+    all[seed as usize % all.len()]
+}
+
+/// All requests of the great comparison, as the seed draws them: about floppies of all kinds, and about these
+/// high-density disks, which are filled in these ways.
+fn talks(who: Who, seed: u64, larger: &[Disk], fills: &[Fill]) -> Vec<Talk> {
     let mut rng = Rng::new(seed);
     let rng = &mut rng;
-    let of_each = [lengths, bytes_as_names, boundaries, keys];
+    let of_each = [lengths, bytes_as_names, boundaries];
     let of_some = [long_paths, ends, every_word, in_the_middle, two_faults, longest_chain, two_long_chains];
-    let mut talks = vec![sizes_in_one(who, rng)];
-    let turn = seed as usize;
+    let mut talks = vec![sizes_in_one(who, rng, larger)];
     for (number, make) in of_some.into_iter().enumerate() {
         // each in turn on a disk of another kind, so that ten seeds have all of them
-        talks.push(make(who, rng, &Disk::FLOPPIES[(turn + number) % 4]));
+        talks.push(make(who, rng, &in_turn(&Disk::FLOPPIES, seed + number as u64)));
     }
-    // of larger disks a few take turns
-    let larger = Disk::of_blocks(HIGH_DENSITY);
-    for (number, make) in [lengths, boundaries, longest_chain, of_some[turn % 7]].into_iter().enumerate() {
-        talks.push(make(who, rng, &larger[(turn + number) % 4]));
+    // of larger disks some take turns, and one of those after them
+    for (number, make) in [in_turn(&of_some, seed), lengths, boundaries, longest_chain].into_iter().enumerate() {
+        talks.push(make(who, rng, &in_turn(larger, seed / 4 + number as u64)));
     }
-    talks.extend(larger.iter().map(|disk| keys(who, rng, disk)));
-    for disk in &Disk::ALL {
+    // as many floppies as larger disks, in turn
+    let floppies = (0..larger.len()).map(|after| in_turn(&Disk::FLOPPIES, seed + after as u64));
+    for disk in floppies.chain(larger.iter().copied()) {
+        talks.push(keys(who, rng, &disk));
+    }
+    for disk in Disk::FLOPPIES.iter().chain(larger) {
         let is_floppy = disk.blocks == FLOPPY;
         talks.extend(of_each.into_iter().filter(|_| is_floppy).map(|make| make(who, rng, disk)));
         let mut talk = Talk::new(who);
         for (what, volume) in moderate(rng, disk) {
             let [asked, others, chance, times, around] =
-                if is_floppy { [24, 8, 80, 40, 2] } else { [8, 3, 40, 12, 1] };
+                if is_floppy { [24, 8, 80, 40, 2] } else { [8, 3, 50, 12, 1] };
             as_is(&mut talk, rng, &what, &volume, asked);
             other_kinds(&mut talk, rng, &what, &volume, others);
             harms(&mut talk, rng, &what, &volume, chance as u64);
@@ -1421,13 +1448,15 @@ fn talks(who: Who, seed: u64) -> Vec<Talk> {
         talks.push(talk);
     }
     let mut talk = Talk::new(who);
-    for (what, volume) in large(rng, FLOPPY) {
+    for fill in FILLS {
+        let (what, volume) = large(rng, FLOPPY, fill);
         as_is(&mut talk, rng, &what, &volume, 8);
         other_kinds(&mut talk, rng, &what, &volume, 4);
         harms(&mut talk, rng, &what, &volume, 8);
         scratches(&mut talk, rng, &what, &volume, 5);
     }
-    for (what, volume) in large(rng, HIGH_DENSITY) {
+    for &fill in fills {
+        let (what, volume) = large(rng, HIGH_DENSITY, fill);
         as_is(&mut talk, rng, &what, &volume, 3);
         harms(&mut talk, rng, &what, &volume, 2);
         scratches(&mut talk, rng, &what, &volume, 1);
@@ -1463,8 +1492,9 @@ fn hold_answers(what: &str, answers: &BTreeMap<Answer, usize>, disk: Disk, numbe
     of_disk.values().sum()
 }
 
-/// Enough of everything is asked: at least 20,000 calls on floppies, and of each call and each disk every number.
-fn are_enough(talks: &[Talk]) {
+/// Enough of everything is asked: at least 20,000 calls on floppies, and of each call every number for each of these
+/// and for each of these high-density disks.
+fn are_enough(talks: &[Talk], larger: &[Disk]) {
     let [finds, reads] = [sum(talks, |tally| &tally.finds), sum(talks, |tally| &tally.reads)];
     let unnamed = sum(talks, |tally| &tally.unnamed);
     let of_disk = |disk: &Disk| {
@@ -1479,20 +1509,20 @@ fn are_enough(talks: &[Talk]) {
         calls
     };
     let calls: usize = Disk::FLOPPIES.iter().map(of_disk).sum();
-    let larger: usize = Disk::of_blocks(HIGH_DENSITY).iter().map(of_disk).sum();
+    let on_larger: usize = larger.iter().map(of_disk).sum();
     let total = |of: fn(&Tally) -> usize| talks.iter().map(|talk| of(&talk.tally)).sum::<usize>();
     let [far, known, told] = [total(|tally| tally.far), total(|tally| tally.known), total(|tally| tally.told)];
-    println!("{calls} calls on floppies and {larger} on larger disks, {far} far");
+    println!("{calls} calls on floppies and {on_larger} on larger disks, {far} far");
     println!("{known} answers known beforehand, {told} of them told by a harm");
     assert!(known >= 10_000 && told >= 1_000, "{known} known, {told} told");
-    assert!(calls >= 20_000 && larger >= 3_000, "{calls} calls and {larger}");
+    assert!(calls >= 20_000 && on_larger >= 500 * larger.len(), "{calls} calls and {on_larger}");
     assert!(far >= 1_000, "{far} reads from far offsets");
     let retagged = sum(talks, |tally| &tally.retagged);
     println!("lookups under another tag, by disk and number: {retagged:?}");
     for number in [0, 12, 19] {
         let times = |disk: Disk| retagged.get(&(disk, number)).copied().unwrap_or(0);
-        let larger: usize = Disk::of_blocks(HIGH_DENSITY).map(times).iter().sum();
-        assert!(Disk::FLOPPIES.into_iter().all(|disk| times(disk) >= 20) && larger >= 20, "{retagged:?}");
+        let on_larger: usize = larger.iter().copied().map(times).sum();
+        assert!(Disk::FLOPPIES.into_iter().all(|disk| times(disk) >= 20) && on_larger > 0, "{retagged:?}");
     }
     // where the file system is the same, so are the files; else some are too, but for their bytes
     let reread = sum(talks, |tally| &tally.reread);
@@ -1516,19 +1546,23 @@ fn are_enough(talks: &[Talk]) {
 /// All that is known beforehand is answered so; no one else is needed for that.
 #[test]
 fn answers_known_beforehand() {
-    are_enough(&talks(Who::Nobody, 143));
+    are_enough(&talks(Who::Nobody, 143, &all_larger(), &FILLS), &all_larger());
 }
 
 /// `probe` and the exported functions agree.
 #[test]
 fn paths_and_files_good_and_bad() {
-    let talks = talks(Who::Both, 143);
-    are_enough(&talks);
+    let talks = talks(Who::Both, 143, &all_larger(), &FILLS);
+    are_enough(&talks, &all_larger());
     talks.into_iter().for_each(Talk::run);
 }
 
-/// The exported functions are fast, and are asked ten times as much.
+/// The exported functions are fast, and are asked ten times as much. High-density disks of the four kinds take turns,
+/// and so do the ways to fill one.
 #[test]
 fn paths_and_files_for_the_exported_functions() {
-    with_seeds(1_400, 10, |seed| are_enough(&talks(Who::Exports, seed)));
+    with_seeds(1_400, 10, |seed| {
+        let larger = [in_turn(&all_larger(), seed)];
+        are_enough(&talks(Who::Exports, seed, &larger, &[in_turn(&FILLS, seed)]), &larger);
+    });
 }
