@@ -325,9 +325,12 @@ fn any_read(rng: &mut Rng, disk: &Disk, path: &[u8]) -> Asked {
 /// A number of blocks to name for such a disk: mostly its own, or none.
 fn any_named(rng: &mut Rng, disk: &Disk) -> u32 {
     let wrong = rng.pick(&NO_SIZES);
-    let other = disk.other_sizes().next().map_or(wrong, |other| other.blocks);
-    let right = rng.pick(&[disk.blocks, disk.blocks, ANY]);
-    rng.pick(&[right, right, right, right, right, right, right, right, right, right, other, wrong])
+    match rng.below(24) {
+        0 => disk.other_sizes().next().map_or(wrong, |other| other.blocks),
+        1 => wrong,
+        2..9 => ANY,
+        _ => disk.blocks,
+    }
 }
 
 /// A claim area for such a disk: mostly long enough for it.
