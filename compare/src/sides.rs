@@ -62,6 +62,11 @@ impl Sides {
     }
 }
 
+/// One of several things for each seed, in turn.
+pub fn in_turn<T: Copy>(all: &[T], seed: u64) -> T {
+    all[(seed % all.len() as u64) as usize]
+}
+
 /// Does this with so many seeds from the first one on, in as many threads as there are processors.
 pub fn with_seeds(first: u64, count: u64, run: impl Fn(u64) + Sync) {
     let next = AtomicU64::new(first);
@@ -119,6 +124,7 @@ mod tests {
 
     #[test]
     fn every_seed_has_its_turn_and_a_failure_is_one() {
+        assert_eq!([0, 5, 6, 7, u64::MAX].map(|seed| in_turn(b"abc", seed)), *b"acaba");
         let sum = AtomicU64::new(0);
         with_seeds(5, 10, |seed| _ = sum.fetch_add(1 << (4 * (seed - 5)), Ordering::Relaxed));
         assert_eq!(sum.into_inner(), 0x11_1111_1111);

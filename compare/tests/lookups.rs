@@ -21,12 +21,12 @@ use compare::paths::{bad_forms, far_offsets, telling_offsets, telling_rooms, unf
 use compare::program::Refusal;
 use compare::reading::read;
 use compare::rng::Rng;
-use compare::sides::{with_seeds, Who};
+use compare::sides::{in_turn, with_seeds, Who};
 use compare::sizes::largest_file;
 use compare::talk;
 use compare::volumes::{
-    any_name, any_style, both_sizes, chain, empty, every_byte, files, full, lookalike, mixed, nested, recased,
-    shuffle, telling_sizes, Entry, Filling, Kind, Order, Part, Plan, Style, Volume,
+    any_name, any_style, both_sizes, chain, empty, every_byte, files, filled, lookalike, mixed, nested, recased,
+    shuffle, telling_sizes, Entry, Fill, Filling, Kind, Order, Part, Plan, Style, Volume, FILLS,
 };
 use compare::words::{key_word, mend, put, slot_word, word, BLOCK_BYTES, BLOCK_WORDS, TABLE};
 
@@ -373,26 +373,10 @@ fn moderate(rng: &mut Rng, disk: &Disk) -> Vec<(String, Volume)> {
     volumes.into_iter().map(named).collect()
 }
 
-/// How a volume fills its disk.
-#[derive(Clone, Copy, Debug)]
-enum Fill {
-    Nested,
-    OneChain,
-    LargestFile,
-    Mixed,
-}
-
-const FILLS: [Fill; 4] = [Fill::Nested, Fill::OneChain, Fill::LargestFile, Fill::Mixed];
-
 /// A volume that fills its disk, which is of this size and of some kind.
 fn large(rng: &mut Rng, blocks: u32, fill: Fill) -> (String, Volume) {
-    let disk = &rng.pick(&Disk::of_blocks(blocks));
-    let plan = match fill {
-        Fill::Nested => nested(rng, disk, disk.chain_limit()),
-        Fill::OneChain => chain(rng, disk, disk.chain_limit()),
-        Fill::LargestFile => files(rng, disk, &[largest_file(disk)]),
-        Fill::Mixed => full(rng, disk),
-    };
+    let disk = rng.pick(&Disk::of_blocks(blocks));
+    let plan = filled(rng, &disk, fill);
     (format!("{blocks} blocks, {fill:?}"), laid_out(rng, &plan))
 }
 
@@ -1400,16 +1384,6 @@ fn bytes_as_names(who: Who, rng: &mut Rng, disk: &Disk) -> Talk {
     talk
 }
 
-/// The high-density disks of all kinds.
-fn all_larger() -> [Disk; 4] {
-    Disk::of_blocks(HIGH_DENSITY)
-}
-
-/// One of something for each seed, in turn.
-fn in_turn<T: Copy>(all: &[T], seed: u64) -> T {
-    all[seed as usize % all.len()]
-}
-
 /// All requests of the great comparison, as the seed draws them: about floppies of all kinds, and about these
 /// high-density disks, which are filled in these ways.
 fn talks(who: Who, seed: u64, larger: &[Disk], fills: &[Fill]) -> Vec<Talk> {
@@ -1546,14 +1520,14 @@ fn are_enough(talks: &[Talk], larger: &[Disk]) {
 /// All that is known beforehand is answered so; no one else is needed for that.
 #[test]
 fn answers_known_beforehand() {
-    are_enough(&talks(Who::Nobody, 143, &all_larger(), &FILLS), &all_larger());
+    are_enough(&talks(Who::Nobody, 143, &Disk::of_blocks(HIGH_DENSITY), &FILLS), &Disk::of_blocks(HIGH_DENSITY));
 }
 
 /// `probe` and the exported functions agree.
 #[test]
 fn paths_and_files_good_and_bad() {
-    let talks = talks(Who::Both, 143, &all_larger(), &FILLS);
-    are_enough(&talks, &all_larger());
+    let talks = talks(Who::Both, 143, &Disk::of_blocks(HIGH_DENSITY), &FILLS);
+    are_enough(&talks, &Disk::of_blocks(HIGH_DENSITY));
     talks.into_iter().for_each(Talk::run);
 }
 
@@ -1562,7 +1536,7 @@ fn paths_and_files_good_and_bad() {
 #[test]
 fn paths_and_files_for_the_exported_functions() {
     with_seeds(1_400, 10, |seed| {
-        let larger = [in_turn(&all_larger(), seed)];
+        let larger = [in_turn(&Disk::of_blocks(HIGH_DENSITY), seed)];
         are_enough(&talks(Who::Exports, seed, &larger, &[in_turn(&FILLS, seed)]), &larger);
     });
 }
