@@ -24,12 +24,12 @@ pub enum Older {
     Floppies(FloppyAudit, FloppyRead),
 }
 
-/// Whether an archive's calls name a number of blocks. No symbol shows that, but the sentence for refusal 1 does; an
-/// archive without sentences is older.
+/// Whether an archive's calls name a number of blocks. No symbol shows that, but the sentence for refusal 1 does, which
+/// speaks of both sizes since then; an archive without sentences is older.
 fn names_blocks(reason: Option<Reason>) -> bool {
     let mut room = [0; jufferdeeg::REASON_BYTES];
     let length = reason.map_or(0, |reason| unsafe { reason(1, room.as_mut_ptr(), room.len()) });
-    String::from_utf8_lossy(&room[..length.min(room.len())]).contains("number of blocks")
+    String::from_utf8_lossy(&room[..length.min(room.len())]).contains("1760 blocks")
 }
 
 impl Older {
