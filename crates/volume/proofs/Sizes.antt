@@ -32,6 +32,13 @@ module _ (d : Disk) (t : Bool) (e : t ≡ isOld d) where
   unfolding dataBytes pick
   data-fast h = rw (← e, h) refl
 
+  -- and the data blocks of a file of z bytes
+  pub blocks-old : (z : ℕ) → t ≡ true → (z + (dataRoom - 1)) / dataRoom ≡ dataBlocks d z
+  blocks-old z h = rw (← data-old h) refl
+
+  pub blocks-fast : (z : ℕ) → t ≡ false → (z + (blockBytes - 1)) / blockBytes ≡ dataBlocks d z
+  blocks-fast z h = rw (← data-fast h) refl
+
 -- so many bytes in each data block, at most all of its bytes: those of the largest file, and those before data block n
 module _ (b : ℕ) (h : b ≤ blockBytes) where
   pub limit-fits : (d : Disk) → Sized d → (d .blocks - 5) * b ≤ 2079232

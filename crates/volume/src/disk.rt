@@ -196,13 +196,15 @@ impl Disk {
         (self.blocks - 5) * self.data_bytes()
     }
 
-    // The data blocks of a file of `size` bytes.
+    // The data blocks of a file of `size` bytes. Each case divides by a constant, and so takes no division.
     pub fn data_blocks(self, size: u32) -> u32
         requires { ⌜ Sized self × (size ≤ fileLimit self) ⌝ }
         ensures { λ r. ⌜ r ≡ dataBlocks self size ⌝ }
     {
-        let bytes = self.data_bytes();
-        (size + (bytes - 1)) / bytes
+        if self.is_old() {
+            return (size + (Block::DATA as u32 - 1)) / Block::DATA as u32;
+        }
+        (size + (Block::BYTES as u32 - 1)) / Block::BYTES as u32
     }
 
     // How many bytes data block n of a file of `size` bytes holds.
