@@ -50,18 +50,25 @@ fn fold_international(b: u8) -> u8
     FOLDED[b as usize]
 }
 
+// A byte folded by the rule of its disk.
+fn fold_by_rule(disk: Disk, b: u8) -> u8
+    ensures { λ r. ⌜ r ≡ foldOf disk b ⌝ }
+{
+    if disk.folds_accents() {
+        return fold_international(b);
+    }
+    fold_plain(b)
+}
+
 // A byte folded as its disk folds it. Bytes below 80 hex fold alike on every disk, and do without the table: the
-// compiler copies it to the stack whenever it is looked at.
+// compiler copies it to the stack whenever it is looked at, and makes no such function part of its callers.
 pub fn fold(disk: Disk, b: u8) -> u8
     ensures { λ r. ⌜ r ≡ foldOf disk b ⌝ }
 {
     if b < 0x80 {
         return fold_plain(b);
     }
-    if disk.folds_accents() {
-        return fold_international(b);
-    }
-    fold_plain(b)
+    fold_by_rule(disk, b)
 }
 
 fn wide(x: u8) -> usize
