@@ -54,9 +54,6 @@ module _ (d : Disk) (s cl cl₁ : List ℕ) (f : ℕ) (m : Met d s root cl f cl�
       → Walks d s (root ∷ []) [] nothing cl r cl″
   root-stops k r cl″ t e q = met-stops d s root cl cl₁ f m [] nothing cl″ r t (rw e at q)
 
-  pub root-range : f ≡ 0 → (k : ℕ) → k ≡ rootOf d → k < d .blocks
-  root-range z k e = rw e (met-inside d s root cl cl₁ f m z)
-
   pub root-ready : f ≡ 0 → Sized d → length s ≡ imageBytes d → cl ≡ replicate (claimBytes d) 0
       → length cl₁ ≡ length cl → Ready d s cl₁ nothing
   unfolding noted
@@ -86,7 +83,7 @@ module _ (d : Disk) (s cl cl₁ : List ℕ) (f : ℕ) (m : Met d s root cl f cl�
         (walks-part d s (bitmap bitmapKey ∷ []) [] inside nothing cl₁ cl″ r
         (met-stops d s (bitmap bitmapKey) cl₁ cl₂ g n [] nothing cl″ r t q)) q)
 
-    pub root-goes : (r : Walked) (cl₃ : List ℕ) → g ≡ 0 → Walks d s (slotNodes s k 0 slots) [] nothing cl₂ r cl₃
+    pub root-goes : (r : Walked) (cl₃ : List ℕ) → g ≡ 0 → Walks d s inside [] nothing cl₂ r cl₃
         → Walks d s (root ∷ []) [] nothing cl r cl₃
     unfolding noted leadsTo
     root-goes r cl₃ y w =
@@ -95,12 +92,25 @@ module _ (d : Disk) (s cl cl₁ : List ℕ) (f : ℕ) (m : Met d s root cl f cl�
         (walks-part d s (bitmap bitmapKey ∷ []) [] inside nothing cl₁ cl₂ (Done nothing)
         (met-goes d s (bitmap bitmapKey) cl₁ cl₂ g n [] nothing cl₂ (Done nothing) y
         (walks-none d s [] nothing cl₂)))
-        refl (sym (append-nil _)) (rw e at w))
+        refl (sym (append-nil _)) w)
 
 pub bitmap-ready : (d : Disk) (s cl cl′ : List ℕ) (k f : ℕ) → Met d s (bitmap k) cl f cl′ → f ≡ 0
     → length cl′ ≡ length cl → Ready d s cl nothing → Ready d s cl′ nothing
 unfolding noted
 bitmap-ready d s cl cl′ k f m z l r = ready-met d s (bitmap k) nothing cl cl′ f r m z l nothing refl
+
+pub bitmap-range : (d : Disk) (s cl cl′ : List ℕ) (k f : ℕ) → Met d s (bitmap k) cl f cl′ → f ≡ 0 → k < d .blocks
+bitmap-range d s cl cl′ k f m z = met-inside d s (bitmap k) cl cl′ f m z
+
+-- ---- the root's directory: k is the root
+
+module _ (d : Disk) (k : ℕ) (e : k ≡ rootOf d) where
+  pub root-inside : Sized d → k < d .blocks
+  root-inside y = omega (arith, e, y .least)
+
+  pub tree-goes : (s cl cl′ : List ℕ) (r : Walked) → Walks d s (slotNodes s k 0 slots) [] nothing cl r cl′
+      → Walks d s (slotNodes s (rootOf d) 0 slots) [] nothing cl r cl′
+  tree-goes s cl cl′ r w = rw e at w
 
 -- ---- the walk's outcome
 

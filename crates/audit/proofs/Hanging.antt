@@ -158,6 +158,7 @@ module _ (d : Disk) (s : List ℕ) (k t i p : ℕ) (cl cl₁ : List ℕ) (f : �
       record {
         walks = met-stops d s (entry k t i p) cl cl₁ f m _ n cl″ r h e;
         known = λ c q. not-both _ c (sym e ∙ q);
+        holds = λ c q. not-both _ c (sym e ∙ q);
         less = λ c q. not-both _ c (sym e ∙ q);
       }
 
@@ -203,23 +204,24 @@ module _ (d : Disk) (s : List ℕ) (k t i p : ℕ) (cl cl₁ : List ℕ) (f : �
       unfolding noted
       entry-ready r l = ready-met d s (entry k t i p) n cl cl₁ f r m z l c (q ∙ rw kind refl)
 
-      pub entry-goes : (r : Walked) (cl₂ : List ℕ) → Walks d s (contents d s k b) [] c cl₁ r cl₂
-          → EntryWalked d s k t i p n cl r cl₂
+      pub entry-goes : (r : Walked) (cl₂ : List ℕ) → length s ≡ imageBytes d
+          → Walks d s (contents d s k b) [] c cl₁ r cl₂ → EntryWalked d s k t i p n cl r cl₂
       unfolding noted leadsTo
-      entry-goes r cl₂ w =
+      entry-goes r cl₂ l w =
           record {
             walks =
                 rw (add-one p) (met-goes d s (entry k t i p) cl cl₁ f m _ n cl₂ r z
                 (rw (← kind, ← q) (walks-part d s _ [] (chained (wordOf s k 124) t i (suc p)) c cl₁ cl₂ r w)));
             known = λ x e. met-known;
+            holds = λ x e. known-holds d s k l met-known;
             less = λ x e. omega (arith, w .less x e, entry-claims);
           }
 
 -- what the code asks of it once it is walked
 module _ (d : Disk) (s : List ℕ) (k t i p : ℕ) (n : Counts) (cl : List ℕ) (r : Walked) (cl′ : List ℕ)
     (u : EntryWalked d s k t i p n cl r cl′) (c : Counts) (e : r ≡ Done c) where
-  pub entry-holds : Ready d s cl n → Holds s k
-  entry-holds y = known-holds d s k (y .image) (u .known c e)
+  pub entry-holds : Holds s k
+  entry-holds = u .holds c e
 
   pub entry-less : free cl′ < free cl
   entry-less = u .less c e

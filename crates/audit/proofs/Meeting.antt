@@ -12,10 +12,12 @@ use Rattle.reach.specs.Walk.{claimed, verdict}
 use Rattle.reach.proofs.Claims.{byte-any}
 use Rattle.reach.proofs.Runs.{claimed-taken}
 use Rattle.volume.specs.declared.disk.Disk.{Disk}
-use Rattle.volume.specs.Disks.{firstKey, inRange, imageBytes, claimBytes, rootOf}
+use Rattle.volume.specs.Disks.{Sized, firstKey, inRange, imageBytes, claimBytes, rootOf}
 use Rattle.volume.specs.Blocks.{Holds}
+use Rattle.volume.specs.Sums.{SumsKnown, Testable}
 use Rattle.volume.specs.Rules.{rootFault, mapFault, bitmapFault}
 use Rattle.volume.proofs.Sizes.{range-is}
+use Rattle.volume.proofs.Summing.{testable}
 use Rattle.walk.proofs.Passes.{key-passed}
 use Rattle.walk.specs.Nodes.{Node, root, bitmap, keyOf, keyFault, faultOf}
 use Rattle.audit.specs.Walks.{Claims, Met}
@@ -74,6 +76,11 @@ module _ (d : Disk) (cl cl′ : List ℕ) (k r : ℕ) (h : Claims d cl k r cl′
 
   pub claims-holds : (s : List ℕ) → length s ≡ imageBytes d → Holds s k
   claims-holds s l = omega (arith, claims-high)
+
+  -- its tests may be made
+  pub claims-testable : (s : List ℕ) (map : ℕ) → Sized d → length s ≡ imageBytes d → SumsKnown d s map
+      → Testable d s map k
+  claims-testable s map y l m = testable d s map k y l m claims-low claims-high
 
 -- ---- a block that is met
 

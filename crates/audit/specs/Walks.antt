@@ -9,7 +9,7 @@ use Rattle.answers.specs.Tests.{first}
 use Rattle.reach.specs.Walk.{Outcome, refused, claimed, free, verdict, run}
 use Rattle.volume.specs.declared.disk.Disk.{Disk}
 use Rattle.volume.specs.Disks.{Sized, firstKey, imageBytes, claimBytes}
-use Rattle.volume.specs.Blocks.{slots, wordOf, slotWord}
+use Rattle.volume.specs.Blocks.{slots, Holds, wordOf, slotWord}
 use Rattle.volume.specs.Names.{nameLength, longest}
 use Rattle.walk.specs.declared.Counts.{Counts}
 use Rattle.volume.specs.Law.{chainKey}
@@ -88,4 +88,5 @@ pub record EntryWalked (d : Disk) (s : List ℕ) (k t i p : ℕ) (n : Counts) (c
     : Type 0 where
   pub walks : Walks d s (entry k t i p ∷ []) (chained (wordOf s k 124) t i (p + 1)) n cl r cl′
   pub known : (c : Counts) → r ≡ Done c → Known d s k
+  pub holds : (c : Counts) → r ≡ Done c → Holds s k
   pub less : (c : Counts) → r ≡ Done c → free cl′ < free cl

@@ -1,5 +1,5 @@
 // The walk through a directory, slot by slot and along each chain; what is in an entry is walked before its link is
-// followed.
+// followed. `map` has what is known of sums.
 use crate::claims::claim_key;
 use crate::files::walk_file;
 use crate::walked::Walked;
@@ -18,8 +18,9 @@ ghost use mathlib.Core.Bool.{true, false};
 ghost use mathlib.Core.List.{[]};
 ghost use Prim.Native.Nat.{ℕ, _≤_, _<_};
 ghost use lib.ListN.{length};
-ghost use Rattle.volume.specs.Disks.{Sized, firstKey, imageBytes};
+ghost use Rattle.volume.specs.Disks.{imageBytes};
 ghost use Rattle.volume.specs.Blocks.{slots, Holds, wordOf};
+ghost use Rattle.volume.specs.Sums.{SumsKnown, Testable};
 ghost use Rattle.volume.specs.Law.{chainKey};
 ghost use Rattle.walk.specs.Nodes.{entry, slotNodes, twin, hangsFault, withEntry};
 ghost use Rattle.audit.specs.Walks.{Met, Ready, Walks, Known, Chain, EntryWalked};
@@ -53,12 +54,19 @@ fn is_twin(disk: Disk, image: &[u8], key: u32, head: u32, position: u32) -> bool
 }
 
 // The tests of an entry at a position of a chain.
-fn hangs_fault(disk: Disk, image: &[u8], key: u32, directory: u32, slot: u32, position: u32) -> u32
-    requires { ⌜ (Sized disk) × (length (now image) ≡ imageBytes disk) × (firstKey ≤ key) × (key < disk .blocks)
-        × (Chain disk (now image) directory slot position) ⌝ }
+fn hangs_fault(
+    disk: Disk,
+    image: &[u8],
+    map: u32,
+    key: u32,
+    directory: u32,
+    slot: u32,
+    position: u32,
+) -> u32
+    requires { ⌜ (Testable disk (now image) map key) × (Chain disk (now image) directory slot position) ⌝ }
     ensures { λ r. ⌜ r ≡ hangsFault disk (now (image .entry)) key directory slot position ⌝ }
 {
-    let f = entry_fault(disk, image, key, directory, slot);
+    let f = entry_fault(disk, image, map, key, directory, slot);
     if f != 0 {
         return f;
     }
@@ -76,6 +84,7 @@ fn hangs_fault(disk: Disk, image: &[u8], key: u32, directory: u32, slot: u32, po
 fn meet_entry(
     disk: Disk,
     image: &[u8],
+    map: u32,
     claim: &mut [u8],
     key: u32,
     directory: u32,
@@ -83,7 +92,8 @@ fn meet_entry(
     position: u32,
     c: Counts,
 ) -> u32
-    requires { ⌜ (Ready disk (now image) (now claim) c) × (Chain disk (now image) directory slot position) ⌝ }
+    requires { ⌜ (Ready disk (now image) (now claim) c) × (Chain disk (now image) directory slot position)
+        × (SumsKnown disk (now image) map) ⌝ }
     ensures { λ r. ⌜ Met disk (now (image .entry)) (entry key directory slot position) (now (claim .entry)) r
         (now (claim .exit)) ⌝ }
 {
@@ -91,7 +101,7 @@ fn meet_entry(
     if f != 0 {
         return f;
     }
-    hangs_fault(disk, image, key, directory, slot, position)
+    hangs_fault(disk, image, map, key, directory, slot, position)
 }
 
 // One directory more.
@@ -124,6 +134,7 @@ fn with_file(c: Counts) -> Counts
 fn walk_entry(
     disk: Disk,
     image: &[u8],
+    map: u32,
     claim: &mut [u8],
     key: u32,
     directory: u32,
@@ -131,29 +142,31 @@ fn walk_entry(
     position: u32,
     n: Counts,
 ) -> Walked
-    requires { ⌜ (Ready disk (now image) (now claim) n) × (Chain disk (now image) directory slot position) ⌝ }
+    requires { ⌜ (Ready disk (now image) (now claim) n) × (Chain disk (now image) directory slot position)
+        × (SumsKnown disk (now image) map) ⌝ }
     ensures { λ r. ⌜ EntryWalked disk (now (image .entry)) key directory slot position n (now (claim .entry)) r
         (now (claim .exit)) ⌝ }
 {
-    let f = meet_entry(disk, image, claim, key, directory, slot, position, n);
+    let f = meet_entry(disk, image, map, claim, key, directory, slot, position, n);
     if f != 0 {
         return stopped(f, key);
     }
     if is_directory(image, key) {
-        return walk_directory(disk, image, claim, key, with_directory(n));
+        return walk_directory(disk, image, map, claim, key, with_directory(n));
     }
-    walk_file(disk, image, claim, key, with_file(n))
+    walk_file(disk, image, map, claim, key, with_file(n))
 }
 
 // What is in a directory, slot by slot.
 pub(crate) fn walk_directory(
     disk: Disk,
     image: &[u8],
+    map: u32,
     claim: &mut [u8],
     key: u32,
     n: Counts,
 ) -> Walked
-    requires { ⌜ (Ready disk (now image) (now claim) n) × (key < disk .blocks) ⌝ }
+    requires { ⌜ (Ready disk (now image) (now claim) n) × (key < disk .blocks) × (SumsKnown disk (now image) map) ⌝ }
     ensures { λ r. ⌜ Walks disk (now (image .entry)) (slotNodes (now (image .entry)) key 0 slots) [] n
         (now (claim .entry)) r (now (claim .exit)) ⌝ }
 {
@@ -163,7 +176,7 @@ pub(crate) fn walk_directory(
         let mut entry = word_of(image, key, Block::FIRST_SLOT + slot as usize);
         let mut position: u32 = 0;
         'chain: while entry != 0 {
-            let w = walk_entry(disk, image, claim, entry, key, slot, position, m);
+            let w = walk_entry(disk, image, map, claim, entry, key, slot, position, m);
             let Walked::Done(c) = w else {
                 return w;
             };

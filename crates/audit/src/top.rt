@@ -9,16 +9,18 @@ use volume::disk::Disk;
 use volume::root::bitmap_fault;
 use volume::root::map_fault;
 use volume::root::root_fault;
+use volume::sums::known_sums;
 use walk::Counts;
 ghost use mathlib.Core.Path.{_≡_};
 ghost use mathlib.Core.List.{[], _∷_};
+ghost use Prim.Native.Nat.{_<_};
 ghost use lib.ListN.{length, replicate};
 ghost use Rattle.answers.specs.Tests.{first};
 ghost use Rattle.volume.specs.Disks.{Sized, claimBytes, imageBytes, rootOf};
-ghost use Rattle.volume.specs.Blocks.{Holds};
+ghost use Rattle.volume.specs.Blocks.{slots, Holds};
 ghost use Rattle.volume.specs.Rules.{rootFault, mapFault};
-ghost use Rattle.walk.specs.Nodes.{root, bitmap, nothing};
-ghost use Rattle.audit.specs.Walks.{Met, Walks};
+ghost use Rattle.walk.specs.Nodes.{root, bitmap, nothing, slotNodes};
+ghost use Rattle.audit.specs.Walks.{Met, Ready, Walks};
 
 // The root's tests, its words about the bitmap last.
 fn root_tests(disk: Disk, image: &[u8]) -> u32
@@ -56,6 +58,22 @@ fn meet_bitmap(disk: Disk, image: &[u8], claim: &mut [u8], key: u32) -> u32
     bitmap_fault(image, key)
 }
 
+// What is in the root's directory; root and bitmap block are met. Sums are added up first, in the order of the disk.
+fn walk_tree(disk: Disk, image: &[u8], claim: &mut [u8], bitmap: u32) -> Walked
+    requires { ⌜ (Ready disk (now image) (now claim) nothing) × (bitmap < disk .blocks) ⌝ }
+    ensures { λ r. ⌜ Walks disk (now (image .entry)) (slotNodes (now (image .entry)) (rootOf disk) 0 slots) [] nothing
+        (now (claim .entry)) r (now (claim .exit)) ⌝ }
+{
+    let map = known_sums(disk, image, bitmap);
+    let none = Counts {
+        directories: 0,
+        files: 0,
+        lists: 0,
+        blocks: 0,
+    };
+    walk_directory(disk, image, map, claim, disk.root(), none)
+}
+
 // The walk from the root, with nothing claimed yet.
 pub(crate) fn walk_volume(disk: Disk, image: &[u8], claim: &mut [u8]) -> Walked
     requires { ⌜ (Sized disk) × (length (now image) ≡ imageBytes disk) × (now claim ≡ replicate (claimBytes disk) 0) ⌝ }
@@ -72,11 +90,5 @@ pub(crate) fn walk_volume(disk: Disk, image: &[u8], claim: &mut [u8]) -> Walked
     if g != 0 {
         return stopped(g, bitmap);
     }
-    let none = Counts {
-        directories: 0,
-        files: 0,
-        lists: 0,
-        blocks: 0,
-    };
-    walk_directory(disk, image, claim, root, none)
+    walk_tree(disk, image, claim, bitmap)
 }

@@ -14,8 +14,9 @@ use volume::file::list_fault;
 use volume::root::bitmap_fault;
 use volume::root::map_fault;
 use volume::root::root_fault;
+use volume::sums::UNKNOWN;
 ghost use Prim.Native.Nat.{_<_, _≤_};
-ghost use Rattle.volume.specs.Disks.{Sized};
+ghost use mathlib.Core.Path.{_≡_};
 
 // Where the blocks stand.
 pub const DIRECTORY: u32 = 2;
@@ -104,6 +105,7 @@ impl Kind {
     // The number of the first rule that its block breaks.
     pub fn fault(self, image: &[u8; IMAGE]) -> u32 {
         let small = Disk { blocks: 8, kind: 0 };
+        let small_fast = Disk { blocks: 8, kind: 1 };
         let disk = Disk {
             blocks: 1760,
             kind: 0,
@@ -116,20 +118,20 @@ impl Kind {
             Kind::Root => root_fault(small, image),
             Kind::Map => map_fault(small, image),
             Kind::Bitmap => bitmap_fault(image, BITMAP),
-            Kind::Directory => entry_fault(disk, image, DIRECTORY, ROOT, 65),
-            Kind::Header => entry_fault(disk, image, HEADER, ROOT, 24),
+            Kind::Directory => entry_fault(small, image, UNKNOWN, DIRECTORY, ROOT, 65),
+            Kind::Header => entry_fault(small, image, UNKNOWN, HEADER, ROOT, 24),
             Kind::File => file_fault(disk, image, HEADER),
             Kind::Long => file_fault(disk, image, HEADER),
             Kind::Empty => file_fault(disk, image, HEADER),
-            Kind::List(n) => list_fault(image, LIST, HEADER, n),
-            Kind::First => data(disk, image, 489, 1, HEADER),
-            Kind::Last => data(disk, image, 489, 2, HEADER),
-            Kind::Only => data(disk, image, 488, 1, HEADER),
-            Kind::Unnamed => data(disk, image, 489, 2, LIST),
+            Kind::List(n) => list_fault(small, image, UNKNOWN, LIST, HEADER, n),
+            Kind::First => data(small, image, 489, 1, HEADER),
+            Kind::Last => data(small, image, 489, 2, HEADER),
+            Kind::Only => data(small, image, 488, 1, HEADER),
+            Kind::Unnamed => data(small, image, 489, 2, LIST),
             Kind::FastFile => file_fault(fast, image, HEADER),
             Kind::FastLong => file_fault(fast, image, HEADER),
             Kind::FastEmpty => file_fault(fast, image, HEADER),
-            Kind::FastData => data(fast, image, 513, 2, LIST),
+            Kind::FastData => data(small_fast, image, 513, 2, LIST),
         }
     }
 
@@ -164,12 +166,12 @@ impl Kind {
 
 // The data block as number n of a file of `size` bytes, after the block `last`.
 fn data(disk: Disk, image: &[u8; IMAGE], size: u32, n: u32, last: u32) -> u32
-    requires { ⌜ Sized disk × ((1 ≤ n) × (n < 1760)) × (last < 8) ⌝ }
+    requires { ⌜ (disk .blocks ≡ 8) × ((1 ≤ n) × (n < 1760)) × (last < 8) ⌝ }
 {
     if disk.file_limit() < size {
         return 14;
     }
-    data_fault(disk, image, DATA, HEADER, size, n, last)
+    data_fault(disk, image, UNKNOWN, DATA, HEADER, size, n, last)
 }
 
 // A block with these words and the name "MARY".

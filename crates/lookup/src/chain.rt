@@ -7,6 +7,7 @@ use volume::disk::Disk;
 use volume::entry::entry_fault;
 use volume::name::has_name;
 use volume::name::slot;
+use volume::sums::UNKNOWN;
 ghost use mathlib.Core.Path.{_≡_};
 ghost use lib.ListN.{length};
 ghost use Rattle.volume.specs.Disks.{Sized, imageBytes};
@@ -37,7 +38,7 @@ fn position_fault(
 {
     if disk.in_range(key) {
         if compared < disk.chain_limit() {
-            return entry_fault(disk, image, key, directory, slot);
+            return entry_fault(disk, image, UNKNOWN, key, directory, slot);
         }
         return Fault::CLAIMED_TWICE;
     }

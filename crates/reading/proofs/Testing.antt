@@ -17,10 +17,9 @@ use Rattle.answers.proofs.Clashes.{impossible}
 use Rattle.answers.specs.Numbers as fault
 use Rattle.volume.specs.declared.disk.Disk.{Disk}
 use Rattle.volume.specs.Disks.{Sized, inRange, imageBytes}
-use Rattle.volume.specs.Blocks.{slots, Holds, keyWord}
+use Rattle.volume.specs.Blocks.{slots, keyWord}
 use Rattle.volume.specs.Files.{blocksOf, listBlocks}
 use Rattle.volume.specs.Rules.{fileFault}
-use Rattle.volume.proofs.Sizes.{range-is}
 use Rattle.walk.specs.declared.file.KeyBlock.{KeyBlock}
 use Rattle.walk.specs.Nodes.{Node, datum, keyNodes, keyOf, keyFault, faultOf}
 use Rattle.walk.specs.KeyBlocks.{headerOf, nextOf, listNode, dataNodes, InFile, KeysReady, InImage, NextReady}
@@ -30,10 +29,6 @@ use Rattle.reading.specs.FileTests.{nodeFault, firstFault, blocksFrom, f
 use Rattle.reading.specs.Parts.{KeysTested, ListTested}
 
 -- ---- one block
-
-pub range-holds : (d : Disk) (s : List ℕ) (k : ℕ) (b : Bool) → b ≡ inRange d k → b ≡ true → length s ≡ imageBytes d
-    → Holds s k
-range-holds d s k b e h l = omega (arith, range-is d k (sym e ∙ h))
 
 module _ (d : Disk) (s : List ℕ) (n : Node) (b : Bool) (e : b ≡ inRange d (keyOf d n)) where
   pub node-out : b ≡ false → fault.badKey ≡ nodeFault d s n

@@ -5,6 +5,7 @@ use answers::Tested;
 use volume::disk::Disk;
 use volume::file::file_fault;
 use volume::file::key_of;
+use volume::sums::UNKNOWN;
 use walk::file::KeyBlock;
 use walk::file::data_tests;
 use walk::file::header_block;
@@ -39,7 +40,7 @@ fn test_data(disk: Disk, image: &[u8], b: KeyBlock, key: u32, n: u32, last: u32)
     ensures { λ r. ⌜ r ≡ nodeFault disk (now (image .entry)) (datum key (b .header) n last) ⌝ }
 {
     if disk.in_range(key) {
-        return data_tests(disk, image, b, key, n, last);
+        return data_tests(disk, image, UNKNOWN, b, key, n, last);
     }
     Fault::BAD_KEY
 }
@@ -70,7 +71,7 @@ fn test_list(disk: Disk, image: &[u8], b: KeyBlock) -> u32
     ensures { λ r. ⌜ r ≡ nodeFault disk (now (image .entry)) (listNode b) ⌝ }
 {
     if disk.in_range(b.key) {
-        return list_tests(disk, image, b);
+        return list_tests(disk, image, UNKNOWN, b);
     }
     Fault::BAD_KEY
 }

@@ -7,6 +7,8 @@ pub mod Tags
 pub mod Disks
 -- how many data keys a file has
 pub mod Keys
+-- sums that are known by a bitmap block
+pub mod Summing
 -- the rule of a table, by one test over it
 pub mod Tables
 -- names, folding and slots

@@ -11,6 +11,8 @@ pub mod Names
 pub mod Files
 -- the bitmap's bit of a block
 pub mod Bitmap
+-- what may be known of sums before blocks are met
+pub mod Sums
 -- which block refers to which
 pub mod References
 -- the law of a volume

@@ -1,14 +1,15 @@
 // The tests of an entry, a directory or a file header.
 use crate::block::Block;
-use crate::block::sum_of;
 use crate::block::word_of;
 use crate::disk::Disk;
 use crate::name::name_good;
 use crate::name::slot_of;
+use crate::sums::known_sum;
 use answers::Fault;
 ghost use mathlib.Core.Path.{_≡_};
 ghost use Rattle.answers.specs.Tests.{tests};
 ghost use Rattle.volume.specs.Blocks.{Holds, directory};
+ghost use Rattle.volume.specs.Sums.{Testable};
 ghost use Rattle.volume.specs.Rules.{entryTypes, entryWords, entryName, entryFault};
 
 // Whether an entry is a directory.
@@ -20,11 +21,11 @@ pub fn is_directory(image: &[u8], key: u32) -> bool
 }
 
 // Sum and types.
-fn types_fault(image: &[u8], key: u32) -> u32
-    requires { ⌜ Holds (now image) key ⌝ }
+fn types_fault(disk: Disk, image: &[u8], map: u32, key: u32) -> u32
+    requires { ⌜ Testable disk (now image) map key ⌝ }
     ensures { λ r. ⌜ r ≡ tests (entryTypes (now (image .entry)) key) ⌝ }
 {
-    if sum_of(image, key) != 0 {
+    if known_sum(disk, image, map, key) != 0 {
         return Fault::BLOCK_SUM;
     }
     if word_of(image, key, Block::TYPE) != Block::HEADER_TYPE {
@@ -83,12 +84,12 @@ fn name_fault(disk: Disk, image: &[u8], key: u32, slot: u32) -> u32
     Fault::BAD_NAME
 }
 
-// An entry on the chain of a slot of a directory.
-pub fn entry_fault(disk: Disk, image: &[u8], key: u32, directory: u32, slot: u32) -> u32
-    requires { ⌜ Holds (now image) key ⌝ }
+// An entry on the chain of a slot of a directory; `map` has what is known of sums.
+pub fn entry_fault(disk: Disk, image: &[u8], map: u32, key: u32, directory: u32, slot: u32) -> u32
+    requires { ⌜ Testable disk (now image) map key ⌝ }
     ensures { λ r. ⌜ r ≡ entryFault disk (now (image .entry)) key directory slot ⌝ }
 {
-    let f = types_fault(image, key);
+    let f = types_fault(disk, image, map, key);
     if f != 0 {
         return f;
     }

@@ -1,8 +1,8 @@
 // Files: how many blocks a size takes, and the tests of headers, list blocks and data blocks.
 use crate::block::Block;
-use crate::block::sum_of;
 use crate::block::word_of;
 use crate::disk::Disk;
+use crate::sums::known_sum;
 use answers::Fault;
 ghost use mathlib.Core.Path.{_≡_};
 ghost use Prim.Native.Nat.{_≤_, _<_};
@@ -10,6 +10,7 @@ ghost use Rattle.answers.specs.Tests.{tests};
 ghost use Rattle.volume.specs.Disks.{Sized, mostBlocks, fileLimit};
 ghost use Rattle.volume.specs.Blocks.{slots, Holds, wordOf, keyWord};
 ghost use Rattle.volume.specs.Files.{keysHere, listBlocks, lastKeys};
+ghost use Rattle.volume.specs.Sums.{Testable};
 ghost use Rattle.volume.specs.Rules.{countRules, emptyRules, fileFault, listWords, listFault, dataWords};
 ghost use Rattle.volume.specs.Rules.{dataLinks, dataRules, dataFault};
 
@@ -103,11 +104,11 @@ pub fn file_fault(disk: Disk, image: &[u8], key: u32) -> u32
 }
 
 // Sum, types, own key and header of a list block.
-fn list_words_fault(image: &[u8], key: u32, header: u32) -> u32
-    requires { ⌜ Holds (now image) key ⌝ }
+fn list_words_fault(disk: Disk, image: &[u8], map: u32, key: u32, header: u32) -> u32
+    requires { ⌜ Testable disk (now image) map key ⌝ }
     ensures { λ r. ⌜ r ≡ tests (listWords (now (image .entry)) key header) ⌝ }
 {
-    if sum_of(image, key) != 0 {
+    if known_sum(disk, image, map, key) != 0 {
         return Fault::BLOCK_SUM;
     }
     if word_of(image, key, Block::TYPE) != Block::LIST_TYPE {
@@ -125,12 +126,12 @@ fn list_words_fault(image: &[u8], key: u32, header: u32) -> u32
     0
 }
 
-// A list block of a file, n keys still to come.
-pub fn list_fault(image: &[u8], key: u32, header: u32, n: u32) -> u32
-    requires { ⌜ Holds (now image) key ⌝ }
+// A list block of a file, n keys still to come; `map` has what is known of sums.
+pub fn list_fault(disk: Disk, image: &[u8], map: u32, key: u32, header: u32, n: u32) -> u32
+    requires { ⌜ Testable disk (now image) map key ⌝ }
     ensures { λ r. ⌜ r ≡ listFault (now (image .entry)) key header n ⌝ }
 {
-    let f = list_words_fault(image, key, header);
+    let f = list_words_fault(disk, image, map, key, header);
     if f != 0 {
         return f;
     }
@@ -138,11 +139,19 @@ pub fn list_fault(image: &[u8], key: u32, header: u32, n: u32) -> u32
 }
 
 // Sum, type, header, number and bytes held of data block n.
-fn data_words_fault(disk: Disk, image: &[u8], key: u32, header: u32, size: u32, n: u32) -> u32
-    requires { ⌜ Holds (now image) key × ((1 ≤ n) × (n ≤ mostBlocks)) ⌝ }
+fn data_words_fault(
+    disk: Disk,
+    image: &[u8],
+    map: u32,
+    key: u32,
+    header: u32,
+    size: u32,
+    n: u32,
+) -> u32
+    requires { ⌜ Testable disk (now image) map key × ((1 ≤ n) × (n ≤ mostBlocks)) ⌝ }
     ensures { λ r. ⌜ r ≡ tests (dataWords disk (now (image .entry)) key header size n) ⌝ }
 {
-    if sum_of(image, key) != 0 {
+    if known_sum(disk, image, map, key) != 0 {
         return Fault::BLOCK_SUM;
     }
     if word_of(image, key, Block::TYPE) != Block::DATA_TYPE {
@@ -181,41 +190,43 @@ fn data_links_fault(disk: Disk, image: &[u8], key: u32, size: u32, n: u32, named
 fn data_rules_fault(
     disk: Disk,
     image: &[u8],
+    map: u32,
     key: u32,
     header: u32,
     size: u32,
     n: u32,
     named: u32,
 ) -> u32
-    requires { ⌜ Sized disk × (size ≤ fileLimit disk) × (Holds (now image) key × ((1 ≤ n) × (n ≤ mostBlocks))) ⌝ }
+    requires { ⌜ Testable disk (now image) map key × (size ≤ fileLimit disk) × (1 ≤ n) × (n ≤ mostBlocks) ⌝ }
     ensures { λ r. ⌜ r ≡ tests (dataRules disk (now (image .entry)) key header size n named) ⌝ }
 {
-    let f = data_words_fault(disk, image, key, header, size, n);
+    let f = data_words_fault(disk, image, map, key, header, size, n);
     if f != 0 {
         return f;
     }
     data_links_fault(disk, image, key, size, n, named)
 }
 
-// Data block n of a file of `size` bytes; `last` is the data block before it, or the header. On the Fast File System
-// nothing is tested, and neither block is looked at.
+// Data block n of a file of `size` bytes; `last` is the data block before it, or the header, and `map` has what is
+// known of sums. On the Fast File System nothing is tested, and neither block is looked at.
 pub fn data_fault(
     disk: Disk,
     image: &[u8],
+    map: u32,
     key: u32,
     header: u32,
     size: u32,
     n: u32,
     last: u32,
 ) -> u32
-    requires { ⌜ Sized disk × (size ≤ fileLimit disk) × Holds (now image) key × Holds (now image) last × (1 ≤ n)
+    requires { ⌜ Testable disk (now image) map key × (size ≤ fileLimit disk) × Holds (now image) last × (1 ≤ n)
         × (n ≤ mostBlocks) ⌝ }
     ensures { λ r. ⌜ r ≡ dataFault disk (now (image .entry)) key header size n (wordOf (now (image .entry)) last 4) ⌝ }
 {
     let has_words = disk.is_old();
     if has_words {
         let named = word_of(image, last, Block::FOLLOWING);
-        return data_rules_fault(disk, image, key, header, size, n, named);
+        return data_rules_fault(disk, image, map, key, header, size, n, named);
     }
     0
 }

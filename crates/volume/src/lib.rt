@@ -7,3 +7,4 @@ pub mod entry;
 pub mod file;
 pub mod name;
 pub mod root;
+pub mod sums;

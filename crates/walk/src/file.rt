@@ -9,9 +9,9 @@ use volume::file::keys_here;
 use volume::file::list_fault;
 ghost use mathlib.Core.Path.{_≡_};
 ghost use Prim.Native.Nat.{_-_, _≤_, _<_};
-ghost use lib.ListN.{length};
-ghost use Rattle.volume.specs.Disks.{Sized, imageBytes, fileLimit};
+ghost use Rattle.volume.specs.Disks.{Sized, fileLimit};
 ghost use Rattle.volume.specs.Blocks.{Holds};
+ghost use Rattle.volume.specs.Sums.{Testable};
 ghost use Rattle.volume.specs.Files.{dataBlocks, blocksOf, keysHere};
 ghost use Rattle.walk.specs.Nodes.{datum, faultOf};
 ghost use Rattle.walk.specs.KeyBlocks.{headerOf, nextOf, listNode, InFile, InImage};
@@ -63,19 +63,34 @@ pub fn key_count(disk: Disk, b: KeyBlock) -> u32
     keys_here(disk.data_blocks(b.size) - b.done)
 }
 
-// The tests of data block n of b's file, after the block `last`.
-pub fn data_tests(disk: Disk, image: &[u8], b: KeyBlock, key: u32, n: u32, last: u32) -> u32
-    requires { ⌜ Sized disk × (length (now image) ≡ imageBytes disk) × InFile disk (now image) b × Holds (now image) key
+// The tests of data block n of b's file, after the block `last`; `map` has what is known of sums.
+pub fn data_tests(
+    disk: Disk,
+    image: &[u8],
+    map: u32,
+    b: KeyBlock,
+    key: u32,
+    n: u32,
+    last: u32,
+) -> u32
+    requires { ⌜ Testable disk (now image) map key × InFile disk (now image) b
         × (last < disk .blocks) × (1 ≤ n) × (n ≤ blocksOf disk (now image) (b .header)) ⌝ }
     ensures { λ r. ⌜ r ≡ faultOf disk (now (image .entry)) (datum key (b .header) n last) ⌝ }
 {
-    data_fault(disk, image, key, b.header, b.size, n, last)
+    data_fault(disk, image, map, key, b.header, b.size, n, last)
 }
 
-// The tests of a list block.
-pub fn list_tests(disk: Disk, image: &[u8], b: KeyBlock) -> u32
-    requires { ⌜ Sized disk × InFile disk (now image) b × Holds (now image) (b .key) ⌝ }
+// The tests of a list block; `map` has what is known of sums.
+pub fn list_tests(disk: Disk, image: &[u8], map: u32, b: KeyBlock) -> u32
+    requires { ⌜ Testable disk (now image) map (b .key) × InFile disk (now image) b ⌝ }
     ensures { λ r. ⌜ r ≡ faultOf disk (now (image .entry)) (listNode b) ⌝ }
 {
-    list_fault(image, b.key, b.header, disk.data_blocks(b.size) - b.done)
+    list_fault(
+        disk,
+        image,
+        map,
+        b.key,
+        b.header,
+        disk.data_blocks(b.size) - b.done,
+    )
 }

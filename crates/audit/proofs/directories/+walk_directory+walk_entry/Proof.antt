@@ -31,10 +31,10 @@ use Rattle.audit.proofs.directories.+walk_directory+walk_entry.{stateme
 use Rattle.audit.proofs.directories.+walk_directory+walk_entry.Tie.{close}
 
 abbrev μ-walk-directory : Measures 2 walk-directory-kinds.ps ℕ
-μ-walk-directory κs a = 2 * free (a .1 .1 .0 .now) + 1
+μ-walk-directory κs a = 2 * free (a .1 .1 .1 .0 .now) + 1
 
 abbrev μ-walk-entry : Measures 2 walk-entry-kinds.ps ℕ
-μ-walk-entry κs a = 2 * free (a .1 .1 .0 .now)
+μ-walk-entry κs a = 2 * free (a .1 .1 .1 .0 .now)
 
 abbrev walk-directory-at : ℕ → In 2 walk-directory-kinds.ps
 walk-directory-at t = and 2 walk-directory-kinds.ps (is 2 walk-directory-kinds.ps μ-walk-directory t) walk-directory.Pre
@@ -79,17 +79,17 @@ E t = (
 )
 
 abbrev Ic : walk-directory-lts.InvT-chain
-Ic disk image claim₀ key m₀ slot entry₀ position₀ claim m entry position =
+Ic disk image map claim₀ key m₀ slot entry₀ position₀ claim m entry position =
     ChainInv disk image key slot m₀ claim₀ claim m entry position
 
 abbrev Mc : walk-directory-lts.MeasureT-chain
-Mc disk image claim₀ key m₀ slot entry₀ position₀ claim m entry position = free claim
+Mc disk image map claim₀ key m₀ slot entry₀ position₀ claim m entry position = free claim
 
 abbrev Is : walk-directory-lts.InvT-slots
-Is disk image claim₀ key m₀ slot₀ claim m slot = SlotsInv disk image key m₀ claim₀ claim m slot
+Is disk image map claim₀ key m₀ slot₀ claim m slot = SlotsInv disk image key m₀ claim₀ claim m slot
 
 abbrev Ms : walk-directory-lts.MeasureT-slots
-Ms disk image claim₀ key m₀ slot₀ claim m slot = slots - slot
+Ms disk image map claim₀ key m₀ slot₀ claim m slot = slots - slot
 
 walk-directory-slots-holds : (t : ℕ)
     → walk-directory-lts.Need-slots-holds (D t) (walk-directory-at t) walk-directory.Post Ic Mc Is Ms
@@ -133,7 +133,9 @@ walk-directory-returns t c = search (chain-out, slots-out) depth 9
 
 walk-directory-next-entry-requires : (t : ℕ)
     → walk-directory-lts.Need-next-entry-requires (D t) (walk-directory-at t) walk-directory.Post Ic Mc Is Ms
-walk-directory-next-entry-requires t c κs = search entry-holds depth 9
+walk-directory-next-entry-requires t c κs =
+    let went = c .before .before .before .before .before in
+    entry-holds _ _ _ _ _ _ _ _ _ _ (went .walk-entry .ensures) _ (c .before .w .given .1)
 
 walk-directory-add-position : (t : ℕ)
     → walk-directory-lts.Need-add-position (D t) (walk-directory-at t) walk-directory.Post Ic Mc Is Ms
@@ -191,7 +193,7 @@ walk-entry-with-directory-requires t c κs = search (needs, ready-most) depth 9
 walk-entry-walk-directory-requires : (t : ℕ)
     → walk-entry-lts.Need-walk-directory-requires (E t) (walk-entry-at t) walk-entry.Post
 walk-entry-walk-directory-requires t c κs =
-    (search entry-falls depth 9, (search entry-ready depth 9, search met-high depth 9))
+    (search entry-falls depth 9, (search entry-ready depth 9, search met-high depth 9, search needs))
 
 walk-entry-same-length-2 : (t : ℕ) → walk-entry-lts.Need-same-length-2 (E t) (walk-entry-at t) walk-entry.Post
 walk-entry-same-length-2 t c = cc
@@ -203,7 +205,8 @@ walk-entry-with-file-requires : (t : ℕ) → walk-entry-lts.Need-with-file-requ
 walk-entry-with-file-requires t c κs = search (needs, ready-most) depth 9
 
 walk-entry-walk-file-requires : (t : ℕ) → walk-entry-lts.Need-walk-file-requires (E t) (walk-entry-at t) walk-entry.Post
-walk-entry-walk-file-requires t c κs = (search entry-ready depth 9, search met-high depth 9, search met-file depth 9)
+walk-entry-walk-file-requires t c κs =
+    (search entry-ready depth 9, search met-high depth 9, search met-file depth 9, search needs)
 
 walk-entry-same-length-3 : (t : ℕ) → walk-entry-lts.Need-same-length-3 (E t) (walk-entry-at t) walk-entry.Post
 walk-entry-same-length-3 t c = cc

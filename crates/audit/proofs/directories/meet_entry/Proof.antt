@@ -1,5 +1,5 @@
 -- `audit::directories::meet_entry` meets its contract. Assumes nothing.
-use Rattle.audit.proofs.Meeting.{claims-low, claims-high, met-claim}
+use Rattle.audit.proofs.Meeting.{claims-testable, met-claim}
 use Rattle.audit.proofs.Hanging.{met-entry}
 use borrow.Author.Needs.{needs}
 use Rattle.audit.proofs.directories.meet_entry.Statement.{statement}
@@ -15,7 +15,7 @@ returns : tie.Need-returns
 returns c = search met-claim depth 7
 
 hangs-fault-requires : tie.Need-hangs-fault-requires
-hangs-fault-requires c κs = search (needs, claims-low, claims-high) depth 9
+hangs-fault-requires c κs = search (needs, claims-testable) depth 9
 
 same-length-2 : tie.Need-same-length-2
 same-length-2 c = search needs

@@ -1,5 +1,5 @@
 -- `audit::files::meet_data` meets its contract. Assumes nothing.
-use Rattle.audit.proofs.Meeting.{claims-holds, met-claim, met-tests}
+use Rattle.audit.proofs.Meeting.{claims-testable, met-claim, met-tests}
 use borrow.Author.Needs.{needs}
 use Rattle.audit.proofs.files.meet_data.Statement.{statement}
 use Rattle.audit.proofs.files.meet_data.Tie as tie
@@ -14,7 +14,7 @@ returns : tie.Need-returns
 returns c = search met-claim depth 7
 
 data-tests-requires : tie.Need-data-tests-requires
-data-tests-requires c κs = search (needs, claims-holds) depth 7
+data-tests-requires c κs = search (needs, claims-testable) depth 7
 
 same-length-2 : tie.Need-same-length-2
 same-length-2 c = search needs

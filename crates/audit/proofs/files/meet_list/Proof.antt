@@ -1,5 +1,5 @@
 -- `audit::files::meet_list` meets its contract. Assumes nothing.
-use Rattle.audit.proofs.Meeting.{claims-holds, met-claim, met-tests}
+use Rattle.audit.proofs.Meeting.{claims-testable, met-claim, met-tests}
 use borrow.Author.Needs.{needs}
 use Rattle.audit.proofs.files.meet_list.Statement.{statement}
 use Rattle.audit.proofs.files.meet_list.Tie as tie
@@ -14,7 +14,7 @@ returns : tie.Need-returns
 returns c = search met-claim depth 7
 
 list-tests-requires : tie.Need-list-tests-requires
-list-tests-requires c κs = search (needs, claims-holds) depth 7
+list-tests-requires c κs = search (needs, claims-testable) depth 7
 
 same-length-2 : tie.Need-same-length-2
 same-length-2 c = search needs

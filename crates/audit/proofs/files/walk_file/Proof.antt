@@ -8,10 +8,10 @@ use Rattle.audit.proofs.files.walk_file.Statement.{statement}
 use Rattle.audit.proofs.files.walk_file.Tie as tie
 
 abbrev Inv-loop : tie.InvT-loop
-Inv-loop disk image claim₀ header m₀ b₀ claim m b = ListsInv disk image b₀ m₀ claim₀ claim m b
+Inv-loop disk image map claim₀ header m₀ b₀ claim m b = ListsInv disk image b₀ m₀ claim₀ claim m b
 
 abbrev μ-loop : tie.MeasureT-loop
-μ-loop disk image claim₀ header m₀ b₀ claim m b = free claim
+μ-loop disk image map claim₀ header m₀ b₀ claim m b = free claim
 
 header-block-requires : tie.Need-header-block-requires Inv-loop μ-loop
 header-block-requires c κs = search in-image depth 7

@@ -7,10 +7,10 @@ use Rattle.audit.proofs.files.walk_keys.Statement.{statement}
 use Rattle.audit.proofs.files.walk_keys.Tie as tie
 
 abbrev Inv-loop : tie.InvT-loop
-Inv-loop disk image claim₀ b count c₀ last₀ i₀ claim c last i = KeysInv disk image b claim₀ c₀ count claim c last i
+Inv-loop disk image map claim₀ b count c₀ last₀ i₀ claim c last i = KeysInv disk image b claim₀ c₀ count claim c last i
 
 abbrev μ-loop : tie.MeasureT-loop
-μ-loop disk image claim₀ b count c₀ last₀ i₀ claim c last i = count - i
+μ-loop disk image map claim₀ b count c₀ last₀ i₀ claim c last i = count - i
 
 key-count-requires : tie.Need-key-count-requires Inv-loop μ-loop
 key-count-requires c κs = search (needs, done-within) depth 7
@@ -31,7 +31,8 @@ add-meet-data-2 : tie.Need-add-meet-data-2 Inv-loop μ-loop
 add-meet-data-2 c = search needs
 
 meet-data-requires : tie.Need-meet-data-requires Inv-loop μ-loop
-meet-data-requires c κs = search needs
+meet-data-requires c κs =
+    (search needs, search needs, search needs, search needs, search needs, search needs)
 
 stopped-requires : tie.Need-stopped-requires Inv-loop μ-loop
 stopped-requires c κs = search needs

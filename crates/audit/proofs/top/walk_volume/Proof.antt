@@ -1,6 +1,6 @@
 -- `audit::top::walk_volume` meets its contract. Assumes nothing.
-use Rattle.audit.proofs.Auditing.{zeros-long, kept-long, root-stops, root-range, root-ready, bitmap-stops}
-use Rattle.audit.proofs.Auditing.{bitmap-ready, root-goes}
+use Rattle.audit.proofs.Auditing.{zeros-long, kept-long, root-stops, root-ready, bitmap-stops}
+use Rattle.audit.proofs.Auditing.{bitmap-ready, bitmap-range, root-goes}
 use borrow.Author.Needs.{needs}
 use Rattle.audit.proofs.top.walk_volume.Statement.{statement}
 use Rattle.audit.proofs.top.walk_volume.Tie as tie
@@ -35,8 +35,8 @@ same-length-2 c = search needs
 returns-2 : tie.Need-returns-2
 returns-2 c = search bitmap-stops depth 9
 
-walk-directory-requires : tie.Need-walk-directory-requires
-walk-directory-requires c κs =
+walk-tree-requires : tie.Need-walk-tree-requires
+walk-tree-requires c κs =
     let mapped = c .before .before .before .before in
     let tested = mapped .before .before .before in
     let rooted = tested .before .before .before in
@@ -46,7 +46,7 @@ walk-directory-requires c κs =
     (start .pre .2) (rooted .meet-root .kept .1 .1 .0) in (
       bitmap-ready _ _ _ _ _ _ (mapped .meet-bitmap .ensures) (c .before .if2 .left)
           (mapped .meet-bitmap .kept .1 .1 .0) y,
-      search root-range depth 9,
+      bitmap-range _ _ _ _ _ _ (mapped .meet-bitmap .ensures) (c .before .if2 .left),
     )
 
 same-length-3 : tie.Need-same-length-3
@@ -69,6 +69,6 @@ walk-volume-spec =
     stopped-requires-2
     same-length-2
     returns-2
-    walk-directory-requires
+    walk-tree-requires
     same-length-3
     returns-3)

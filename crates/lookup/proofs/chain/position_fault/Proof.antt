@@ -1,5 +1,6 @@
 -- `lookup::chain::position_fault` meets its contract. Assumes nothing.
-use Rattle.lookup.proofs.Chains.{range-holds, key-out, key-far, key-own}
+use Rattle.volume.proofs.Summing.{range-testable}
+use Rattle.lookup.proofs.Chains.{key-out, key-far, key-own}
 use borrow.Author.Needs.{needs}
 use Rattle.lookup.proofs.chain.position_fault.Statement.{statement}
 use Rattle.lookup.proofs.chain.position_fault.Tie as tie
@@ -11,7 +12,7 @@ chain-limit-requires : tie.Need-chain-limit-requires
 chain-limit-requires c κs = search needs
 
 entry-fault-requires : tie.Need-entry-fault-requires
-entry-fault-requires c κs = search range-holds depth 7
+entry-fault-requires c κs = search range-testable depth 7
 
 returns : tie.Need-returns
 returns c = search key-own depth 7

@@ -1,5 +1,6 @@
 -- `reading::blocks::test_data` meets its contract. Assumes nothing.
-use Rattle.reading.proofs.Testing.{range-holds, node-in, node-out}
+use Rattle.volume.proofs.Summing.{range-testable}
+use Rattle.reading.proofs.Testing.{node-in, node-out}
 use borrow.Author.Needs.{needs}
 use Rattle.reading.proofs.blocks.test_data.Statement.{statement}
 use Rattle.reading.proofs.blocks.test_data.Tie as tie
@@ -8,7 +9,7 @@ in-range-requires : tie.Need-in-range-requires
 in-range-requires c κs = search needs
 
 data-tests-requires : tie.Need-data-tests-requires
-data-tests-requires c κs = search (needs, range-holds) depth 7
+data-tests-requires c κs = search (needs, range-testable) depth 7
 
 returns : tie.Need-returns
 returns c = search node-in depth 7

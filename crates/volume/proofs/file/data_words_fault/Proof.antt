@@ -4,8 +4,8 @@ use borrow.Author.Needs.{needs}
 use Rattle.volume.proofs.file.data_words_fault.Statement.{statement}
 use Rattle.volume.proofs.file.data_words_fault.Tie as tie
 
-sum-of-requires : tie.Need-sum-of-requires
-sum-of-requires c κs = search needs
+known-sum-requires : tie.Need-known-sum-requires
+known-sum-requires c κs = search needs
 
 returns : tie.Need-returns
 returns c = search faults depth 12
@@ -44,7 +44,7 @@ pub data-words-fault-spec : {M : Type 1} → statement M
 data-words-fault-spec =
     tie.close
     (tie.spec
-    sum-of-requires
+    known-sum-requires
     returns
     word-of-requires
     returns-2

@@ -4,8 +4,8 @@ use borrow.Author.Needs.{needs}
 use Rattle.volume.proofs.file.list_words_fault.Statement.{statement}
 use Rattle.volume.proofs.file.list_words_fault.Tie as tie
 
-sum-of-requires : tie.Need-sum-of-requires
-sum-of-requires c κs = search needs
+known-sum-requires : tie.Need-known-sum-requires
+known-sum-requires c κs = search needs
 
 returns : tie.Need-returns
 returns c = search faults depth 12
@@ -41,7 +41,7 @@ pub list-words-fault-spec : {M : Type 1} → statement M
 list-words-fault-spec =
     tie.close
     (tie.spec
-    sum-of-requires
+    known-sum-requires
     returns
     word-of-requires
     returns-2

@@ -6,7 +6,7 @@ use Rattle.walk.proofs.file.data_tests.Tie as tie
 
 data-fault-requires : tie.Need-data-fault-requires
 data-fault-requires c κs =
-    (search needs, search needs, search needs, search in-image depth 7, search needs, search number-few depth 7)
+    (search needs, search needs, search in-image depth 7, search needs, search number-few depth 7)
 
 returns : tie.Need-returns
 returns c = search datum-is depth 7
