@@ -27,7 +27,7 @@ use Rattle.walk.specs.Nodes.{Node, entry, chained, slotNodes, contents, leadsTo
 use Rattle.walk.specs.Nodes.{faultOf}
 use Rattle.audit.specs.declared.walked.Walked.{Walked}
 use Rattle.audit.specs.declared.walked.Walked.the-variants.{Done, Stopped}
-use Rattle.audit.specs.Walks.{Claims, Met, Walks, Ready, Known, Chain, EntryWalked}
+use Rattle.audit.specs.Walks.{Claims, Met, Walks, Ready, Known, Chain, EntryWalked, UsedSlot}
 use Rattle.audit.proofs.Meeting.{met-tests}
 use Rattle.audit.proofs.Walking.{not-both, walks-none, walks-stopped, walks-then, walks-part, met-free}
 use Rattle.audit.proofs.Walking.{met-range, met-passed, met-stops, met-goes, ready-met, ready-walked}
@@ -295,6 +295,22 @@ module _ (d : Disk) (s : List ℕ) (t i : ℕ) where
 
 -- ---- the slots of a directory
 
+-- empty ones: w is the word of slot j
+module _ (s : List ℕ) (t i : ℕ) where
+  pub used-start : i ≤ slots → UsedSlot s t i i
+  used-start h = record { from = le-refl i; upto = h; empty = refl }
+
+  pub used-again : (j w : ℕ) → UsedSlot s t i j → j < slots → w ≡ slotWord s t j → w ≡ 0 → UsedSlot s t i (j + 1)
+  unfolding slotNodes
+  used-again j w u h e z =
+      record {
+        from = omega (arith, u .from);
+        upto = omega arith;
+        empty =
+            let g : slots - j ≡ suc (slots - (j + 1)) = omega arith in
+            u .empty ∙ rw (g, add-one j, sym e ∙ z) refl;
+      }
+
 module _ (d : Disk) (s : List ℕ) (t : ℕ) where
   abbrev slotsFrom : ℕ → List Node
   slotsFrom i = slotNodes s t i (slots - i)
@@ -307,15 +323,16 @@ module _ (d : Disk) (s : List ℕ) (t : ℕ) where
     pub fewer : free cl ≤ free cl₀
     pub walked : Walks d s (slotNodes s t 0 slots) (slotsFrom i) n₀ cl₀ (Done n) cl
 
-  pub slots-start : (cl : List ℕ) (n : Counts) → Ready d s cl n → t < d .blocks → SlotsInv n cl cl n 0
-  slots-start cl n r l =
+  pub slots-start : (cl : List ℕ) (n : Counts) (j : ℕ) → Ready d s cl n → t < d .blocks → UsedSlot s t 0 j
+      → SlotsInv n cl cl n j
+  slots-start cl n j r l u =
       record {
         ready = r;
         long = refl;
         inside = l;
-        upto = omega arith;
+        upto = u .upto;
         fewer = le-refl _;
-        walked = walks-none d s (slotNodes s t 0 slots) n cl;
+        walked = rw (← u .empty) (walks-none d s (slotNodes s t 0 slots) n cl);
       }
 
   module _ (n₀ : Counts) (cl₀ cl : List ℕ) (n : Counts) (i : ℕ) (v : SlotsInv n₀ cl₀ cl n i) where
@@ -336,16 +353,16 @@ module _ (d : Disk) (s : List ℕ) (t : ℕ) where
         → Walks d s (slotNodes s t 0 slots) [] n₀ cl₀ r cl′
     slots-out r x cl′ h w e = walks-stopped d s _ _ [] n₀ cl₀ cl′ r x (slots-on r cl′ h w) e
 
-    pub slots-again : (cl′ : List ℕ) (m : Counts) (k p : ℕ) → i < slots → ChainInv d s t i n cl cl′ m k p → k ≡ 0
-        → SlotsInv n₀ cl₀ cl′ m (i + 1)
-    slots-again cl′ m k p h c z =
+    pub slots-again : (cl′ : List ℕ) (m : Counts) (k p j : ℕ) → i < slots → ChainInv d s t i n cl cl′ m k p → k ≡ 0
+        → UsedSlot s t (i + 1) j → SlotsInv n₀ cl₀ cl′ m j
+    slots-again cl′ m k p j h c z u =
         record {
           ready = c .ready;
           long = c .long ∙ v .long;
           inside = v .inside;
-          upto = omega arith;
+          upto = u .upto;
           fewer = omega (arith, v .fewer, c .few);
-          walked = slots-on (Done m) cl′ h (chain-end d s t i n cl cl′ m k p c z);
+          walked = rw (← u .empty) (slots-on (Done m) cl′ h (chain-end d s t i n cl cl′ m k p c z));
         }
 
     pub slots-end : slots ≤ i → Walks d s (slotNodes s t 0 slots) [] n₀ cl₀ (Done n) cl

@@ -1,6 +1,6 @@
 -- What a part of the walk has done: a claim, a block that was met, a stretch of work. Each is said of the walk over
 -- the graph of crate `walk`.
-use Prim.Native.Nat.{ℕ, _+_, _≤_, _<_}
+use Prim.Native.Nat.{ℕ, _+_, _-_, _≤_, _<_}
 use mathlib.Core.Path.{_≡_}
 use mathlib.Core.List.{List, [], _∷_, _++_}
 use lib.ListN.{length, getD, set}
@@ -13,7 +13,7 @@ use Rattle.volume.specs.Blocks.{slots, Holds, wordOf, slotWord}
 use Rattle.volume.specs.Names.{nameLength, longest}
 use Rattle.walk.specs.declared.Counts.{Counts}
 use Rattle.volume.specs.Law.{chainKey}
-use Rattle.walk.specs.Nodes.{Node, entry, keyOf, keyFault, keyBlockNodes, chained, graph}
+use Rattle.walk.specs.Nodes.{Node, entry, keyOf, keyFault, slotNodes, keyBlockNodes, chained, graph}
 use Rattle.walk.specs.declared.file.KeyBlock.{KeyBlock}
 use Rattle.walk.specs.KeyBlocks.{nextOf, listNode, linkTo, InImage, NextReady}
 use Rattle.audit.specs.declared.walked.Walked.{Walked}
@@ -82,6 +82,12 @@ pub record Chain (d : Disk) (s : List ℕ) (t i p : ℕ) : Type 0 where
   pub inside : t < d .blocks
   pub slot : i < slots
   pub earlier : (q : ℕ) → q < p → Known d s (chainKey s (slotWord s t i) q)
+
+-- the slots of directory t from i up to j are empty: nothing is met there
+pub record UsedSlot (s : List ℕ) (t i j : ℕ) : Type 0 where
+  pub from : i ≤ j
+  pub upto : j ≤ slots
+  pub empty : slotNodes s t i (slots - i) ≡ slotNodes s t j (slots - j)
 
 -- an entry is walked, with what is in it, up to the link to the next on its chain
 pub record EntryWalked (d : Disk) (s : List ℕ) (k t i p : ℕ) (n : Counts) (cl : List ℕ) (r : Walked) (cl′ : List ℕ)

@@ -23,7 +23,7 @@ ghost use Rattle.volume.specs.Blocks.{slots, Holds, wordOf};
 ghost use Rattle.volume.specs.Sums.{SumsKnown, Testable};
 ghost use Rattle.volume.specs.Law.{chainKey};
 ghost use Rattle.walk.specs.Nodes.{entry, slotNodes, twin, hangsFault, withEntry};
-ghost use Rattle.audit.specs.Walks.{Met, Ready, Walks, Known, Chain, EntryWalked};
+ghost use Rattle.audit.specs.Walks.{Met, Ready, Walks, Known, Chain, EntryWalked, UsedSlot};
 
 const SLOTS: u32 = Block::SLOTS as u32;
 
@@ -33,6 +33,21 @@ fn next_entry(image: &[u8], key: u32) -> u32
     ensures { λ r. ⌜ r ≡ wordOf (now (image .entry)) key 124 ⌝ }
 {
     word_of(image, key, Block::NEXT)
+}
+
+// The first slot of a directory that is not empty, from `slot` on; their number if there is none.
+fn used_slot(image: &[u8], key: u32, slot: u32) -> u32
+    requires { ⌜ (Holds (now image) key) × (slot ≤ slots) ⌝ }
+    ensures { λ r. ⌜ UsedSlot (now (image .entry)) key slot r ⌝ }
+{
+    let mut i = slot;
+    while i < SLOTS {
+        if word_of(image, key, Block::FIRST_SLOT + i as usize) != 0 {
+            return i;
+        }
+        i += 1;
+    }
+    i
 }
 
 // Whether one of the first `position` entries of the chain from `head` has the name of an entry.
@@ -171,7 +186,7 @@ pub(crate) fn walk_directory(
         (now (claim .entry)) r (now (claim .exit)) ⌝ }
 {
     let mut m = n;
-    let mut slot: u32 = 0;
+    let mut slot = used_slot(image, key, 0);
     'slots: while slot < SLOTS {
         let mut entry = word_of(image, key, Block::FIRST_SLOT + slot as usize);
         let mut position: u32 = 0;
@@ -184,7 +199,7 @@ pub(crate) fn walk_directory(
             entry = next_entry(image, entry);
             position += 1;
         }
-        slot += 1;
+        slot = used_slot(image, key, slot + 1);
     }
     Walked::Done(m)
 }

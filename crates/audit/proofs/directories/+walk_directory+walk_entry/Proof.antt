@@ -20,6 +20,7 @@ use Rattle.audit.proofs.directories.walk_entry.Reads as walk-entry
 use Rattle.audit.proofs.directories.walk_entry.Kinds as walk-entry-kinds
 use Rattle.audit.proofs.directories.+walk_directory+walk_entry.Lts-walk_entry as walk-entry-lts
 use Rattle.audit.proofs.walked.stopped.Reads as stopped-reads
+use Rattle.audit.proofs.directories.used_slot.Reads as used-slot-reads
 use Rattle.audit.proofs.directories.meet_entry.Reads as meet-entry-reads
 use Rattle.audit.proofs.directories.next_entry.Reads as next-entry-reads
 use Rattle.audit.proofs.directories.with_directory.Reads as with-directory-reads
@@ -52,6 +53,8 @@ walk-entry-below t = and 2 walk-entry-kinds.ps (falls 2 walk-entry-kinds.ps _<_ 
 -- what the callees ask and tell
 abbrev D : ℕ → walk-directory-lts.Claims
 D t = (
+  used-slot-reads.Asked,
+  used-slot-reads.Learnt,
   word-of-reads.Asked,
   word-of-reads.Learnt,
   walk-entry-below t,
@@ -90,6 +93,10 @@ Is disk image map claim₀ key m₀ slot₀ claim m slot = SlotsInv disk image k
 
 abbrev Ms : walk-directory-lts.MeasureT-slots
 Ms disk image map claim₀ key m₀ slot₀ claim m slot = slots - slot
+
+walk-directory-used-slot-requires : (t : ℕ)
+    → walk-directory-lts.Need-used-slot-requires (D t) (walk-directory-at t) walk-directory.Post Ic Mc Is Ms
+walk-directory-used-slot-requires t c κs = search (needs, ready-holds) depth 9
 
 walk-directory-slots-holds : (t : ℕ)
     → walk-directory-lts.Need-slots-holds (D t) (walk-directory-at t) walk-directory.Post Ic Mc Is Ms
@@ -149,9 +156,13 @@ walk-directory-chain-again : (t : ℕ)
     → walk-directory-lts.Need-chain-again (D t) (walk-directory-at t) walk-directory.Post Ic Mc Is Ms
 walk-directory-chain-again t c = search chain-again depth 9
 
-walk-directory-add-slot : (t : ℕ)
-    → walk-directory-lts.Need-add-slot (D t) (walk-directory-at t) walk-directory.Post Ic Mc Is Ms
-walk-directory-add-slot t c = omega arith
+walk-directory-add-used-slot : (t : ℕ)
+    → walk-directory-lts.Need-add-used-slot (D t) (walk-directory-at t) walk-directory.Post Ic Mc Is Ms
+walk-directory-add-used-slot t c = omega arith
+
+walk-directory-used-slot-requires-2 : (t : ℕ)
+    → walk-directory-lts.Need-used-slot-requires-2 (D t) (walk-directory-at t) walk-directory.Post Ic Mc Is Ms
+walk-directory-used-slot-requires-2 t c κs = search (needs, ready-holds) depth 9
 
 walk-directory-slots-less : (t : ℕ)
     → walk-directory-lts.Need-slots-less (D t) (walk-directory-at t) walk-directory.Post Ic Mc Is Ms
@@ -218,11 +229,13 @@ pub +walk-directory+walk-entry-spec : {M : Type 1} → statement M
 +walk-directory+walk-entry-spec =
     close μ-walk-directory μ-walk-entry
     (λ t. walk-directory-lts.spec (D t) (walk-directory-at t) walk-directory.Post Ic Mc Is Ms
-    (walk-directory-slots-holds t) (walk-directory-cast-word-of t) (walk-directory-add-word-of t)
+    (walk-directory-used-slot-requires t) (walk-directory-slots-holds t) (walk-directory-cast-word-of t)
+    (walk-directory-add-word-of t)
     (walk-directory-word-of-requires t) (walk-directory-chain-holds t) (walk-directory-walk-entry-requires t)
     (walk-directory-enum-known-w t) (walk-directory-enum-told t) (walk-directory-same-length t)
     (walk-directory-returns t) (walk-directory-next-entry-requires t) (walk-directory-add-position t)
-    (walk-directory-chain-less t) (walk-directory-chain-again t) (walk-directory-add-slot t)
+    (walk-directory-chain-less t) (walk-directory-chain-again t) (walk-directory-add-used-slot t)
+    (walk-directory-used-slot-requires-2 t)
     (walk-directory-slots-less t) (walk-directory-slots-again t) (walk-directory-same-length-2 t)
     (walk-directory-returns-2 t))
     (λ t. walk-entry-lts.spec (E t) (walk-entry-at t) walk-entry.Post (walk-entry-meet-entry-requires t)
