@@ -1,10 +1,10 @@
 -- What an accepted file has, and what the calls answer and leave. Assumes nothing.
-use Prim.Native.Nat.{ℕ, zero, suc, _+_, _*_, _%_, _≤_}
+use Prim.Native.Nat.{ℕ, _+_, _*_, _%_, _≤_}
 use mathlib.Core.Path.{_≡_, refl, sym, ap, _∙_}
 use mathlib.Core.List.{List, [], _∷_, _++_}
 use mathlib.Core.Bool.{Bool, true, false}
 use native.Mathlib.Omega.{arith}
-use lib.ListN.{length, getD, replicate, take, drop}
+use lib.ListN.{length, take, drop}
 use lib.Seq.{length-take-le}
 use lib.Dec.{ltb, eqb}
 use borrow.Author.Tests.{ltb-false, eqb-true}
@@ -152,6 +152,9 @@ room-passed t n m tb w h =
     let c = pick-passed (ltb w n) (refusal fault.shortRoom 0) _ (b .1) in
     (ltb-false m n (a .0), ltb-false tb t (b .0), ltb-false w n (c .0))
 
+pub work-fits : (t n m tb w : ℕ) (h : Tested) → h ≡ roomFault t n m tb w → h ≡ Passed → n ≤ w
+work-fits t n m tb w h e x = room-passed t n m tb w (sym e ∙ x) .2
+
 pub bases-passed : (file bases : List ℕ) (from : ℕ) → basesFault file bases from ≡ Passed → length bases ≡ totalOf file
 unfolding basesFault pick
 bases-passed file bases from h = go (eqb (length bases) (totalOf file)) refl h
@@ -172,6 +175,9 @@ module _ (file : List ℕ) (a : Answer) (t n : ℕ) (g : (i j : ℕ) → a ≡ A
   pub last-whole : length file % 4 ≡ 0
   last-whole = g t n ea .whole
 
+  pub last-bytes : n ≡ loadedOf file
+  last-bytes = g t n ea .bytes
+
   module _ (m tb w : ℕ) (h : Tested) (eh : h ≡ roomFault t n m tb w) where
     room-same : h ≡ roomFault (totalOf file) (loadedOf file) m tb w
     room-same =
@@ -185,9 +191,6 @@ module _ (file : List ℕ) (a : Answer) (t n : ℕ) (g : (i j : ℕ) → a ≡ A
 
     pub last-room : (f : Refusal) (r : Answer) → h ≡ Failed f → r ≡ also (Accepted t n) h → r ≡ lastTests file a m tb w
     last-room f r x y = y ∙ ap (also (Accepted t n)) x ∙ sym (both (Failed f) x)
-
-    pub last-fits : h ≡ Passed → loadedOf file ≤ w
-    last-fits x = omega (arith, room-passed t n m tb w (sym eh ∙ x) .2, g t n ea .bytes)
 
     pub last-clash : (k : Tested) (r : Answer) → h ≡ Passed → k ≡ clashOf file → r ≡ also (Accepted t n) k
         → r ≡ lastTests file a m tb w
@@ -270,16 +273,6 @@ move-facts file old new m tb w t n r er h =
           (sym er ∙ h);
       count = bases-passed file new (totalOf file) (c .1);
     }
-
--- ---- areas of zeros
-
-getD-zeros : (n k : ℕ) → _≡_ {A = ℕ} (getD (replicate n 0) k 0) 0
-getD-zeros zero k = refl
-getD-zeros (suc n) zero = refl
-getD-zeros (suc n) (suc k) = getD-zeros n k
-
-pub all-zero : (w : List ℕ) (n : ℕ) → w ≡ replicate n 0 → (k : ℕ) → getD w k 0 ≡ 0
-all-zero w n e k = ap (λ (l : List ℕ). getD l k 0) e ∙ getD-zeros n k
 
 -- ---- the table is filled
 

@@ -21,23 +21,19 @@ use Rattle.loader.specs.Parts.{Roomy, Cleanly, Writes, handed, LoadsCore
 use Rattle.loader.proofs.Answering.{LoadFacts, MoveFacts, load-facts, move-facts}
 use Rattle.loader.proofs.Inside.{keyed-targets, length-withRecords}
 
--- a work area wiped, used and wiped again
-module _ (w w1 w2 w3 : List ℕ) (e1 : w1 ≡ replicate (length w) 0) (e2 : length w2 ≡ length w1)
-    (e3 : w3 ≡ replicate (length w2) 0) where
+-- a work area wiped first
+module _ (w w1 w2 : List ℕ) (e : w1 ≡ replicate (length w) 0) (file : List ℕ) (m records : ℕ) (a : Answer) where
   wiped-long : length w1 ≡ length w
-  wiped-long = ap length e1 ∙ length-replicate (length w) 0
+  wiped-long = ap length e ∙ length-replicate (length w) 0
 
-  wiped-clean : w3 ≡ replicate (length w) 0
-  wiped-clean = e3 ∙ rw (e2, wiped-long)
+  pub load-cleanly : (bases : List ℕ) → Cleanly (loadAnswer file bases m records (length w1)) (length w1) a w2
+      → Cleanly (loadAnswer file bases m records (length w)) (length w) a w2
+  load-cleanly bases h = rw wiped-long at h
 
-  module _ (file : List ℕ) (m records : ℕ) (a : Answer) where
-    pub load-cleanly : (bases : List ℕ) → a ≡ loadAnswer file bases m records (length w1)
-        → Cleanly (loadAnswer file bases m records (length w)) (length w) a w3
-    load-cleanly bases e = record { answer = e ∙ rw wiped-long; clean = wiped-clean }
-
-    pub move-cleanly : (old new : List ℕ) → a ≡ moveAnswer file old new m records (length w1)
-        → Cleanly (moveAnswer file old new m records (length w)) (length w) a w3
-    move-cleanly old new e = record { answer = e ∙ rw wiped-long; clean = wiped-clean }
+  pub move-cleanly : (old new : List ℕ)
+      → Cleanly (moveAnswer file old new m records (length w1)) (length w1) a w2
+      → Cleanly (moveAnswer file old new m records (length w)) (length w) a w2
+  move-cleanly old new h = rw wiped-long at h
 
 -- ---- an accepted program is written
 

@@ -1,6 +1,6 @@
 // Load and move on plain slices, with no demands on what is lent.
 use crate::bases::bases_fault;
-use crate::marks::mark_all;
+use crate::marks::near_fault;
 use crate::memory::add_all;
 use crate::memory::store_all;
 use crate::table::RECORD_LENGTH;
@@ -17,7 +17,7 @@ use words::clear;
 use words::wipe;
 ghost use mathlib.Core.Path.{_≡_};
 ghost use Prim.Native.Nat.{ℕ, _<_, _≤_};
-ghost use lib.ListN.{length, getD};
+ghost use lib.ListN.{length, replicate};
 ghost use Rattle.answers.specs.Refusals.{refusal};
 ghost use Rattle.program.specs.Acts.{actsOf};
 ghost use Rattle.loader.specs.Memory.{loadedOf, loadOf, moveOf, moved, amountOf};
@@ -68,11 +68,12 @@ fn also_test(a: Answer, h: Tested) -> Answer
     Answer::Refused(f)
 }
 
-// Room and near targets, after the other tests.
+// Room and near targets, after the other tests; the work area is all 0, and stays so.
 fn last_tests(file: &[u8], a: Answer, memory: usize, records: usize, work: &mut [u8]) -> Answer
     requires { ⌜ ((t : ℕ) → (n : ℕ) → a ≡ Answer.Accepted t n → AcceptedFile (now file) t n)
-        × ((k : ℕ) → getD (now work) k 0 ≡ 0) ⌝ }
-    ensures { λ r. ⌜ r ≡ lastTests (now (file .entry)) a memory records (length (now (work .entry))) ⌝ }
+        × (now work ≡ replicate (length (now work)) 0) ⌝ }
+    ensures { λ r. ⌜ Cleanly (lastTests (now (file .entry)) a memory records (length (now (work .entry))))
+        (length (now (work .entry))) r (now (work .exit)) ⌝ }
 {
     let Answer::Accepted(t, n) = a else {
         return a;
@@ -81,13 +82,13 @@ fn last_tests(file: &[u8], a: Answer, memory: usize, records: usize, work: &mut 
     let Tested::Passed = h else {
         return also_test(a, h);
     };
-    also_test(a, mark_all(file, work))
+    also_test(a, near_fault(file, n, work))
 }
 
 fn load_answer(file: &[u8], bases: &[u32], memory: usize, records: usize, work: &mut [u8]) -> Answer
-    requires { ⌜ ((k : ℕ) → getD (now work) k 0 ≡ 0) ⌝ }
-    ensures { λ r. ⌜ r ≡ loadAnswer (now (file .entry)) (now (bases .entry)) memory records
-        (length (now (work .entry))) ⌝ }
+    requires { ⌜ now work ≡ replicate (length (now work)) 0 ⌝ }
+    ensures { λ r. ⌜ Cleanly (loadAnswer (now (file .entry)) (now (bases .entry)) memory records
+        (length (now (work .entry)))) (length (now (work .entry))) r (now (work .exit)) ⌝ }
 {
     let v = check(file);
     let Answer::Accepted(_, _) = v else {
@@ -105,9 +106,9 @@ fn move_answer(
     records: usize,
     work: &mut [u8],
 ) -> Answer
-    requires { ⌜ ((k : ℕ) → getD (now work) k 0 ≡ 0) ⌝ }
-    ensures { λ r. ⌜ r ≡ moveAnswer (now (file .entry)) (now (old .entry)) (now (new .entry)) memory records
-        (length (now (work .entry))) ⌝ }
+    requires { ⌜ now work ≡ replicate (length (now work)) 0 ⌝ }
+    ensures { λ r. ⌜ Cleanly (moveAnswer (now (file .entry)) (now (old .entry)) (now (new .entry)) memory records
+        (length (now (work .entry)))) (length (now (work .entry))) r (now (work .exit)) ⌝ }
 {
     let v = check(file);
     let Answer::Accepted(_, _) = v else {
@@ -131,7 +132,7 @@ fn differences(old: &[u32], new: &[u32], amounts: &mut [u32])
     }
 }
 
-// The answer of a load; the work area is 0 before its tests, and after them.
+// The answer of a load; the work area may hold anything, and is wiped before the tests.
 fn load_verdict(
     file: &[u8],
     bases: &[u32],
@@ -143,9 +144,7 @@ fn load_verdict(
         (length (now (work .entry)))) (length (now (work .entry))) r (now (work .exit)) ⌝ }
 {
     wipe(work);
-    let a = load_answer(file, bases, memory, records, work);
-    wipe(work);
-    a
+    load_answer(file, bases, memory, records, work)
 }
 
 // The same of a move.
@@ -161,9 +160,7 @@ fn move_verdict(
         (length (now (work .entry)))) (length (now (work .entry))) r (now (work .exit)) ⌝ }
 {
     wipe(work);
-    let a = move_answer(file, old, new, memory, records, work);
-    wipe(work);
-    a
+    move_answer(file, old, new, memory, records, work)
 }
 
 // Loads an accepted program, n bytes long, and writes its records' numbers.

@@ -12,7 +12,7 @@ use program::reader::past;
 use program::reader::step;
 ghost use mathlib.Core.Path.{_≡_};
 ghost use Prim.Native.Nat.{ℕ, _+_, _%_, _≤_};
-ghost use lib.ListN.{length, getD};
+ghost use lib.ListN.{length, getD, replicate};
 ghost use Rattle.words.specs.Word.{setWord};
 ghost use Rattle.program.specs.Cursors.{HeaderFits};
 ghost use Rattle.loader.specs.Memory.{loadedOf};
@@ -46,7 +46,7 @@ fn mark_act(work: &mut [u8], a: Act) -> bool
 }
 
 // The first target too near an earlier one; the work area is all 0 at first.
-pub(crate) fn mark_all(file: &[u8], work: &mut [u8]) -> Tested
+fn mark_all(file: &[u8], work: &mut [u8]) -> Tested
     requires { ⌜ (HeaderFits (now file)) × (length (now file) % 4 ≡ 0) × (loadedOf (now file) ≤ length (now work))
         × ((k : ℕ) → getD (now work) k 0 ≡ 0) ⌝ }
     ensures { λ r. ⌜ r ≡ clashOf (now (file .entry)) ⌝ }
@@ -70,4 +70,17 @@ pub(crate) fn mark_all(file: &[u8], work: &mut [u8]) -> Tested
         at = s.at;
     }
     Tested::Passed
+}
+
+// The same in a work area that may be longer, all 0 at first and all 0 again: only the n bytes that a mark can stand
+// in are cleared.
+pub(crate) fn near_fault(file: &[u8], n: usize, work: &mut [u8]) -> Tested
+    requires { ⌜ (HeaderFits (now file)) × (length (now file) % 4 ≡ 0) × (n ≡ loadedOf (now file))
+        × (n ≤ length (now work)) × (now work ≡ replicate (length (now work)) 0) ⌝ }
+    ensures { λ r. ⌜ (r ≡ clashOf (now (file .entry)))
+        × (now (work .exit) ≡ replicate (length (now (work .entry))) 0) ⌝ }
+{
+    let r = mark_all(file, &mut work[..n]);
+    words::clear(work, n);
+    r
 }

@@ -1,5 +1,5 @@
 -- `loader::calls::last_tests` meets its contract. Assumes nothing.
-use Rattle.loader.proofs.Answering.{last-header, last-whole, last-room, last-fits, last-clash}
+use Rattle.loader.proofs.Answering.{last-header, last-whole, last-bytes, last-room, work-fits, last-clash}
 use borrow.Author.Needs.{needs}
 use Rattle.loader.proofs.calls.last_tests.Statement.{statement}
 use Rattle.loader.proofs.calls.last_tests.Tie as tie
@@ -11,7 +11,7 @@ enum-told : tie.Need-enum-told
 enum-told c = search needs
 
 returns : tie.Need-returns
-returns c = search needs
+returns c = record { answer = search needs; clean = search }
 
 room-fault-requires : tie.Need-room-fault-requires
 room-fault-requires c κs = search needs
@@ -26,10 +26,10 @@ also-test-requires : tie.Need-also-test-requires
 also-test-requires c κs = search needs
 
 returns-2 : tie.Need-returns-2
-returns-2 c = search last-room depth 9
+returns-2 c = record { answer = search last-room depth 9; clean = search }
 
-mark-all-requires : tie.Need-mark-all-requires
-mark-all-requires c κs = (search last-header, search last-whole, search last-fits depth 7, search)
+near-fault-requires : tie.Need-near-fault-requires
+near-fault-requires c κs = (search last-header, search last-whole, search last-bytes, search work-fits depth 7, search)
 
 also-test-requires-2 : tie.Need-also-test-requires-2
 also-test-requires-2 c κs = search needs
@@ -38,7 +38,7 @@ same-length : tie.Need-same-length
 same-length c = search needs
 
 returns-3 : tie.Need-returns-3
-returns-3 c = search last-clash depth 9
+returns-3 c = record { answer = search last-clash depth 9; clean = search }
 
 pub last-tests-spec : {M : Type 1} → statement M
 last-tests-spec =
@@ -52,7 +52,7 @@ last-tests-spec =
     enum-told-3
     also-test-requires
     returns-2
-    mark-all-requires
+    near-fault-requires
     also-test-requires-2
     same-length
     returns-3)

@@ -15,7 +15,7 @@ enum-told-2 : tie.Need-enum-told-2
 enum-told-2 c = search needs
 
 returns : tie.Need-returns
-returns c = search load-refused depth 7
+returns c = record { answer = search load-refused depth 7; clean = search }
 
 bases-fault-requires : tie.Need-bases-fault-requires
 bases-fault-requires c κs = (search checked-header, omega arith)
@@ -30,7 +30,7 @@ same-length : tie.Need-same-length
 same-length c = search needs
 
 returns-2 : tie.Need-returns-2
-returns-2 c = search load-last depth 9
+returns-2 c = record { answer = search load-last depth 9; clean = search }
 
 pub load-answer-spec : {M : Type 1} → statement M
 load-answer-spec =

@@ -1,5 +1,5 @@
 -- `loader::calls::load_verdict` meets its contract. Assumes nothing.
-use Rattle.loader.proofs.Answering.{all-zero}
+use Rattle.loader.proofs.Zeros.{all-zeros}
 use Rattle.loader.proofs.Calling.{load-cleanly}
 use borrow.Author.Needs.{needs}
 use Rattle.loader.proofs.calls.load_verdict.Statement.{statement}
@@ -9,10 +9,7 @@ wipe-requires : tie.Need-wipe-requires
 wipe-requires c κs = search needs
 
 load-answer-requires : tie.Need-load-answer-requires
-load-answer-requires c κs = search all-zero
-
-wipe-requires-2 : tie.Need-wipe-requires-2
-wipe-requires-2 c κs = search needs
+load-answer-requires c κs = search all-zeros
 
 same-length : tie.Need-same-length
 same-length c = search needs
@@ -21,4 +18,4 @@ returns : tie.Need-returns
 returns c = search load-cleanly depth 9
 
 pub load-verdict-spec : {M : Type 1} → statement M
-load-verdict-spec = tie.close (tie.spec wipe-requires load-answer-requires wipe-requires-2 same-length returns)
+load-verdict-spec = tie.close (tie.spec wipe-requires load-answer-requires same-length returns)

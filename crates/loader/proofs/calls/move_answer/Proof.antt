@@ -16,7 +16,7 @@ enum-told-2 : tie.Need-enum-told-2
 enum-told-2 c = search needs
 
 returns : tie.Need-returns
-returns c = search move-refused depth 7
+returns c = record { answer = search move-refused depth 7; clean = search }
 
 bases-fault-requires : tie.Need-bases-fault-requires
 bases-fault-requires c κs = (search checked-header, omega arith)
@@ -43,7 +43,7 @@ same-length : tie.Need-same-length
 same-length c = search needs
 
 returns-2 : tie.Need-returns-2
-returns-2 c = search move-last depth 12
+returns-2 c = record { answer = search move-last depth 12; clean = search }
 
 pub move-answer-spec : {M : Type 1} → statement M
 move-answer-spec =
