@@ -10,7 +10,7 @@ use lib.ListN.{length}
 use types.Run.{OneOf}
 use denote.Enum.Declared.{tagOf}
 use Rattle.program.specs.Types as type
-use Rattle.words.specs.Word.{setWord, addAt}
+use Rattle.words.specs.Word.{addAt}
 use Rattle.words.specs.Shift.{Target, shiftAll}
 use Rattle.words.proofs.Words.{length-setWord, length-addAt}
 use Rattle.answers.specs.Tests.{pick}
@@ -27,11 +27,11 @@ use Rattle.program.specs.Header.{totalOf, spaceOf, sizeOf, memoryOf}
 use Rattle.program.specs.Reader.{turn, stepOf}
 use Rattle.program.specs.Acts.{asks, actOf, pass}
 use Rattle.program.specs.Cursors.{HeaderFits, CursorFits, ModeFits, placeOf}
-use Rattle.program.specs.Runs.{QuietOrStore}
 use Rattle.program.proofs.Modes.{none}
 use Rattle.program.proofs.CursorsFit.{offset-in}
 use Rattle.program.proofs.Walks.{Reads}
 use Rattle.program.proofs.Passes.{Passing}
+use Rattle.program.proofs.Runs.{QuietOrStore}
 use Rattle.loader.specs.Memory.{loadedOf, storeOne, targetOne, targets, shiftOne, amountOf}
 use Rattle.loader.specs.Parts.{ActFits}
 use Rattle.loader.specs.Table.{recordLength, withNumbers, recordOne}
@@ -53,9 +53,6 @@ tagAdd = 3
 
 abbrev notBody : List ℕ
 notBody = tagQuiet ∷ tagStore ∷ tagAdd ∷ []
-
-abbrev notStore : List ℕ
-notStore = tagQuiet ∷ tagBody ∷ tagAdd ∷ []
 
 abbrev pub notAdd : List ℕ
 notAdd = tagQuiet ∷ tagBody ∷ tagStore ∷ []
@@ -80,11 +77,12 @@ opened : (space : ℕ → Space) (i : ℕ) → placeOf space (suc i) ≡ placeOf
 unfolding placeOf
 opened space i = refl
 
-module _ (file : List ℕ) (c : Cursor) (at w : ℕ) (d : Cursor) (s : CursorFits file c) where
-  inside : c .hunk < totalOf file → c .place + 4 * sizeOf file (c .hunk) ≤ loadedOf file
-  inside h =
-      omega (arith, s .place, place-up (spaceOf file) (suc (c .hunk)) (totalOf file) h, opened (spaceOf file) (c .hunk))
+pub hunk-inside : (file : List ℕ) (c : Cursor) → CursorFits file c → c .hunk < totalOf file
+    → c .place + 4 * sizeOf file (c .hunk) ≤ loadedOf file
+hunk-inside file c s h =
+    omega (arith, s .place, place-up (spaceOf file) (suc (c .hunk)) (totalOf file) h, opened (spaceOf file) (c .hunk))
 
+module _ (file : List ℕ) (c : Cursor) (at w : ℕ) (d : Cursor) (s : CursorFits file c) where
   low : c .place < 4294967296
   low = omega (arith, s .low, s .hunks, s .header .few)
 
@@ -99,11 +97,11 @@ module _ (file : List ℕ) (c : Cursor) (at w : ℕ) (d : Cursor) (s : CursorFit
   fits-in mode.NameLength h e = tt
   fits-in mode.Body h e = (h, low)
   fits-in (mode.Length k) h e = tt
-  fits-in (mode.Stored i) h e = omega (arith, inside (h .0), s .fits, h .1)
+  fits-in (mode.Stored i) h e = omega (arith, hunk-inside file c s (h .0), s .fits, h .1)
   fits-in mode.Part h e = tt
   fits-in mode.Count h e = tt
   fits-in (mode.Number n) h e = tt
-  fits-in (mode.Offset n k) h e = (omega (arith, inside (h .0), s .fits, offset-in file c w d s (h .0) n k e), h .1)
+  fits-in (mode.Offset n k) h e = (omega (arith, hunk-inside file c s (h .0), s .fits, offset-in file c w d s (h .0) n k e), h .1)
   fits-in mode.Symbol h e = tt
   fits-in mode.DebugLength h e = tt
   fits-in (mode.Skip n a) h e = tt
@@ -156,19 +154,6 @@ pub cursor-low : (file : List ℕ) (c : Cursor) → CursorFits file c → c .pla
 cursor-low file c s = omega (arith, s .low, s .hunks, s .header .few)
 
 -- ---- storing
-
-pub store-room : (n t : ℕ) (a : Act) (p w : ℕ) → ActFits n t a → a ≡ Store p w → p + 4 ≤ n
-store-room n t a p w f e = subst (ActFits n t) e f
-
-pub store-done : (m r : List ℕ) (a : Act) (p w : ℕ) → a ≡ Store p w → r ≡ setWord m p w → r ≡ storeOne m a
-store-done m r a p w e h = h ∙ sym (ap (storeOne m) e)
-
-pub store-rest : (m : List ℕ) (a : Act) → OneOf notStore (tagOf the-type a) → m ≡ storeOne m a
-unfolding pick
-store-rest m Quiet h = refl
-store-rest m (Body x p k) h = refl
-store-rest m (Store p w) h = absurd (none notStore tagStore tt h)
-store-rest m (Add p k b) h = refl
 
 pub length-storeOne : (m : List ℕ) (a : Act) → length (storeOne m a) ≡ length m
 length-storeOne m Quiet = refl

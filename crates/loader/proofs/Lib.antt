@@ -1,6 +1,8 @@
 -- Laws of what specs/ defines, and the theorems.
 -- what an act does, and that it lies inside
 pub mod Acts
+-- runs of stored words
+pub mod StoredRuns
 -- a work area of zeros
 pub mod Zeros
 -- marks in the work area

@@ -3,7 +3,7 @@
 use Prim.Native.Nat.{ℕ, _+_, _*_, _%_, _<_, _≤_}
 use mathlib.Core.Path.{_≡_}
 use mathlib.Core.Bool.{Bool, true, false}
-use mathlib.Core.List.{List, _++_}
+use mathlib.Core.List.{List, [], _∷_, _++_}
 use lib.ListN.{length, take, drop, replicate}
 use Rattle.words.specs.Word.{wordAt, setWord}
 use Rattle.program.specs.Types as type
@@ -11,11 +11,15 @@ use Rattle.program.specs.declared.act.Act.{Act}
 use Rattle.program.specs.declared.act.Act.the-variants.{Quiet, Body, Store, Add}
 use Rattle.program.specs.declared.check.Answer.{Answer}
 use Rattle.program.specs.declared.check.Answer.the-variants.{Accepted, Refused}
-use Rattle.program.specs.Header.{totalOf}
-use Rattle.program.specs.Acts.{actsOf}
+use Rattle.program.specs.declared.reader.Cursor.{Cursor}
+use Rattle.program.specs.declared.reader.Mode.the-variants.{Stored}
+use Rattle.program.specs.declared.reader.Next.the-variants.{On}
+use Rattle.program.specs.Header.{totalOf, spaceOf}
+use Rattle.program.specs.Reader.{stepOf}
+use Rattle.program.specs.Acts.{actOf, actsOf}
 use Rattle.program.specs.Cursors.{HeaderFits}
 use Rattle.loader.specs.declared.calls.Outcome.{Outcome}
-use Rattle.loader.specs.Memory.{loadedOf, loadOf, moveOf}
+use Rattle.loader.specs.Memory.{loadedOf, storeOne, loadOf, moveOf}
 use Rattle.loader.specs.Table.{recordLength, tableRoom, withRecords}
 use Rattle.loader.specs.Calls.{loadAnswer, moveAnswer, effect}
 
@@ -34,6 +38,26 @@ ActFits n t Quiet = Unit
 ActFits n t (Body h p k) = (h < t) × (p < 4294967296)
 ActFits n t (Store p w) = p + 4 ≤ n
 ActFits n t (Add p k b) = (p + 4 ≤ n) × (k < t)
+
+-- memory with words stored one after the other, the first at p
+unfoldable pub withWords : List ℕ → ℕ → List ℕ → List ℕ
+withWords m p [] = m
+withWords m p (w ∷ ws) = withWords (setWord m p w) (p + 4) ws
+
+-- the reader takes words from the cursor c at byte `at` on, up to the cursor d at byte `to`, and what they ask to
+-- store makes n of memory m
+pub data Stores (file : List ℕ) : List ℕ → Cursor → ℕ → List ℕ → Cursor → ℕ → Type 0 where
+  here : {m : List ℕ} {c : Cursor} {at : ℕ} → Stores file m c at m c at
+  along : {m n : List ℕ} {c d e : Cursor} {at to : ℕ}
+      → at < length file
+      → stepOf (totalOf file) (spaceOf file) c (wordAt file at) ≡ On d
+      → Stores file (storeOne m (actOf c at (wordAt file at))) d (at + 4) n e to
+      → Stores file m c at n e to
+
+-- so far that no stored word comes next, but at the end of the file
+pub record StoresPast (file m : List ℕ) (c : Cursor) (at : ℕ) (n : List ℕ) (d : Cursor) (to : ℕ) : Type 0 where
+  pub stores : Stores file m c at n d to
+  pub rests : (i : ℕ) → d .mode ≡ Stored i → length file ≤ to
 
 -- what the marking of one act does to the work area
 abbrev pub marksOne : List ℕ → Act → Bool → List ℕ → Type 0

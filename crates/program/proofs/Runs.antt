@@ -1,5 +1,5 @@
--- Words that are stored or passed over lead on (`past-stored`, `past-skipped`), and what a reader or a pass makes of
--- the rest stays (`leads-reads`, `passing-turn`). Assumes nothing.
+-- Words that are stored or passed over lead on (`past-stored`, `past-skipped`), and what a reader, or a pass that does
+-- not store, makes of the rest stays (`leads-reads`, `passing-turn`). Assumes nothing.
 use Prim.Native.Nat.{ℕ, zero, suc, _+_, _-_, _*_, _/_, _%_, _<_, _≤_, min}
 use mathlib.Core.Path.{_≡_, refl, sym, ap, subst, _∙_}
 use mathlib.Core.List.{List, _∷_}
@@ -7,20 +7,22 @@ use mathlib.Core.Bool.{Bool, true, false}
 use native.Mathlib.Omega.{arith}
 use lib.Dec.{eqb}
 use lib.ListN.{length}
-use borrow.Author.Tests.{ne-eqb}
+use borrow.Author.Tests.{eq-eqb, ne-eqb}
 use Rattle.answers.specs.Tests.{pick}
 use Rattle.program.specs.declared.act.Act.{Act}
+use Rattle.program.specs.declared.act.Act.the-variants.{Quiet, Body, Store, Add}
 use Rattle.program.specs.declared.reader.After.{After}
 use Rattle.program.specs.declared.reader.Cursor.{Cursor}
 use Rattle.program.specs.declared.reader.Mode.the-variants.{Stored, Part, Skip}
 use Rattle.program.specs.declared.reader.Next.{Next}
 use Rattle.program.specs.declared.reader.Next.the-variants.{On}
 use Rattle.words.specs.Word.{wordAt}
+use Rattle.program.specs.Spaces.{Space}
 use Rattle.program.specs.Header.{totalOf, spaceOf}
-use Rattle.program.specs.Reader.{on, resume, skip, storedFrom, stepOf}
-use Rattle.program.specs.Acts.{actOf, actsFrom, pass}
+use Rattle.program.specs.Reader.{on, resume, skip, storedFrom, turn, stepOf}
+use Rattle.program.specs.Acts.{asks, actOf, actsFrom, pass}
 use Rattle.program.specs.Cursors.{CursorFits}
-use Rattle.program.specs.Runs.{modedOf, skipAt, storedAt, QuietOrStore, Leads, here, along}
+use Rattle.program.specs.Runs.{modedOf, skipAt, storedAt, Leads, here, stores, passes}
 use Rattle.program.proofs.Walks.{Reads, reads-on}
 use Rattle.program.proofs.Passes.{acts-on, Passing, passing-on}
 
@@ -50,35 +52,54 @@ skip-is c n a d e = ap On e ∙ on-skip c n a
 pub stored-is : (c : Cursor) (i : ℕ) (d : Cursor) → d ≡ storedAt c i → On d ≡ storedFrom c i
 stored-is c i d e = ap On e ∙ on-stored c i
 
-stored-open : (c : Cursor) (i : ℕ) → i < c .stored → storedAt c i ≡ modedOf c (Stored i)
+pub stored-open : (c : Cursor) (i : ℕ) → i < c .stored → storedAt c i ≡ modedOf c (Stored i)
 unfolding pick
 stored-open c i h = rw (ne-eqb i (c .stored) (λ e. omega arith))
+
+pub stored-shut : (c : Cursor) (i : ℕ) → i ≡ c .stored → storedAt c i ≡ modedOf c Part
+unfolding pick
+stored-shut c i h = rw (eq-eqb i (c .stored) h)
 
 skip-open : (c : Cursor) (n : ℕ) (a : After) → skipAt c (n + 1) a ≡ modedOf c (Skip n a)
 unfolding pick
 skip-open c n a = let e : n + 1 - 1 ≡ n = omega arith in rw (ne-eqb (n + 1) 0 (λ z. omega arith), e)
+
+-- a word that is stored or passed over: where it leads, and what it asks for
+module _ (c : Cursor) (i w : ℕ) (e : c .mode ≡ Stored i) where
+  pub stored-step : (t : ℕ) (space : ℕ → Space) → stepOf t space c w ≡ On (storedAt c (i + 1))
+  unfolding stepOf
+  stored-step t space = ap (turn t space c w) e ∙ sym (on-stored c (i + 1))
+
+  pub stored-act : (at : ℕ) → actOf c at w ≡ Store (c .place + 4 * i) w
+  unfolding actOf
+  stored-act at = ap (asks c at w) e
+
+module _ (c : Cursor) (n : ℕ) (a : After) (w : ℕ) (e : c .mode ≡ Skip n a) where
+  pub passed-step : (t : ℕ) (space : ℕ → Space) → stepOf t space c w ≡ On (skipAt c n a)
+  unfolding stepOf
+  passed-step t space = ap (turn t space c w) e ∙ sym (on-skip c n a)
+
+  pub passed-act : (at : ℕ) → actOf c at w ≡ Quiet
+  unfolding actOf
+  passed-act at = ap (asks c at w) e
 
 -- ---- runs
 
 module _ (file : List ℕ) where
   stored-on : (c : Cursor) (k j at n to : ℕ) → n ≡ j + k → to ≡ at + 4 * k → n ≤ c .stored → to ≤ length file
       → Leads file (storedAt c j) at (storedAt c n) to
-  unfolding stepOf actOf
   stored-on c zero j at n to e f h l = let p : n ≡ j = omega arith in let q : to ≡ at = omega arith in rw (p, q) here
   stored-on c (suc k) j at n to e f h l =
       rw (stored-open c j (omega arith))
-      (along {at = at} (omega arith) (sym (on-stored (modedOf c (Stored j)) (j + 1))) tt
-      (stored-on c k (j + 1) (at + 4) n to (omega arith) (omega arith) h l))
+      (stores {at = at} (omega arith) refl (stored-on c k (j + 1) (at + 4) n to (omega arith) (omega arith) h l))
 
   skip-on : (c : Cursor) (a : After) (k n at m to : ℕ) → n ≡ m + k → to ≡ at + 4 * k → to ≤ length file
       → Leads file (skipAt c n a) at (skipAt c m a) to
-  unfolding stepOf actOf
   skip-on c a zero n at m to e f l = let p : n ≡ m = omega arith in let q : to ≡ at = omega arith in rw (p, q) here
   skip-on c a (suc k) n at m to e f l =
       let p : n ≡ m + k + 1 = omega arith in
       rw (p, skip-open c (m + k) a)
-      (along {at = at} (omega arith) (sym (on-skip (modedOf c (Skip (m + k) a)) (m + k) a)) tt
-      (skip-on c a k (m + k) (at + 4) m to refl (omega arith) l))
+      (passes {at = at} (omega arith) refl (skip-on c a k (m + k) (at + 4) m to refl (omega arith) l))
 
   stored-leads : (c : Cursor) (i k at n to : ℕ) → c .mode ≡ Stored i → i < c .stored → n ≡ i + k → to ≡ at + 4 * k
       → n ≤ c .stored → to ≤ length file → Leads file c at (storedAt c n) to
@@ -94,7 +115,7 @@ module _ (file : List ℕ) where
 
   -- ---- as the code counts them
 
-  stored-some : (c : Cursor) (i : ℕ) → CursorFits file c → c .mode ≡ Stored i → i < c .stored
+  pub stored-some : (c : Cursor) (i : ℕ) → CursorFits file c → c .mode ≡ Stored i → i < c .stored
   stored-some c i s e = (rw e at (s .mode)) .1
 
   pub stored-left : (c : Cursor) (i : ℕ) → CursorFits file c → c .mode ≡ Stored i → i ≤ c .stored
@@ -114,23 +135,40 @@ module _ (file : List ℕ) where
 
   -- ---- what stays
 
-  leads-far : {c d : Cursor} {at to : ℕ} → Leads file c at d to → at ≤ to
+  pub leads-far : {c d : Cursor} {at to : ℕ} → Leads file c at d to → at ≤ to
   leads-far here = omega arith
-  leads-far (along l e a k) = let h = leads-far k in omega arith
+  leads-far (stores l e k) = let h = leads-far k in omega arith
+  leads-far (passes l e k) = let h = leads-far k in omega arith
 
   pub leads-reads : {c d : Cursor} {at to : ℕ} → Leads file c at d to → Reads file c at → Reads file d to
-  leads-reads here i = i
-  leads-reads (along {c = c} {d = d} {at = at} l e a k) i = leads-reads k (reads-on file c at _ _ d i l refl refl e)
+  leads-reads here r = r
+  leads-reads (stores {c = c} {i = i} {at = at} l e k) r =
+      leads-reads k (reads-on file c at _ _ _ r l refl refl (stored-step c i _ e _ _))
+  leads-reads (passes {c = c} {n = n} {a = a} {at = at} l e k) r =
+      leads-reads k (reads-on file c at _ _ _ r l refl refl (passed-step c n a _ e _ _))
 
--- what makes nothing of quiet acts and stores makes the same of the acts from here and from there
+-- an act that asks for nothing, or for a store only
+abbrev pub QuietOrStore : Act → Type 0
+QuietOrStore Quiet = Unit
+QuietOrStore (Store p w) = Unit
+QuietOrStore (Body h p k) = ⊥
+QuietOrStore (Add p k b) = ⊥
+
+-- what makes nothing of such acts makes the same of the acts from here and from there
 pub leads-acts : {Y : Type 0} (f : List Act → Y) (file : List ℕ)
     → ((a : Act) (us : List Act) → QuietOrStore a → f (a ∷ us) ≡ f us) → {c d : Cursor} {at to : ℕ}
     → Leads file c at d to → Reads file c at → f (actsFrom file at c) ≡ f (actsFrom file to d)
-leads-acts f file quiet here i = refl
-leads-acts f file quiet (along {c = c} {d = d} {at = at} l e a k) i =
-    ap f (acts-on file at c _ _ i l refl refl d _ e refl)
-    ∙ quiet _ _ a
-    ∙ leads-acts f file quiet k (reads-on file c at _ _ d i l refl refl e)
+leads-acts f file quiet here r = refl
+leads-acts f file quiet (stores {c = c} {i = i} {at = at} l e k) r =
+    let s = stored-step c i (wordAt file at) e (totalOf file) (spaceOf file) in
+    ap f (acts-on file at c _ _ r l refl refl _ _ s (sym (stored-act c i _ e at)))
+    ∙ quiet (Store _ _) _ tt
+    ∙ leads-acts f file quiet k (reads-on file c at _ _ _ r l refl refl s)
+leads-acts f file quiet (passes {c = c} {n = n} {a = a} {at = at} l e k) r =
+    let s = passed-step c n a (wordAt file at) e (totalOf file) (spaceOf file) in
+    ap f (acts-on file at c _ _ r l refl refl _ _ s (sym (passed-act c n a _ e at)))
+    ∙ quiet Quiet _ tt
+    ∙ leads-acts f file quiet k (reads-on file c at _ _ _ r l refl refl s)
 
 -- ---- a turn of a loop that goes on past such words
 

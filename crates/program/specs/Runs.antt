@@ -1,22 +1,16 @@
--- Words that the reader takes and that ask for nothing but their own store: where they lead. Code that does not store
--- may go on after them.
+-- Words that are stored or passed over, which the reader takes whatever they are: where they lead. Code may go on
+-- after them in one step.
 use Prim.Native.Nat.{ℕ, _+_, _-_, _<_}
 use mathlib.Core.Path.{_≡_}
 use mathlib.Core.List.{List}
 use lib.Dec.{eqb}
 use lib.ListN.{length}
 use Rattle.answers.specs.Tests.{pick}
-use Rattle.words.specs.Word.{wordAt}
-use Rattle.program.specs.declared.act.Act.{Act}
-use Rattle.program.specs.declared.act.Act.the-variants.{Quiet, Body, Store, Add}
 use Rattle.program.specs.declared.reader.After.{After}
 use Rattle.program.specs.declared.reader.Cursor.{Cursor}
 use Rattle.program.specs.declared.reader.Mode.{Mode}
 use Rattle.program.specs.declared.reader.Mode.the-variants.{Stored, Part, Skip}
-use Rattle.program.specs.declared.reader.Next.the-variants.{On}
-use Rattle.program.specs.Header.{totalOf, spaceOf}
-use Rattle.program.specs.Reader.{resume, stepOf}
-use Rattle.program.specs.Acts.{actOf}
+use Rattle.program.specs.Reader.{resume}
 
 -- ---- cursors
 
@@ -34,19 +28,12 @@ storedAt c i = pick (eqb i (c .stored)) (modedOf c Part) (modedOf c (Stored i))
 
 -- ---- runs of words
 
--- an act that asks for nothing, or for a store only
-abbrev pub QuietOrStore : Act → Type 0
-QuietOrStore Quiet = Unit
-QuietOrStore (Store p w) = Unit
-QuietOrStore (Body h p k) = ⊥
-QuietOrStore (Add p k b) = ⊥
-
 -- from the cursor c at byte `at` to the cursor d at byte `to`
 pub data Leads (file : List ℕ) : Cursor → ℕ → Cursor → ℕ → Type 0 where
   here : {c : Cursor} {at : ℕ} → Leads file c at c at
-  along : {c d e : Cursor} {at to : ℕ}
-      → at < length file
-      → stepOf (totalOf file) (spaceOf file) c (wordAt file at) ≡ On d
-      → QuietOrStore (actOf c at (wordAt file at))
-      → Leads file d (at + 4) e to
-      → Leads file c at e to
+  stores : {c d : Cursor} {i at to : ℕ}
+      → at < length file → c .mode ≡ Stored i → Leads file (storedAt c (i + 1)) (at + 4) d to
+      → Leads file c at d to
+  passes : {c d : Cursor} {n : ℕ} {a : After} {at to : ℕ}
+      → at < length file → c .mode ≡ Skip n a → Leads file (skipAt c n a) (at + 4) d to
+      → Leads file c at d to

@@ -155,7 +155,7 @@ fn body(c: Cursor, w: u32) -> Next
 }
 
 // Before the stored word i, or after the last.
-fn stored_at(c: Cursor, i: u32) -> Cursor
+pub fn stored_at(c: Cursor, i: u32) -> Cursor
     ensures { λ r. ⌜ r ≡ storedAt c i ⌝ }
 {
     if i == c.stored {

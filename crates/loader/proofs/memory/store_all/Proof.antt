@@ -1,15 +1,15 @@
 -- `loader::memory::store_all` meets its contract: a pass that stores. Assumes nothing.
 use Prim.Native.Nat.{_-_}
 use lib.ListN.{length}
-use Rattle.program.proofs.Passes.{Passing, passing-start, passing-on, passing-bad, passing-end}
-use Rattle.loader.specs.Memory.{storeOne}
-use Rattle.loader.proofs.Acts.{act-room, cursor-low, length-storeOne}
+use Rattle.program.proofs.Passes.{passing-fits, passing-bad, passing-end, passing-room}
+use Rattle.program.proofs.Runs.{turn-aligned}
+use Rattle.loader.proofs.StoredRuns.{StoringAll, all-start, all-within, all-turn, store-less}
 use borrow.Author.Needs.{needs}
 use Rattle.loader.proofs.memory.store_all.Statement.{statement}
 use Rattle.loader.proofs.memory.store_all.Tie as tie
 
 abbrev Inv-loop : tie.InvT-loop
-Inv-loop file memory₀ c₀ at₀ memory c at = Passing storeOne file memory₀ memory c at
+Inv-loop file memory₀ c₀ at₀ memory c at = StoringAll file memory₀ memory c at
 
 abbrev μ-loop : tie.MeasureT-loop
 μ-loop file memory₀ c₀ at₀ memory c at = length file - at
@@ -33,7 +33,7 @@ add-at : tie.Need-add-at Inv-loop μ-loop
 add-at c = search needs
 
 loop-holds : tie.Need-loop-holds Inv-loop μ-loop
-loop-holds c = search passing-start depth 7
+loop-holds c = search all-start depth 7
 
 word-requires : tie.Need-word-requires Inv-loop μ-loop
 word-requires c κs = search needs
@@ -53,20 +53,23 @@ same-length c = search
 returns : tie.Need-returns Inv-loop μ-loop
 returns c = search passing-bad depth 9
 
-act-of-requires : tie.Need-act-of-requires Inv-loop μ-loop
-act-of-requires c κs = search cursor-low
+add-store-past : tie.Need-add-store-past Inv-loop μ-loop
+add-store-past c = search needs
 
-store-act-requires : tie.Need-store-act-requires Inv-loop μ-loop
-store-act-requires c κs = search act-room depth 7
-
-add-at-2 : tie.Need-add-at-2 Inv-loop μ-loop
-add-at-2 c = search needs
+store-past-requires : tie.Need-store-past-requires Inv-loop μ-loop
+store-past-requires c κs = (
+  search passing-fits depth 7,
+  search,
+  search turn-aligned,
+  search all-within,
+  search passing-room,
+)
 
 loop-less : tie.Need-loop-less Inv-loop μ-loop
-loop-less c = search needs
+loop-less c = search store-less depth 7
 
 loop-again : tie.Need-loop-again Inv-loop μ-loop
-loop-again c = search (passing-on, length-storeOne) depth 9
+loop-again c = search all-turn depth 9
 
 same-length-2 : tie.Need-same-length-2 Inv-loop μ-loop
 same-length-2 c = search
@@ -93,9 +96,8 @@ store-all-spec =
     enum-told
     same-length
     returns
-    act-of-requires
-    store-act-requires
-    add-at-2
+    add-store-past
+    store-past-requires
     loop-less
     loop-again
     same-length-2
