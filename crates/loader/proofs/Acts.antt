@@ -101,7 +101,8 @@ module _ (file : List ℕ) (c : Cursor) (at w : ℕ) (d : Cursor) (s : CursorFit
   fits-in mode.Part h e = tt
   fits-in mode.Count h e = tt
   fits-in (mode.Number n) h e = tt
-  fits-in (mode.Offset n k) h e = (omega (arith, hunk-inside file c s (h .0), s .fits, offset-in file c w d s (h .0) n k e), h .1)
+  fits-in (mode.Offset n k) h e =
+      (omega (arith, hunk-inside file c s (h .0), s .fits, offset-in file c w d s (h .0) n k e), h .1)
   fits-in mode.Symbol h e = tt
   fits-in mode.DebugLength h e = tt
   fits-in (mode.Skip n a) h e = tt

@@ -108,7 +108,8 @@ passes-store : (file m : List ℕ) {c d : Cursor} {at to : ℕ} → Leads file c
 passes-store file m runs.here f = here
 passes-store file m (runs.stores {i = i} l e k) f = absurd (f i e)
 passes-store file m (runs.passes {c = c} {d = d} {n = n} {a = a} {at = at} {to = to} l e k) f =
-    along {m = m} {n = m} {e = d} {at = at} {to = to} l (passed-step c n a _ e _ _) (rw (passed-act c n a _ e at) (passes-store file m k (unstored c n a)))
+    along {m = m} {n = m} {e = d} {at = at} {to = to} l (passed-step c n a _ e _ _)
+    (rw (passed-act c n a _ e at) (passes-store file m k (unstored c n a)))
 
 passes-rest : (file : List ℕ) {c d : Cursor} {at to : ℕ} → Leads file c at d to
     → ((i : ℕ) → c .mode ≡ Stored i → ⊥) → (i : ℕ) → d .mode ≡ Stored i → ⊥
@@ -129,8 +130,8 @@ past-rest file m c d at to h k =
     λ i e. none notStored 4 tt (subst (λ (x : Mode). OneOf notStored (tagOf the-type x)) e h) in
     record { stores = passes-store file m k f; rests = λ i e. absurd (passes-rest file k f i e) }
 
-module _ (file : List ℕ) (c : Cursor) (i at n : ℕ) (s : CursorFits file c) (e : c .mode ≡ Stored i) (l : at ≤ length file)
-    (x : n ≡ min (c .stored - i) ((length file - at) / 4)) where
+module _ (file : List ℕ) (c : Cursor) (i at n : ℕ) (s : CursorFits file c) (e : c .mode ≡ Stored i)
+    (l : at ≤ length file) (x : n ≡ min (c .stored - i) ((length file - at) / 4)) where
   pub run-from : at + 4 * n ≤ length file
   run-from = omega arith
 

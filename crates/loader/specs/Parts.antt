@@ -54,7 +54,7 @@ pub data Stores (file : List ℕ) : List ℕ → Cursor → ℕ → List ℕ →
       → Stores file (storeOne m (actOf c at (wordAt file at))) d (at + 4) n e to
       → Stores file m c at n e to
 
--- so far that no stored word comes next, but at the end of the file
+-- the same, so far that no stored word comes next, unless the file ends there
 pub record StoresPast (file m : List ℕ) (c : Cursor) (at : ℕ) (n : List ℕ) (d : Cursor) (to : ℕ) : Type 0 where
   pub stores : Stores file m c at n d to
   pub rests : (i : ℕ) → d .mode ≡ Stored i → length file ≤ to

@@ -43,7 +43,7 @@ fn store_run(file: &[u8], at: usize, n: usize, memory: &mut [u8], p: usize)
     }
 }
 
-// Goes on after the words from `at` on that are stored or passed over, as `past` does, and stores the first kind.
+// Goes on after the words from `at` on that are stored or passed over, as `past` does, and stores the stored ones.
 fn store_past(file: &[u8], c: Cursor, at: usize, memory: &mut [u8]) -> Spot
     requires { ⌜ (CursorFits (now file) c) × (length (now file) % 4 ≡ 0) × (at % 4 ≡ 0) × (at ≤ length (now file))
         × (loadedOf (now file) ≤ length (now memory)) ⌝ }
