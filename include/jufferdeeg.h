@@ -213,7 +213,7 @@ struct jufferdeeg_hunk {
  *
  * Lent: the file; the bases, exactly one for each hunk, in their order; memory and a work area, each of the bytes that
  * the check says or more; a table, of a record for each hunk or more. What these three hold does not matter. All of
- * the lent work area is cleared, before and after, so lend no more of it than the check says.
+ * the lent work area is cleared, so lend no more of it than the check says.
  * A base is a multiple of 4; base plus bytes of the hunk are at most 2^32; no two hunks share an address. A hunk of
  * 0 words has none, and may stand anywhere.
  * Left: accepted, the loaded bytes and the hunks' records, and the rest of memory and table as it was; refused, no

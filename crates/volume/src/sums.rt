@@ -65,8 +65,7 @@ fn is_summed(disk: Disk, image: &[u8], map: u32, key: u32) -> bool
     true
 }
 
-// The sum of a block, added up only if it is not known by the bitmap block `map`. There is one call of `sum_of`: with
-// two the compiler would not make this part of its callers.
+// The sum of a block, added up only if it is not known by the bitmap block `map`.
 pub fn known_sum(disk: Disk, image: &[u8], map: u32, key: u32) -> u32
     requires { ⌜ Testable disk (now image) map key ⌝ }
     ensures { λ r. ⌜ r ≡ sumOf (now (image .entry)) key ⌝ }

@@ -294,7 +294,7 @@ pub fn check(file: &[u8]) -> ProgramNumbers {
 /// at most 2^32; no two hunks share an address. A hunk of 0 words has none, and may stand anywhere.
 ///
 /// Memory and work area each have the bytes that [`check`] says or more, the table a record for each hunk or more. All
-/// of the lent work area is cleared, before and after, so lend no more of it than the check says.
+/// of the lent work area is cleared, so lend no more of it than the check says.
 #[rustfmt::skip]
 pub fn load(file: &[u8], bases: &[u32], memory: &mut [u8], table: &mut [Hunk], work: &mut [u8]) -> ProgramNumbers {
     unsafe {
