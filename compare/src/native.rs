@@ -1,5 +1,5 @@
 //! The functions that the archive exports, called as they are, and what is wrong with the form of an answer: a place
-//! where nothing is refused, or numbers beside a refusal.
+//! where nothing is refused, or numbers beside a refusal. Those of the yardstick are called in the same way.
 
 use std::slice::from_raw_parts_mut;
 
@@ -34,6 +34,13 @@ pub(crate) const ARCHIVE: Functions = Functions {
     reason: jufferdeeg::reason_into,
 };
 
+/// Those of the yardstick; what it does not have is the archive's.
+pub(crate) const YARDSTICK: Functions =
+    Functions { audit: yardstick::audit, find: yardstick::find, read: yardstick::read, ..ARCHIVE };
+
+/// The same with the other audit of the yardstick.
+pub(crate) const SUMS_FIRST: Functions = Functions { audit: yardstick::audit_sums_first, ..YARDSTICK };
+
 /// The exported functions.
 pub struct Exports {
     functions: Functions,
@@ -57,6 +64,13 @@ impl Exports {
     /// These functions in the place of the exported ones.
     pub(crate) fn with(functions: Functions) -> Exports {
         Exports { functions, fault: None }
+    }
+
+    /// All functions that are held to this package, each with a name for messages: the exported ones come first, and
+    /// then those of the yardstick. The last ones differ from those before them in the audit alone.
+    pub fn all() -> [(&'static str, Exports); 3] {
+        [("exported functions", ARCHIVE), ("yardstick", YARDSTICK), ("yardstick, sums first", SUMS_FIRST)]
+            .map(|(name, functions)| (name, Exports::with(functions)))
     }
 
     /// The answer of a call, which has to be of one of two forms: accepted, with place 0, or refused, with nothing but
@@ -197,7 +211,7 @@ mod tests {
 
     #[test]
     fn the_exported_functions_answer_as_is_due() {
-        assert_eq!(difference(ARCHIVE), None);
+        assert_eq!([ARCHIVE, YARDSTICK, SUMS_FIRST].map(difference), [None, None, None]);
     }
 
     /// Writes what may not be written, in a lent slice or around it, as only code that is not Rust could.

@@ -1,10 +1,11 @@
-//! Who is held to this package: the instrument `probe`, the exported functions, or both.
+//! Who is held to this package: the instrument `probe`, the exported functions, or both. With the exported functions
+//! goes the yardstick, in the package of that name.
 
 use std::sync::atomic::{AtomicU64, Ordering};
 use std::thread;
 
 use crate::driver::Batch;
-use crate::model::{Model, CHECK, FAR_READ};
+use crate::model::{Model, AUDIT, CHECK, DISK, FAR_READ, IMAGE, PATCH};
 use crate::native::Exports;
 
 /// Who is asked.
@@ -12,34 +13,53 @@ use crate::native::Exports;
 pub enum Who {
     /// No one: the answers due are worked out, and that is all.
     Nobody,
-    /// The exported functions.
+    /// The exported functions, and those of the yardstick.
     Exports,
     /// These and `probe`.
     Both,
 }
 
-/// Those who are asked. The exported functions answer each request at once, `probe` all of them in a run at the end.
+/// Those who are asked. Functions answer each request at once, `probe` all of them in a run at the end.
 pub struct Sides {
-    exports: Option<Model<Exports>>,
+    functions: Vec<Functions>,
     probe: Option<Batch>,
+}
+
+/// The requests without which there is no audit.
+const OF_AUDITS: [u32; 4] = [IMAGE, PATCH, DISK, AUDIT];
+
+/// Functions that are asked.
+struct Functions {
+    name: &'static str,
+    model: Model<Exports>,
+    /// Whether they have all but the audit in common with others that are asked.
+    audits_alone: bool,
+}
+
+impl Functions {
+    fn all() -> Vec<Functions> {
+        let [archive, yardstick, sums_first] = Exports::all();
+        let of = |(name, exports), audits_alone| Functions { name, model: Model::new(exports), audits_alone };
+        vec![of(archive, false), of(yardstick, false), of(sums_first, true)]
+    }
 }
 
 impl Sides {
     /// Nothing is asked yet.
     pub fn new(who: Who) -> Sides {
-        let exports = (who != Who::Nobody).then(Model::default);
-        Sides { exports, probe: (who == Who::Both).then(Batch::new) }
+        let functions = if who == Who::Nobody { Vec::new() } else { Functions::all() };
+        Sides { functions, probe: (who == Who::Both).then(Batch::new) }
     }
 
-    /// Puts a request to all sides, and the line that it is to be answered with. Panics where the exported functions
-    /// answer otherwise, and tells what it is about.
+    /// Puts a request to all sides, and the line that it is to be answered with. Panics where functions answer
+    /// otherwise, and tells whose they are and what it is about.
     pub fn ask(&mut self, about: &str, number: u32, body: &[u8], answer: &str) {
-        if let Some(exports) = &mut self.exports {
-            let got = exports.answer(number, body);
-            assert!(
-                got == answer,
-                "exported functions, number {number}, {about}: expected {answer:?}, got {got:?}"
-            );
+        for Functions { name, model, audits_alone } in &mut self.functions {
+            if *audits_alone && !OF_AUDITS.contains(&number) {
+                continue;
+            }
+            let got = model.answer(number, body);
+            assert!(got == answer, "{name}, number {number}, {about}: expected {answer:?}, got {got:?}");
         }
         // these two are none of its requests
         if let Some(probe) = self.probe.as_mut().filter(|_| ![FAR_READ, CHECK].contains(&number)) {
@@ -87,8 +107,9 @@ pub fn with_seeds(first: u64, count: u64, run: impl Fn(u64) + Sync) {
 #[cfg(test)]
 mod tests {
     use super::*;
-    use crate::model::{FIND, IMAGE};
-    use crate::native::{Functions, ARCHIVE};
+    use crate::model::FIND;
+    use crate::native::{self, ARCHIVE};
+    use jufferdeeg::{AuditNumbers, FindNumbers};
     use std::panic::{catch_unwind, AssertUnwindSafe};
 
     /// What a panic says.
@@ -97,22 +118,49 @@ mod tests {
         panic.downcast_ref::<String>().expect("a message").clone()
     }
 
+    /// Sides that ask these functions alone.
+    fn asking(functions: native::Functions, audits_alone: bool) -> Sides {
+        let model = Model::new(Exports::with(functions));
+        Sides { functions: vec![Functions { name: "these", model, audits_alone }], probe: None }
+    }
+
     #[test]
     fn a_difference_is_told() {
         let mut sides = Sides::new(Who::Exports);
         sides.ask("an image", IMAGE, &[0; 100], "image 100");
         sides.ask("a short image", FIND, b"a", "refused 1 0");
         let told = message(|| sides.ask("a short image", FIND, b"a", "refused 2 0"));
-        assert!(told.ends_with(r#"number 4, a short image: expected "refused 2 0", got "refused 1 0""#), "{told}");
+        let due = r#"exported functions, number 4, a short image: expected "refused 2 0", got "refused 1 0""#;
+        assert_eq!(told, due);
         let find: fn(u32, &[u8], &[u8]) -> _ = |blocks, image, path| {
             let mut answer = (ARCHIVE.find)(blocks, image, path);
             answer.place = 3;
             answer
         };
-        let slipped = Exports::with(Functions { find, ..ARCHIVE });
-        let mut sides = Sides { exports: Some(Model::new(slipped)), probe: None };
+        let mut sides = asking(native::Functions { find, ..ARCHIVE }, false);
         let told = message(|| sides.ask("no image", FIND, b"a", "refused 1 0"));
-        assert!(told.ends_with(r#"expected "refused 1 0", got "refused 1 3""#), "{told}");
+        assert_eq!(told, r#"these, number 4, no image: expected "refused 1 0", got "refused 1 3""#);
+    }
+
+    /// Those of the yardstick have their names, and where two have all but the audit in common, one is asked the rest.
+    #[test]
+    fn every_audit_is_asked() {
+        let names: Vec<&str> = Functions::all().iter().map(|functions| functions.name).collect();
+        assert_eq!(names, ["exported functions", "yardstick", "yardstick, sums first"]);
+        let slip: fn(u32, &[u8], &mut [u8]) -> _ = |_, _, _| AuditNumbers { number: 9, ..AuditNumbers::default() };
+        let find: fn(u32, &[u8], &[u8]) -> _ = |_, _, _| FindNumbers { number: 9, ..FindNumbers::default() };
+        let slipped = native::Functions { audit: slip, find, ..ARCHIVE };
+        let refused = |number: u32| format!("refused {number} 0");
+        for audits_alone in [false, true] {
+            let mut sides = asking(slipped, audits_alone);
+            let told = message(|| sides.ask("", AUDIT, &[0; 4], &format!("{} claim 0", refused(1))));
+            assert!(told.contains(&refused(9)), "{told}");
+            if audits_alone {
+                sides.ask("no image", FIND, b"a", "any answer");
+            } else {
+                assert!(message(|| sides.ask("", FIND, b"a", &refused(1))).contains(&refused(9)));
+            }
+        }
     }
 
     #[test]

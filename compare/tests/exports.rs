@@ -1,5 +1,6 @@
-//! Holds the exported functions to this package where `probe` has no request or no room: longer images, areas, files
-//! and lists, and offsets that four bytes do not hold. The tests of audits, lookups and programs ask them all else.
+//! Holds the exported functions and the yardstick to this package where `probe` has no request or no room: longer
+//! images, areas, files and lists, and offsets that four bytes do not hold. The tests of audits, lookups and programs
+//! ask them all else.
 
 use compare::bad_volumes::{wrong_lengths, NO_SIZES};
 use compare::calls::Opinion;
@@ -17,19 +18,27 @@ use compare::sizes::{data_blocks, largest_file};
 use compare::volumes::{any_style, Kind, Plan, Volume};
 use compare::words::{mend, put};
 
-/// What this package answers, and what the exported functions do.
-#[derive(Default)]
+/// What this package answers, and what the exported functions do. Those of the yardstick go with these.
 struct Both {
     opinion: Model<Opinion>,
-    exports: Model<Exports>,
+    exports: [(&'static str, Model<Exports>); 3],
 }
 
-/// Makes a call on both; the line that is due, which both give.
+impl Default for Both {
+    fn default() -> Both {
+        let exports = Exports::all().map(|(name, exports)| (name, Model::new(exports)));
+        Both { opinion: Model::default(), exports }
+    }
+}
+
+/// Makes a call on all; the line that is due, which all give.
 macro_rules! same {
     ($both:ident.$call:ident($($word:expr),*)) => {{
         let due = $both.opinion.$call($($word),*);
-        let got = $both.exports.$call($($word),*);
-        assert_eq!(got, due, "{}", stringify!($call($($word),*)));
+        for (name, exports) in &mut $both.exports {
+            let got = exports.$call($($word),*);
+            assert_eq!(got, due, "{name}: {}", stringify!($call($($word),*)));
+        }
         due
     }};
 }
@@ -341,7 +350,8 @@ fn the_largest_program_of_all() {
     same!(both.take_file(&file));
     let more = Room { memory: room.memory + 1, records: 65, work: room.work + 3 };
     expect!(both.load(more, &bases(0)), "loaded 64 16777216 ");
-    let memories: Vec<u32> = both.exports.table.chunks_exact(RECORD).take(64).map(|record| record[4]).collect();
+    let memories: Vec<u32> =
+        both.exports[0].1.table.chunks_exact(RECORD).take(64).map(|record| record[4]).collect();
     assert_eq!(memories, [0, 1, 2].repeat(22)[..64]);
     expect!(both.relocate(room, &bases(0), &bases(0xFF00_0000)), "moved 64 16777216 ");
     expect!(both.relocate(room, &bases(0), &bases(0xFF00_0004)), "refused 40 127 ");
