@@ -34,9 +34,16 @@ pub(crate) const ARCHIVE: Functions = Functions {
     reason: jufferdeeg::reason_into,
 };
 
-/// Those of the yardstick; what it does not have is the archive's.
-pub(crate) const YARDSTICK: Functions =
-    Functions { audit: yardstick::audit, find: yardstick::find, read: yardstick::read, ..ARCHIVE };
+/// Those of the yardstick, which has no sentences: they are the archive's.
+pub(crate) const YARDSTICK: Functions = Functions {
+    audit: yardstick::audit,
+    find: yardstick::find,
+    read: yardstick::read,
+    check: yardstick::check,
+    load: yardstick::load,
+    relocate: yardstick::move_program,
+    ..ARCHIVE
+};
 
 /// The same with the other audit of the yardstick.
 pub(crate) const SUMS_FIRST: Functions = Functions { audit: yardstick::audit_sums_first, ..YARDSTICK };

@@ -78,7 +78,7 @@ pub(crate) fn raw_key(block: &Block, index: u32) -> u32 {
 /// of all are added by themselves, in halves of 16 bits that do not run over. From the two sums follow the sums of all
 /// first, second, third and fourth bytes. In vectors this is a load, a shift and two additions.
 #[inline(always)]
-pub(crate) fn sum(block: &Block) -> u32 {
+pub fn sum(block: &Block) -> u32 {
     let (halves, _) = block.as_chunks();
     let (all, odd) = halves.iter().fold((0, 0), add_half);
     let even = all.wrapping_sub(odd << 8);

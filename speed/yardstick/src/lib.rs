@@ -7,6 +7,8 @@
 //! - [`audit`] walks through the volume and tests each block where it meets it; [`audit_sums_first`] answers the same,
 //!   and adds up blocks before it walks, in the order in which they lie.
 //! - [`find`] and [`read`] look for a path and copy a file's bytes.
+//! - [`check`], [`load`] and [`move_program`] take a program file apart, load it and move it.
+//! - [`block_sum`] is what the audits add blocks up with.
 
 #![no_std]
 #![forbid(unsafe_code)]
@@ -17,6 +19,9 @@ mod disk;
 mod file;
 mod lookup;
 mod name;
+mod program;
 
 pub use audit::{audit, audit_sums_first};
+pub use block::sum as block_sum;
 pub use lookup::{find, read};
+pub use program::{check, load, move_program};
