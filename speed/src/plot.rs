@@ -1,5 +1,8 @@
 //! The plot of the growing numbers, as SVG.
 
+/// What stands above the columns of the numbers.
+pub const HEAD: &str = "what,number,rattle_ns,yardstick_ns";
+
 const WIDTH: f64 = 330.0;
 const HEIGHT: f64 = 230.0;
 const GAP: f64 = 75.0;
@@ -80,7 +83,9 @@ fn panel(title: &str, what: &str, rows: &[&Row], powers: bool, left: f64) -> Str
     svg += &format!("<text x='{}' y='{below}' text-anchor='middle'>{what}</text>\n", left + WIDTH / 2.0);
     let large = |row: &&&Row| row.what.ends_with(LARGE);
     let (dashed, plain): (Vec<&Row>, Vec<&Row>) = rows.iter().partition(large);
-    for (side, (name, colour)) in [("Rattle", "#1663b0"), ("Rust", "#c4571b")].into_iter().enumerate() {
+    for (side, (name, colour)) in
+        [("Rattle", "#1663b0"), ("Rust written for speed", "#c4571b")].into_iter().enumerate()
+    {
         let point = |row: &&Row| (left + across.place(row.number), top + HEIGHT - up.place(row.times[side] / 1e3));
         for (rows, dashes) in [(&plain, ""), (&dashed, " stroke-dasharray='6 4'")] {
             if rows.is_empty() {
