@@ -60,10 +60,10 @@ fn main() {
         ["calls"] => print_calls(),
         ["names"] => println!("{}", calls::NAMES),
         ["repeat", name, side, times] if repeat(calls::named(name), side, times).is_some() => {}
-        ["since", library] => print_since(Older::load(library)),
-        ["since", _, "names"] => println!("{}", since::NAMES),
+        ["since", library] => print_since(Older::load_from(library)),
+        ["since", library, "names"] => println!("{}", since::names(Older::load_from(library))),
         ["since", library, "repeat", name, side, times]
-            if repeat(since::named(Older::load(library), name), side, times).is_some() => {}
+            if repeat(since::named(Older::load_from(library), name), side, times).is_some() => {}
         ["growth"] => print_growth(),
         ["plot", file] => print!("{}", plot::plot(&std::fs::read_to_string(file).expect("a file of numbers"))),
         _ => {

@@ -58,7 +58,7 @@ fn bss_program() -> Given {
 }
 
 /// The manual's program in a large room.
-fn manuals_program() -> Given {
+pub fn manuals_program() -> Given {
     Given { file: worked_file(), old: vec![0x3000, 0x7000], new: vec![0x4000, 0x9000], room: LARGE_ROOM }
 }
 
@@ -78,14 +78,16 @@ impl Areas {
     }
 }
 
-type Call = Way<Given, Areas, ProgramNumbers>;
+pub type Call = Way<Given, Areas, ProgramNumbers>;
 
-fn load(load: impl Fn(&[u8], &[u32], &mut [u8], &mut [Record], &mut [u8]) -> ProgramNumbers + 'static) -> Call {
+pub fn load(
+    load: impl Fn(&[u8], &[u32], &mut [u8], &mut [Record], &mut [u8]) -> ProgramNumbers + 'static,
+) -> Call {
     Box::new(move |Given { file, old, .. }, Areas { memory, table, work }| load(file, old, memory, table, work))
 }
 
 /// Any memory will do to move a program, also that of a program which was moved.
-fn relocate(
+pub fn relocate(
     relocate: impl Fn(&[u8], &[u32], &[u32], &mut [u8], &mut [Record], &mut [u8]) -> ProgramNumbers + 'static,
 ) -> Call {
     Box::new(move |Given { file, old, new, .. }, Areas { memory, table, work }| {
@@ -93,11 +95,11 @@ fn relocate(
     })
 }
 
-fn loads_by(ways: Vec<(&'static str, Call)>, name: &str, given: Given) -> Case {
+pub fn loads_by(ways: Vec<(&'static str, Call)>, name: &str, given: Given) -> Case {
     Case::new(name, &Rc::new(vec![given]), Areas::new, load(opinion::load), ways)
 }
 
-fn moves_by(ways: Vec<(&'static str, Call)>, name: &str, given: Given) -> Case {
+pub fn moves_by(ways: Vec<(&'static str, Call)>, name: &str, given: Given) -> Case {
     Case::new(name, &Rc::new(vec![given]), Areas::new, relocate(opinion::move_program), ways)
 }
 
@@ -112,18 +114,23 @@ pub fn moves(name: &str, given: Given) -> Case {
     moves_by(ways, name, given)
 }
 
+pub const LARGE_LOAD: &str = "load of 1 MiB with 32,768 targets";
+pub const LARGE_MOVE: &str = "move of 1 MiB with 32,768 targets";
+pub const SMALL_LOAD: &str = "load of the manual's program, 148 bytes, in a room of 1 MiB";
+pub const SMALL_MOVE: &str = "move of the manual's program in a room of 1 MiB";
+
 /// The cases of the table.
 pub fn cases() -> Vec<Case> {
     let large = large_program();
     let manuals = manuals_program();
     let close = Given { room: Room { memory: 40, records: 2, work: 40 }, ..manuals_program() };
     vec![
-        loads("load of 1 MiB with 32,768 targets", large.clone()),
-        moves("move of 1 MiB with 32,768 targets", large),
+        loads(LARGE_LOAD, large.clone()),
+        moves(LARGE_MOVE, large),
         loads("load of 256 KiB with nothing stored", bss_program()),
-        loads("load of the manual's program, 148 bytes, in a room of 1 MiB", manuals.clone()),
+        loads(SMALL_LOAD, manuals.clone()),
         loads("load of the manual's program in a room of just its bytes", close.clone()),
-        moves("move of the manual's program in a room of 1 MiB", manuals),
+        moves(SMALL_MOVE, manuals),
         moves("move of the manual's program in a room of just its bytes", close),
     ]
 }
