@@ -12,14 +12,16 @@ use Rattle.reach.specs.Walk.{claimed, verdict}
 use Rattle.reach.proofs.Claims.{byte-any}
 use Rattle.reach.proofs.Runs.{claimed-taken}
 use Rattle.volume.specs.declared.disk.Disk.{Disk}
-use Rattle.volume.specs.Disks.{Sized, firstKey, inRange, imageBytes, claimBytes, rootOf}
+use Rattle.volume.specs.Disks.{Sized, firstKey, isOld, inRange, imageBytes, claimBytes, rootOf}
 use Rattle.volume.specs.Blocks.{Holds}
 use Rattle.volume.specs.Sums.{SumsKnown, Testable}
+use Rattle.volume.specs.Files.{sizeOf}
 use Rattle.volume.specs.Rules.{rootFault, mapFault, bitmapFault}
 use Rattle.volume.proofs.Sizes.{range-is}
 use Rattle.volume.proofs.Summing.{testable}
+use Rattle.volume.proofs.Faults.{data-unasked}
 use Rattle.walk.proofs.Passes.{key-passed}
-use Rattle.walk.specs.Nodes.{Node, root, bitmap, keyOf, keyFault, faultOf}
+use Rattle.walk.specs.Nodes.{Node, root, bitmap, datum, keyOf, keyFault, faultOf}
 use Rattle.audit.specs.Walks.{Claims, Met}
 
 -- ---- two tests, one after the other
@@ -107,6 +109,13 @@ module _ (d : Disk) (s : List ℕ) (n : Node) (cl cl′ : List ℕ) where
     where
       go : (a b : ℕ) → a ≡ 0 → b ≡ 0 → faultOf d s n ≡ first a (first b (faultOf d s n))
       go a b p q = rw (p, q)
+
+-- a data block where none has tests
+pub met-plain : (d : Disk) (s cl cl′ : List ℕ) (r k h n c : ℕ) (t : Bool) → Claims d cl k r cl′ → r ≡ 0
+    → t ≡ isOld d → t ≡ false → Met d s (datum k h n c) cl 0 cl′
+unfolding faultOf
+met-plain d s cl cl′ r k h n c t m z q o =
+    met-tests d s (datum k h n c) cl cl′ r 0 m z (data-unasked d s k h (sizeOf s h) n c t q o)
 
 module _ (d : Disk) (s cl cl′ : List ℕ) (r f : ℕ) where
   pub met-bitmap : (k : ℕ) → Claims d cl k r cl′ → r ≡ 0 → f ≡ bitmapFault s k → Met d s (bitmap k) cl f cl′

@@ -43,7 +43,11 @@ fn meet_data(
     if f != 0 {
         return f;
     }
-    data_tests(disk, image, map, b, key, n, last)
+    // `data_tests` asks this too; here it saves a call for each data block of the Fast File System
+    if disk.is_old() {
+        return data_tests(disk, image, map, b, key, n, last);
+    }
+    0
 }
 
 // One data block more.

@@ -61,7 +61,8 @@ fn fold_by_rule(disk: Disk, b: u8) -> u8
 }
 
 // A byte folded as its disk folds it. Bytes below 80 hex fold alike on every disk, and do without the table: the
-// compiler copies it to the stack whenever it is looked at, and makes no such function part of its callers.
+// compiler copies it to the stack whenever it is looked at, and makes no such function part of its callers. That
+// `fold_by_rule` has other callers too keeps it from being made part of this one.
 pub fn fold(disk: Disk, b: u8) -> u8
     ensures { λ r. ⌜ r ≡ foldOf disk b ⌝ }
 {
@@ -121,7 +122,7 @@ fn alike(disk: Disk, x: u8, y: u8) -> bool
     if x % 32 != y % 32 {
         return false;
     }
-    fold(disk, x) == fold(disk, y)
+    fold_by_rule(disk, x) == fold_by_rule(disk, y)
 }
 
 // Whether two names of one length are equal when folded.
