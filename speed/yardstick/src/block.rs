@@ -1,5 +1,7 @@
 //! Blocks, their words and their sum; what is tested of a block by itself.
 
+use core::hint::black_box;
+
 use crate::name::Name;
 
 /// The bytes of a block.
@@ -72,15 +74,32 @@ pub(crate) fn raw_key(block: &Block, index: u32) -> u32 {
     raw(block, TABLE_END - index as usize)
 }
 
-/// The sum of the words.
-///
-/// They are added as if their lowest byte came first, which takes no turning of bytes, and the second and fourth bytes
-/// of all are added by themselves, in halves of 16 bits that do not run over. From the two sums follow the sums of all
-/// first, second, third and fourth bytes. In vectors this is a load, a shift and two additions.
+/// The sum of the words, in the form that suits the processor: those of x86-64 turn the bytes of a word in many steps.
 #[inline(always)]
 pub fn sum(block: &Block) -> u32 {
-    let (halves, _) = block.as_chunks();
-    let (all, odd) = halves.iter().fold((0, 0), add_half);
+    if cfg!(target_arch = "x86_64") {
+        sum_unturned(block)
+    } else {
+        sum_turned(block)
+    }
+}
+
+/// The words turned and added, where vectors of words are turned in one step.
+#[inline(never)]
+fn sum_turned(block: &Block) -> u32 {
+    block.as_chunks().0.iter().fold(0, |sum, &four| sum.wrapping_add(u32::from_be_bytes(four)))
+}
+
+/// The words added without turning a byte.
+///
+/// They are added as if their lowest byte came first, and the second and fourth bytes of all are added by themselves, in
+/// halves of 16 bits that do not run over. From the two sums follow the sums of all first, second, third and fourth
+/// bytes. In vectors this is a load, a shift and two additions.
+#[inline(always)]
+fn sum_unturned(block: &Block) -> u32 {
+    // a byte from everywhere, so that all of the block is on its way at once if it is not in the cache
+    black_box(block.as_chunks::<64>().0.iter().fold(0, |seen, line| seen | line[0]));
+    let (all, odd) = block.as_chunks().0.iter().fold((0, 0), add_half);
     let even = all.wrapping_sub(odd << 8);
     (even << 24).wrapping_add(odd << 16).wrapping_add(even >> 16 << 8).wrapping_add(odd >> 16)
 }
@@ -168,24 +187,27 @@ fn entry_fault(block: &Block, sum: u32, keys: u32, is_named: bool) -> u32 {
 mod tests {
     use super::*;
 
-    /// The words added up one by one.
-    fn plain(block: &Block) -> u32 {
-        (0..128).fold(0, |sum: u32, index| sum.wrapping_add(word(block, index)))
+    /// Both forms against the words one by one.
+    fn tried(block: &Block) -> u32 {
+        let sum = (0..128).fold(0, |sum: u32, index| sum.wrapping_add(word(block, index)));
+        assert_eq!([sum_turned(block), sum_unturned(block)], [sum; 2]);
+        sum
     }
 
     #[test]
     fn the_sum_is_that_of_the_words() {
         let mut block = [0xFF; BLOCK_BYTES];
+        assert_eq!(tried(&block), 128u32.wrapping_neg());
         let mut drawn = 1u32;
         for place in 0..20_000 {
-            assert_eq!(sum(&block), plain(&block));
             drawn = drawn.wrapping_mul(1_664_525).wrapping_add(1_013_904_223);
             block[place % BLOCK_BYTES] = (drawn >> 24) as u8;
+            tried(&block);
         }
         for (place, byte) in (0..BLOCK_BYTES).flat_map(|place| [1, 0x80, 0xFF].map(|byte| (place, byte))) {
             let mut block = [0; BLOCK_BYTES];
             block[place] = byte;
-            assert_eq!(sum(&block), u32::from(byte) << (24 - 8 * (place % 4)));
+            assert_eq!(tried(&block), u32::from(byte) << (24 - 8 * (place % 4)));
         }
     }
 }
