@@ -16,7 +16,7 @@
 #define PAINT 0xA5
 
 /* What jufferdeeg.h says; for an audit, what it says to lend, less what the two directories would take that these
- * volumes lack: 368 bytes each on x86-64, 400 on aarch64. */
+ * volumes lack: 400 bytes each. */
 #define AUDIT_MOST ((1 << 20) - 2 * 400)
 #define HIGH_AUDIT_MOST ((2 << 20) - 2 * 400)
 #define FIND_MOST (40 << 10)

@@ -92,8 +92,8 @@ fn sum_turned(block: &Block) -> u32 {
 
 /// The words added without turning a byte.
 ///
-/// They are added as if their lowest byte came first, and the second and fourth bytes of all are added by themselves, in
-/// halves of 16 bits that do not run over. From the two sums follow the sums of all first, second, third and fourth
+/// They are added as if their lowest byte came first, and the second and fourth bytes of all are added by themselves,
+/// in halves of 16 bits that do not run over. From the two sums follow the sums of all first, second, third and fourth
 /// bytes. In vectors this is a load, a shift and two additions.
 #[inline(always)]
 fn sum_unturned(block: &Block) -> u32 {
