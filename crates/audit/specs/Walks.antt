@@ -83,7 +83,7 @@ pub record Chain (d : Disk) (s : List ℕ) (t i p : ℕ) : Type 0 where
   pub slot : i < slots
   pub earlier : (q : ℕ) → q < p → Known d s (chainKey s (slotWord s t i) q)
 
--- the slots of directory t from i up to j are empty: nothing is met there
+-- the slots of directory t from i up to j, without j, are empty: nothing is met there
 pub record UsedSlot (s : List ℕ) (t i j : ℕ) : Type 0 where
   pub from : i ≤ j
   pub upto : j ≤ slots

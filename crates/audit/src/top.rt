@@ -58,7 +58,8 @@ fn meet_bitmap(disk: Disk, image: &[u8], claim: &mut [u8], key: u32) -> u32
     bitmap_fault(image, key)
 }
 
-// What is in the root's directory; root and bitmap block are met. Sums are added up first, in the order of the disk.
+// What is in the root's directory; root and bitmap block are met. On the old file system sums are added up first, in
+// the order of the disk.
 fn walk_tree(disk: Disk, image: &[u8], claim: &mut [u8], bitmap: u32) -> Walked
     requires { ⌜ (Ready disk (now image) (now claim) nothing) × (bitmap < disk .blocks) ⌝ }
     ensures { λ r. ⌜ Walks disk (now (image .entry)) (slotNodes (now (image .entry)) (rootOf disk) 0 slots) [] nothing

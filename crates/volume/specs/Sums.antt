@@ -21,7 +21,7 @@ pub record Summed (d : Disk) (s : List ℕ) (map : ℕ) : Type 0 where
   pub inside : map < d .blocks
   pub sums : (k : ℕ) → firstKey ≤ k → k < d .blocks → isFree s map k ≡ false → sumOf s k ≡ 0
 
--- what `map` says of sums: nothing where it is 0, which is the key of no block
+-- what `map` says of sums: nothing where it is 0, a key that no reference may hold
 abbrev pub SumsKnown : Disk → List ℕ → ℕ → Type 0
 SumsKnown d s zero = Unit
 SumsKnown d s (suc n) = Summed d s (suc n)

@@ -196,7 +196,7 @@ impl Disk {
         (self.blocks - 5) * self.data_bytes()
     }
 
-    // The data blocks of a file of `size` bytes. Each case divides by a constant, and so takes no division.
+    // The data blocks of a file of `size` bytes. Each case divides by a constant: the compiler multiplies instead.
     pub fn data_blocks(self, size: u32) -> u32
         requires { ⌜ Sized self × (size ≤ fileLimit self) ⌝ }
         ensures { λ r. ⌜ r ≡ dataBlocks self size ⌝ }

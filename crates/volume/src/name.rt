@@ -60,9 +60,9 @@ fn fold_by_rule(disk: Disk, b: u8) -> u8
     fold_plain(b)
 }
 
-// A byte folded as its disk folds it. Bytes below 80 hex fold alike on every disk, and do without the table: the
-// compiler copies it to the stack whenever it is looked at, and makes no such function part of its callers. That
-// `fold_by_rule` has other callers too keeps it from being made part of this one.
+// A byte folded as its disk folds it. Bytes below 80 hex fold alike on every disk, and do without the table, which the
+// compiler copies to the stack whenever it is looked at. `alike` calls `fold_by_rule` too: with one caller alone the
+// compiler would inline it here, and then not inline `fold`.
 pub fn fold(disk: Disk, b: u8) -> u8
     ensures { λ r. ⌜ r ≡ foldOf disk b ⌝ }
 {

@@ -1,7 +1,7 @@
 //! The audit of a volume.
 //!
 //! The walk goes through directories without calling itself: the way back is in the blocks. What it has to remember
-//! besides stands in two arrays, as long as a disk has blocks.
+//! besides stands in arrays, as long as a disk has blocks.
 
 use jufferdeeg::AuditNumbers;
 

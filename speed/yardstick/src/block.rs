@@ -108,9 +108,9 @@ fn sum_unturned(block: &Block) -> u32 {
 #[inline(never)]
 fn add_half((mut all, mut odd): (u32, u32), half: &[u8; BLOCK_BYTES / 2]) -> (u32, u32) {
     for &four in half.as_chunks().0 {
-        let turned = u32::from_le_bytes(four);
-        all = all.wrapping_add(turned);
-        odd = odd.wrapping_add(turned >> 8 & 0x00FF_00FF);
+        let low_first = u32::from_le_bytes(four);
+        all = all.wrapping_add(low_first);
+        odd = odd.wrapping_add(low_first >> 8 & 0x00FF_00FF);
     }
     (all, odd)
 }
