@@ -16,9 +16,9 @@
 #define PAINT 0xA5
 
 /* What jufferdeeg.h says; for an audit, what it says to lend, less what the two directories would take that these
- * volumes lack: 400 bytes each. */
-#define AUDIT_MOST ((1 << 20) - 2 * 400)
-#define HIGH_AUDIT_MOST ((2 << 20) - 2 * 400)
+ * volumes lack: up to 576 bytes each. */
+#define AUDIT_MOST ((1 << 20) - 2 * 576)
+#define HIGH_AUDIT_MOST ((2 << 20) - 2 * 576)
 #define FIND_MOST (40 << 10)
 #define OTHERS_MOST (4 << 10)
 

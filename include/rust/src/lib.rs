@@ -257,8 +257,8 @@ pub fn reason(number: u32) -> String {
 /// Audits an image. It names the number of blocks that the image's disk is to have, [`DOUBLE_DENSITY`] or
 /// [`HIGH_DENSITY`], or takes either with [`ANY_SIZE`].
 ///
-/// Deep directories take stack: up to 0.70 MiB was measured for the deepest volume of 1,760 blocks that there can be,
-/// and up to 1.35 MiB for that of 3,520. So lend it 1 MiB if 1,760 are named, else 2 MiB.
+/// Deep directories take stack: up to 0.97 MiB was measured for the deepest volume of 1,760 blocks that there can be,
+/// and up to 1.94 MiB for that of 3,520. So lend it 1 MiB if 1,760 are named, else 2 MiB.
 pub fn audit(disk_blocks: u32, image: &[u8], claim: &mut [u8]) -> AuditNumbers {
     unsafe { c::jufferdeeg_audit(disk_blocks, image.as_ptr(), image.len(), claim.as_mut_ptr(), claim.len()) }
 }
