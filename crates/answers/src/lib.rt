@@ -1,4 +1,6 @@
 // What every call answers where it refuses.
+#![tactic(auto)]
+
 pub mod sentences;
 
 // The refusal's number, and the place that it is about: a key, a byte, a component or an entry.

@@ -49,14 +49,9 @@ the room is too small\n\
 the offset is less than 4 bytes from another one of its hunk\n\
 chip and fast memory are asked for at once\n";
 
-// How many bytes these are. The code in this contract is where definitions of the crates above find the constant.
+// How many bytes these are.
 pub fn bytes() -> usize
-    ensures* { do
-      n ← (⟦{
-               let text = SENTENCES;
-               text.len()
-           }⟧).entry
-      ⌜ result ≡ n ⌝ }
+    ensures { result ≡ length SENTENCES }
 {
     SENTENCES.len()
 }

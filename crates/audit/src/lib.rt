@@ -1,4 +1,6 @@
 // The audit of a volume: the walk with its claim area, the bitmap, and the report.
+#![tactic(auto)]
+
 pub mod audit;
 mod bitmap;
 mod claims;

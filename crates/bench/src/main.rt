@@ -1,5 +1,7 @@
 // The counter's tool: audits, finds, reads, loads and moves, or does what the reset pin does, on files that the
 // arguments name.
+#![tactic(auto)]
+
 mod arguments;
 mod asked;
 mod bases;

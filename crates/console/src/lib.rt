@@ -1,4 +1,6 @@
 // What the programs share: texts and numbers in lines, words in hex, and rooms.
+#![tactic(auto)]
+
 pub mod hex;
 pub mod rooms;
 pub mod say;

@@ -1,4 +1,6 @@
 // Load and move with the records as structs: a lent slice of hunks, filled from the numbers that the loader hands back.
+#![tactic(auto)]
+
 ghost use Rattle.std.specs.Prelude.{◌≡◌, ◌<◌, ◌≤◌, length};
 ghost use Rattle.hunks.specs.Records.{record_at, filled};
 ghost use Rattle.hunks.specs.Calls.{Loads, Moves};

@@ -1,5 +1,7 @@
 // Runs the leaves of a volume, and of the words below it, on fixed vectors, and writes a line for each. What the
 // lines must be was written by hand from the rules, in the file `stdout`.
+#![tactic(auto)]
+
 mod accents;
 mod blocks;
 mod build;

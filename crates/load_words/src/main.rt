@@ -1,5 +1,7 @@
 // Loads a program file from standard input, hunk i at hex 3000+4000i, and writes the loaded words, one a line, or why
 // there are none.
+#![tactic(auto)]
+
 ghost use Rattle.std.specs.Prelude.{◌≡◌, length, ◌<◌, ◌≤◌};
 
 use answers::{Fault, Refusal};

@@ -1,4 +1,6 @@
 // Paths to entries, on any image.
+#![tactic(auto)]
+
 mod chain;
 pub mod find;
 mod path;

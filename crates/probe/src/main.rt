@@ -1,5 +1,7 @@
 // Answers requests from standard input until it ends, a line for each. A request is eight bytes, its number and its
 // body's length, both big-endian, and then the body.
+#![tactic(auto)]
+
 mod checksum;
 mod frame;
 mod image;

@@ -1,5 +1,7 @@
 // A program file: one reader that takes a word at a time, and the check of a whole file.
 // What a program file is, by the page, is specs/Page.antt.
+#![tactic(auto)]
+
 pub mod act;
 pub mod check;
 pub mod header;

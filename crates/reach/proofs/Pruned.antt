@@ -1,6 +1,6 @@
 -- The walk never looks at what a node that fails refers to: over the graph in which such nodes refer to nothing it
 -- has the same outcome (`pruned_same`). What is reached there is reached by way of nodes that pass. Assumes nothing.
-use Prim.Native.Nat.{ℕ, zero, suc}
+use Prim.Native.Nat.{ℕ}
 use mathlib.Core.Path.{◌≡◌, refl, sym, subst, ◌∙◌}
 use mathlib.Core.Bool.{Bool, true, false}
 use mathlib.Core.List.{List, [], ◌∷◌, ◌++◌}
@@ -10,7 +10,7 @@ use borrow.Author.Tests.{eq-eqb, eqb-true}
 use Rattle.answers.specs.Tests.{pick, first}
 use Rattle.answers.proofs.Tests.{first_zero}
 use Rattle.reach.specs.References.{At}
-use Rattle.reach.specs.Walk.{Graph, Outcome, verdict, run, audit}
+use Rattle.reach.specs.Walk.{Graph, Outcome, verdict, audit}
 use Rattle.reach.specs.Law.{pruned}
 use Rattle.reach.proofs.Runs.{Run, end, stop, enter, run_runs, runs_run, passed}
 

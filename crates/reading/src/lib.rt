@@ -1,4 +1,6 @@
 // Reading a file's bytes: its blocks are tested, and then copied.
+#![tactic(auto)]
+
 mod blocks;
 mod copy;
 pub mod read;

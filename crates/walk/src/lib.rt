@@ -1,6 +1,8 @@
 // The walk over a volume: what is met in which order, what is tested of it, and that this decides the law.
 // Mathematics, in specs/ and proofs/, and what audits and reads share of the code; the code that walks is crate
 // `audit`.
+#![tactic(auto)]
+
 pub mod file;
 
 // What an audit counts of the blocks it has met.

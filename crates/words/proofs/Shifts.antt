@@ -1,6 +1,6 @@
 -- Laws of relocation: what becomes of each byte and of each target; twice is once by the sums, and by nothing is
 -- nothing. Assumes nothing.
-use Rattle.std.proofs.Common.{◌≡◌, ℕ, ◌+◌, ◌%◌, ◌^◌, ◌<◌, ◌≤◌, ◌⊎◌, List, [], ◌∷◌, length, get_or, sym, refl, ap, ◌∙◌, inl, inr, ⊎_elim, arith}
+use Rattle.std.proofs.Common.{◌≡◌, ℕ, ◌+◌, ◌%◌, ◌^◌, ◌<◌, ◌≤◌, List, [], ◌∷◌, length, get_or, sym, refl, ap, ◌∙◌, inl, inr, ⊎_elim, arith}
 use Rattle.words.specs.Word.{Bytes, word_at, add_at}
 use Rattle.words.specs.Shift.{Target, shift_all}
 use Rattle.words.proofs.Words.{Far, Off, length_add_at, add_at_off, add_at_apart, add_at_comm, add_at_same}
@@ -29,14 +29,14 @@ OffAll k (t ∷ ts) = Off k t.loaded_at × OffAll k ts
 pub length_shift_all : (m : List ℕ) (ts : List Target) (f : ℕ → ℕ) → length (shift_all m ts f) ≡ length m
 unfolding shift_all
 length_shift_all m [] f = refl
-length_shift_all m (t ∷ ts) f = length_shift_all _ ts f ∙ length_add_at m _ _
+length_shift_all m (t ∷ ts) f = length_shift_all (add_at m t.loaded_at (f t.key)) ts f ∙ length_add_at m _ _
 
 -- bytes outside all targets stay
 pub shift_all_off : (m : List ℕ) (ts : List Target) (f : ℕ → ℕ) (k : ℕ) → OffAll k ts
     → get_or (shift_all m ts f) k 0 ≡ get_or m k 0
 unfolding shift_all
 shift_all_off m [] f k o = refl
-shift_all_off m (t ∷ ts) f k o = shift_all_off _ ts f k o.1 ∙ add_at_off m _ _ k o.0
+shift_all_off m (t ∷ ts) f k o = shift_all_off (add_at m t.loaded_at (f t.key)) ts f k o.1 ∙ add_at_off m _ _ k o.0
 
 -- a target far from all others may go first or last
 shift_all_past : (m : List ℕ) (ts : List Target) (f : ℕ → ℕ) (t d : ℕ) → FarAll t ts
@@ -44,7 +44,7 @@ shift_all_past : (m : List ℕ) (ts : List Target) (f : ℕ → ℕ) (t d : ℕ)
 unfolding shift_all
 shift_all_past m [] f t d a = refl
 shift_all_past m (u ∷ us) f t d a =
-    shift_all_past _ us f t d a.1
+    shift_all_past (add_at m u.loaded_at (f u.key)) us f t d a.1
     ∙ ap (λ n. shift_all n us f) (sym (add_at_comm m t d u.loaded_at (f u.key) a.0))
 
 -- two shifts are one by the sums
@@ -71,7 +71,7 @@ pub shift_all_mod : (m : List ℕ) (ts : List Target) (f g : ℕ → ℕ) → ((
 unfolding shift_all
 shift_all_mod m [] f g h = refl
 shift_all_mod m (t ∷ ts) f g h =
-    rw (add_at_mod m t.loaded_at (f t.key) (g t.key) (h t.key)) (shift_all_mod _ ts f g h)
+    rw (add_at_mod m t.loaded_at (f t.key) (g t.key) (h t.key)) (shift_all_mod (add_at m t.loaded_at (g t.key)) ts f g h)
 
 -- a load at the old bases and a move by the differences is a load at the new ones
 pub shift_all_moved : (m : List ℕ) (ts : List Target) (old d new : ℕ → ℕ)
@@ -90,7 +90,7 @@ shift_all_far : (m : List ℕ) (ts : List Target) (f : ℕ → ℕ) (t : ℕ) �
 unfolding shift_all
 shift_all_far m [] f t a = refl
 shift_all_far m (u ∷ us) f t a =
-    shift_all_far _ us f t a.1 ∙ add_at_apart m u.loaded_at (f u.key) t (⊎_elim inr inl a.0)
+    shift_all_far (add_at m u.loaded_at (f u.key)) us f t a.1 ∙ add_at_apart m u.loaded_at (f u.key) t (⊎_elim inr inl a.0)
 
 added_from : (m n : List ℕ) (ts : List Target) (f : ℕ → ℕ) (t d : ℕ) → FarAll t ts → Added (add_at m t d) n ts f
     → Added m n ts f
@@ -119,4 +119,4 @@ pub shift_all_agree : (m : List ℕ) (t : ℕ) (ts : List Target) (f g : ℕ →
     → Keyed t ts → shift_all m ts f ≡ shift_all m ts g
 unfolding shift_all
 shift_all_agree m t [] f g h k = refl
-shift_all_agree m t (u ∷ us) f g h k = rw (h u.key k.0) (shift_all_agree _ t us f g h k.1)
+shift_all_agree m t (u ∷ us) f g h k = rw (h u.key k.0) (shift_all_agree (add_at m u.loaded_at (g u.key)) t us f g h k.1)

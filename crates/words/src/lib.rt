@@ -1,5 +1,7 @@
 // Big-endian 32-bit words of a slice of bytes: read, store, add, and the sum of a block's words; bytes set to 0; and
 // the smaller of two numbers.
+#![tactic(auto)]
+
 ghost use Rattle.std.specs.Prelude.{◌≡◌, ◌+◌, ◌*◌, ◌/◌, ◌%◌, ◌^◌, ◌<◌, ◌≤◌, min, ◌++◌, length, drop, replicate};
 ghost use Rattle.words.specs.Word.{four, word_at, set_word, add_at};
 ghost use Rattle.words.specs.Sum.{block_words, sum_at};
