@@ -1,7 +1,7 @@
 -- What a block refers to. That depends on the kind in which it is asked for: a directory has slots and a link, a file
 -- data keys and links, a list block data keys and a link, and the root the key of the bitmap block (docs/FORMAT.md,
 -- "Blocks of a volume", Reached).
-use Rattle.std.specs.Prelude.{ℕ, zero, suc, ◌+◌, List, [], ◌∷◌, ◌++◌, map}
+use Rattle.std.specs.Prelude.{ℕ, zero, suc, List, [], ◌∷◌, ◌++◌, map}
 use Rattle.reach.specs.References.{References}
 use Rattle.volume.specs.declared.disk.Disk.{Disk}
 use Rattle.answers.specs.Tests.{pick}

@@ -1,7 +1,7 @@
 -- The tests of one block of each kind, in the order in which they are made, each with its number (docs/FORMAT.md,
 -- "Order of the walk" and "Numbers"). What a block is asked as, and by whom, comes as arguments; 5, 6 and 13 belong
 -- to the walk.
-use Rattle.std.specs.Prelude.{ℕ, zero, suc, ◌+◌, Bool, true, false, List, [], ◌∷◌, ◌++◌, leb, eqb}
+use Rattle.std.specs.Prelude.{ℕ, zero, suc, Bool, true, false, List, [], ◌∷◌, ◌++◌, leb, eqb}
 use Rattle.volume.specs.declared.disk.Disk.{Disk}
 use Rattle.answers.specs.Numbers as fault
 use Rattle.answers.specs.Tests.{pick, must, never, tests}

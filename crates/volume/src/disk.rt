@@ -9,7 +9,7 @@ ghost use Rattle.volume.specs.Files.{data_blocks, held_of};
 use crate::block::Block;
 
 // The number of its blocks, and the last byte of its boot tag.
-#[derive(Drop)]
+#[derive(Clone, Copy)]
 pub struct Disk {
     pub blocks: u32,
     pub kind: u8,
