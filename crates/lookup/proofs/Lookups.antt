@@ -15,7 +15,7 @@ use Rattle.answers.specs.declared.Tested.{Tested}
 use Rattle.answers.specs.declared.Tested.TheVariants.{Passed, Failed}
 use Rattle.words.specs.Word.{word_at}
 use Rattle.volume.specs.declared.disk.Disk.{Disk}
-use Rattle.volume.specs.Disks.{Sized, image_bytes, tag_of, root_of, chain_limit, disk_of}
+use Rattle.volume.specs.Disks.{image_bytes, tag_of, root_of, chain_limit, disk_of}
 use Rattle.volume.specs.Blocks.{Holds, directory}
 use Rattle.volume.specs.Files.{size_of}
 use Rattle.volume.specs.Rules.{root_fault}

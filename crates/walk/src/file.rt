@@ -13,7 +13,7 @@ use volume::disk::Disk;
 use volume::file::{data_fault, key_of, keys_here, list_fault};
 
 // A block that lists data blocks of a file: the header, or a list block.
-#[derive(Drop)]
+#[derive(Clone, Copy)]
 pub struct KeyBlock {
     pub header: u32,
     // The file's, as the header says it.
