@@ -16,7 +16,7 @@ use Rattle.volume.specs.Files.{size_of}
 use Rattle.lookup.specs.declared.find.Found.{Found}
 use Rattle.lookup.specs.declared.find.Found.TheVariants as found
 use Rattle.lookup.specs.Lookup.{find_of}
-use Rattle.reading.specs.declared.read.Reading.TheVariants.{Bytes, Refused}
+use Rattle.reading.specs.declared.read.Reading.TheVariants.{Bytes}
 use Rattle.reading.specs.FileTests.{blocks_fault}
 use Rattle.reading.specs.Bytes.{file_bytes, part, filled_by}
 use Rattle.reading.specs.Parts.{Copied}

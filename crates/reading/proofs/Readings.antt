@@ -1,10 +1,7 @@
 -- A read, return by return; and that outcomes are determined. Assumes nothing.
-use Prim.Native.Nat.{ℕ, suc, ◌+◌, ◌-◌, ◌<◌, ◌≤◌}
+use Prim.Native.Nat.{ℕ, suc, ◌+◌, ◌<◌, ◌≤◌}
 use mathlib.Core.Path.{◌≡◌, refl, sym, ap, ◌∙◌}
-use mathlib.Core.Logic.{⊎_elim}
 use mathlib.Core.Bool.{Bool, true, false}
-use types.Run.{OneOf}
-use denote.Enum.Declared.{tag_of}
 use mathlib.Core.List.{List, [], ◌∷◌}
 use native.Mathlib.Omega.{arith}
 use lib.Dec.{eqb}
@@ -30,7 +27,6 @@ use Rattle.reading.specs.declared.read.Reading.TheVariants.{Bytes, Refused}
 use Rattle.reading.specs.FileTests.{blocks_fault}
 use Rattle.reading.specs.Bytes.{file_bytes}
 use Rattle.reading.specs.Parts.{BlocksInside, Copied, handed}
-use Rattle.lookup.specs.contracts.find.Found.{the_type}
 use Rattle.reading.specs.Reads.{numbers_of, refuse, last_component, read_of, output_after, Reads}
 use Rattle.reading.proofs.Tested.{tested_whole}
 
@@ -151,14 +147,14 @@ module _ (d : Disk) (s path : List ℕ) (o : ℕ) (output : List ℕ) (f : Found
         promised (Bytes n) output' (rw (← e, g, ← h, q, w.count) refl) (rw (← e, g) w.output)
 
   -- where it is no file, what is handed back is what a read answers
-  pub read_handed : (r : Reading) → OneOf (0 ∷ 2 ∷ []) (tag_of the_type f) → r ≡ handed path f
+  pub read_handed : (r : Reading) → ((k z c : ℕ) → f ≡ found.File k z c → ⊥) → r ≡ handed path f
       → Reads d s path o output r output
   unfolding read_of
   read_handed r h q = go f e h q
     where
-      go : (f : Found) → f ≡ find_of d s path → OneOf (0 ∷ 2 ∷ []) (tag_of the_type f) → r ≡ handed path f
+      go : (f : Found) → f ≡ find_of d s path → ((k z c : ℕ) → f ≡ found.File k z c → ⊥) → r ≡ handed path f
           → Reads d s path o output r output
-      go (found.File k z c) e h q = absurd (⊎_elim (λ e. omega arith) (λ e. omega arith) h)
+      go (found.File k z c) e h q = absurd (h k z c refl)
       go (found.Directory k c) e h q = promised r output (q ∙ rw (← e) refl) (rw q refl)
       go (found.Refused x) e h q = promised r output (q ∙ rw (← e) refl) (rw q refl)
 
@@ -175,11 +171,11 @@ read_determined d s path o output r r' a a' h h' =
     (ap numbers_of e, e, h.left ∙ ap (output_after d s path o output) e ∙ sym h'.left)
 
 -- a directory is no file
-pub handed_directory : (path : List ℕ) (f : Found) (n : ℕ) → OneOf (0 ∷ 1 ∷ []) (tag_of the_type f)
+pub handed_directory : (path : List ℕ) (f : Found) (n : ℕ) → ((x : Refusal) → f ≡ found.Refused x → ⊥)
     → n ≡ last_component path → refuse fault.wrong_kind n ≡ handed path f
 handed_directory path (found.Directory k c) n h e = ap (refuse fault.wrong_kind) e
 handed_directory path (found.File k z c) n h e = ap (refuse fault.wrong_kind) e
-handed_directory path (found.Refused x) n h e = absurd (⊎_elim (λ e. omega arith) (λ e. omega arith) h)
+handed_directory path (found.Refused x) n h e = absurd (h x refl)
 
 pub handed_refusal : (path : List ℕ) (f : Found) (x : Refusal) → f ≡ found.Refused x → Refused x ≡ handed path f
 handed_refusal path f x e = rw e refl
