@@ -7,7 +7,7 @@ use mathlib.Core.List.{List, [], ◌∷◌}
 use native.Mathlib.Omega.{arith}
 use native.Mathlib.Decide.{ℕ_discrete}
 use borrow.Author.Tests.{eq-eqb}
-use Rattle.answers.specs.Tests.{pick, tests}
+use Rattle.answers.specs.Tests.{pick}
 use Rattle.reach.specs.References.{Reached, top}
 use Rattle.volume.specs.declared.disk.Disk.{Disk}
 use Rattle.volume.specs.Disks.{root_of}
