@@ -46,28 +46,30 @@ none (k ∷ []) x t e = rw (eq-eqb x k e) at t
 none (k ∷ j ∷ ks) x t (inl e) = rw (eq-eqb x k e) at t
 none (k ∷ j ∷ ks) x t (inr h) = none (j ∷ ks) x (later (eqb x k) _ t) h
 
--- all modes but these ask for nothing
-abbrev quiet : List ℕ
-quiet = 1 ∷ 3 ∷ 5 ∷ 6 ∷ 7 ∷ 9 ∷ 10 ∷ 11 ∷ 12 ∷ []
-
-pub rest_quiet : (c : Cursor) (at w : ℕ) → OneOf quiet (tag_of the_type c.mode) → act.Quiet ≡ act_of c at w
-unfolding act_of pick
+-- all modes but these four ask for nothing
+pub rest_quiet : (c : Cursor) (at w : ℕ) → (c.mode ≡ Begin → ⊥) → (c.mode ≡ Body → ⊥)
+    → ((n : ℕ) → c.mode ≡ Stored n → ⊥)
+    → ((n k : ℕ) → c.mode ≡ Offset n k → ⊥)
+    → act.Quiet ≡ act_of c at w
+unfolding act_of
 rest_quiet c at w = go c.mode
   where
-    go : (m : Mode) → OneOf quiet (tag_of the_type m) → act.Quiet ≡ asks c at w m
-    go Begin h = absurd (none quiet 0 tt h)
-    go Body h = absurd (none quiet 2 tt h)
-    go (Stored n) h = absurd (none quiet 4 tt h)
-    go (Offset n k) h = absurd (none quiet 8 tt h)
-    go NameLength h = refl
-    go (Length k) h = refl
-    go Part h = refl
-    go Count h = refl
-    go (Number n) h = refl
-    go Symbol h = refl
-    go DebugLength h = refl
-    go (Skip n a) h = refl
-    go End h = refl
+    go : (m : Mode) → (m ≡ Begin → ⊥) → (m ≡ Body → ⊥) → ((n : ℕ) → m ≡ Stored n → ⊥)
+        → ((n k : ℕ) → m ≡ Offset n k → ⊥)
+        → act.Quiet ≡ asks c at w m
+    go Begin f g h i = absurd (f refl)
+    go Body f g h i = absurd (g refl)
+    go (Stored n) f g h i = absurd (h n refl)
+    go (Offset n k) f g h i = absurd (i n k refl)
+    go NameLength f g h i = refl
+    go (Length k) f g h i = refl
+    go Part f g h i = refl
+    go Count f g h i = refl
+    go (Number n) f g h i = refl
+    go Symbol f g h i = refl
+    go DebugLength f g h i = refl
+    go (Skip n a) f g h i = refl
+    go End f g h i = refl
 
 -- all modes but `End` miss a word
 abbrev missing : List ℕ

@@ -594,7 +594,7 @@ module _ (file : List ℕ) (bytes : Bytes file) (p : ℕ) where
       go : HunkWord file (refusal fault.both_memories p) ⊎ Missing file (refusal fault.both_memories p)
           → BothMemories file p
       go (inl x) =
-          absurd (hunks_not_both _ _ x.cursor (word_at file x.at) x.number x.cursor.mode
+          absurd (hunks_not_both (total_of file) (space_of file) x.cursor (word_at file x.at) x.number x.cursor.mode
           ((step_why (total_of file) (space_of file) x.cursor (word_at file x.at) x.number).0 x.refuses)
           (sym (number_same x.said)))
       go (inr x) = absurd (omega (arith, number_same x.said))

@@ -30,7 +30,7 @@ const DEBUG: u32 = 0x3F1;
 const END: u32 = 0x3F2;
 
 // What comes after words that are skipped.
-#[derive(Drop)]
+#[derive(Clone, Copy)]
 pub enum After {
     Body,
     Symbol,
@@ -38,7 +38,7 @@ pub enum After {
 }
 
 // What the next word is.
-#[derive(Drop)]
+#[derive(Clone, Copy)]
 pub enum Mode {
     // A hunk begins: a name block, or the body.
     Begin,
@@ -67,7 +67,7 @@ pub enum Mode {
 }
 
 // Where the reader is: the hunk, its first byte in memory, and how many words it stores.
-#[derive(Drop)]
+#[derive(Clone, Copy)]
 pub struct Cursor {
     pub mode: Mode,
     pub hunk: u32,
