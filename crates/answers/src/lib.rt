@@ -4,7 +4,7 @@
 pub mod sentences;
 
 // The refusal's number, and the place that it is about: a key, a byte, a component or an entry.
-#[derive(Drop)]
+#[derive(Clone, Copy)]
 pub struct Refusal {
     pub number: u32,
     pub place: usize,

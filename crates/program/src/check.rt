@@ -8,7 +8,7 @@ use crate::reader::{Cursor, Mode, Next, begin, past, step};
 use answers::{Fault, Refusal, Tested};
 
 // What a check, a load and a move answer.
-#[derive(Drop)]
+#[derive(Clone, Copy)]
 pub enum Answer {
     // The number of hunks, and the loaded bytes.
     Accepted(u32, usize),
