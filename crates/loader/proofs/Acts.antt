@@ -1,14 +1,11 @@
 -- One act at a time: what it asks lies inside, and what it does. Assumes nothing.
 use Rattle.std.proofs.Common.{◌≡◌, ℕ, zero, suc, ◌+◌, ◌*◌, ◌<◌, ◌≤◌, Bool, true, false, eqb, List, [], ◌∷◌, length, sym, refl, ap, ◌∙◌, subst, arith}
 use native.Mathlib.Decide.{dec_lt}
-use types.Run.{OneOf}
-use denote.Enum.Declared.{tag_of}
 use Rattle.program.specs.Types as type
 use Rattle.words.specs.Word.{add_at}
 use Rattle.words.specs.Shift.{Target, shift_all}
 use Rattle.words.proofs.Words.{length_set_word, length_add_at}
 use Rattle.answers.specs.Tests.{pick}
-use Rattle.program.specs.contracts.act.Act.{the_type}
 use Rattle.program.specs.declared.act.Act.{Act}
 use Rattle.program.specs.declared.act.Act.TheVariants.{Quiet, Body, Store, Add}
 use Rattle.program.specs.declared.reader.Cursor.{Cursor}
@@ -21,7 +18,6 @@ use Rattle.program.specs.Header.{total_of, space_of, size_of, memory_of}
 use Rattle.program.specs.Reader.{turn, step_of}
 use Rattle.program.specs.Acts.{asks, act_of, pass}
 use Rattle.program.specs.Cursors.{HeaderFits, CursorFits, ModeFits, place_of}
-use Rattle.program.proofs.Modes.{none}
 use Rattle.program.proofs.CursorsFit.{offset_in}
 use Rattle.program.proofs.Walks.{Reads}
 use Rattle.program.proofs.Passes.{Passing}
@@ -30,26 +26,6 @@ use Rattle.loader.specs.Memory.{loaded_of, store_one, target_one, targets, shift
 use Rattle.loader.specs.Parts.{ActFits}
 use Rattle.loader.specs.Table.{record_length, with_numbers, record_one}
 use Rattle.loader.proofs.Copies.{length_with}
-
--- ---- the acts by their tags, in the order of `Act`; a `match` tells that an act has none but some of them
-
-abbrev tag_quiet : ℕ
-tag_quiet = 0
-
-abbrev tag_body : ℕ
-tag_body = 1
-
-abbrev tag_store : ℕ
-tag_store = 2
-
-abbrev pub tag_add : ℕ
-tag_add = 3
-
-abbrev not_body : List ℕ
-not_body = tag_quiet ∷ tag_store ∷ tag_add ∷ []
-
-abbrev pub not_add : List ℕ
-not_add = tag_quiet ∷ tag_body ∷ tag_store ∷ []
 
 -- ---- what a word asks for lies inside
 
@@ -172,12 +148,11 @@ pub add_done : (m r : List ℕ) (f : ℕ → ℕ) (a : Act) (p k b : ℕ) → a 
     → r ≡ shift_one m f a
 add_done m r f a p k b e h = h ∙ sym (ap (shift_one m f) e)
 
-pub add_rest : (m : List ℕ) (f : ℕ → ℕ) (a : Act) → OneOf not_add (tag_of the_type a) → m ≡ shift_one m f a
-unfolding pick
+pub add_rest : (m : List ℕ) (f : ℕ → ℕ) (a : Act) → ((p k b : ℕ) → a ≡ Add p k b → ⊥) → m ≡ shift_one m f a
 add_rest m f Quiet h = refl
 add_rest m f (Body x p k) h = refl
 add_rest m f (Store p w) h = refl
-add_rest m f (Add p k b) h = absurd (none not_add tag_add tt h)
+add_rest m f (Add p k b) h = absurd (h p k b refl)
 
 pub length_shift_one : (f : ℕ → ℕ) (m : List ℕ) (a : Act) → length (shift_one m f a) ≡ length m
 length_shift_one f m Quiet = refl
@@ -229,10 +204,9 @@ pub record_done : (file bases t r : List ℕ) (a : Act) (h p k s m : ℕ) → a 
     → r ≡ record_one file bases t a
 record_done file bases t r a h p k s m e q n x = x ∙ rw (e, q, n)
 
-pub record_rest : (file bases t : List ℕ) (a : Act) → OneOf not_body (tag_of the_type a) → t ≡ record_one file bases t a
-unfolding pick
+pub record_rest : (file bases t : List ℕ) (a : Act) → ((x p k : ℕ) → a ≡ Body x p k → ⊥) → t ≡ record_one file bases t a
 record_rest file bases t Quiet h = refl
-record_rest file bases t (Body x p k) h = absurd (none not_body tag_body tt h)
+record_rest file bases t (Body x p k) h = absurd (h x p k refl)
 record_rest file bases t (Store p w) h = refl
 record_rest file bases t (Add p k b) h = refl
 

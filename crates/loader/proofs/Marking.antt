@@ -1,8 +1,6 @@
 -- The marks in the work area say which targets are too near. Assumes nothing.
 use Rattle.std.proofs.Common.{◌≡◌, ℕ, ◌+◌, ◌*◌, ◌%◌, ◌<◌, ◌≤◌, Bool, true, false, eqb, ltb, ◌⊎◌, List, [], ◌∷◌, length, get_or, sym, refl, ap, ◌∙◌, subst, inl, inr, ⊎_elim, arith, ltb-false, ltb-true}
 use native.Mathlib.Decide.{dec_lt}
-use types.Run.{OneOf}
-use denote.Enum.Declared.{tag_of}
 use Rattle.program.specs.Types as type
 use Rattle.answers.specs.Numbers as fault
 use Rattle.words.specs.Word.{word_at, set_word}
@@ -11,7 +9,6 @@ use Rattle.words.proofs.Words.{set_word_above}
 use Rattle.answers.specs.Tests.{pick}
 use Rattle.answers.specs.Refusals.{refusal}
 use Rattle.answers.specs.declared.Tested.TheVariants.{Passed, Failed}
-use Rattle.program.specs.contracts.act.Act.{the_type}
 use Rattle.program.specs.declared.act.Act.{Act}
 use Rattle.program.specs.declared.act.Act.TheVariants.{Quiet, Body, Store, Add}
 use Rattle.program.specs.declared.reader.Cursor.{Cursor}
@@ -24,23 +21,21 @@ use Rattle.program.specs.Reader.{start, step_of}
 use Rattle.program.specs.Acts.{asks, act_of, acts_from}
 use Rattle.program.specs.Cursors.{HeaderFits}
 use Rattle.program.specs.Runs.{Leads}
-use Rattle.program.proofs.Modes.{none}
 use Rattle.program.proofs.Walks.{Reads, reads_start, reads_on}
 use Rattle.program.proofs.Passes.{acts_on, acts_bad, acts_end}
 use Rattle.program.proofs.Runs.{leads_reads, leads_acts}
 use Rattle.loader.specs.Memory.{loaded_of, targets}
 use Rattle.loader.specs.Near.{near, near_any, clash, clash_of}
 use Rattle.loader.specs.Parts.{ActFits, marks_one, Marks}
-use Rattle.loader.proofs.Acts.{tag_add, not_add, quiet_target, reads_fits}
+use Rattle.loader.proofs.Acts.{quiet_target, reads_fits}
 
 -- ---- one act
 
-pub mark_rest : (m : List ℕ) (a : Act) → OneOf not_add (tag_of the_type a) → Marks m a false m
-unfolding pick
+pub mark_rest : (m : List ℕ) (a : Act) → ((p k b : ℕ) → a ≡ Add p k b → ⊥) → Marks m a false m
 mark_rest m Quiet h = record { marks = (refl, refl) }
 mark_rest m (Body x p k) h = record { marks = (refl, refl) }
 mark_rest m (Store p w) h = record { marks = (refl, refl) }
-mark_rest m (Add p k b) h = absurd (none not_add tag_add tt h)
+mark_rest m (Add p k b) h = absurd (h p k b refl)
 
 pub mark_met : (m : List ℕ) (a : Act) (p k b w : ℕ) → a ≡ Add p k b → w ≡ word_at m p → (w ≡ 0 → ⊥) → Marks m a true m
 mark_met m a p k b w e q h =

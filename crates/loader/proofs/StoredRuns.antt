@@ -1,14 +1,11 @@
 -- Runs of stored words: the loop that stores them, and what they are in a pass over a file. Assumes nothing.
 use Rattle.std.proofs.Common.{◌≡◌, ℕ, zero, suc, ◌+◌, ◌-◌, ◌*◌, ◌/◌, ◌%◌, ◌<◌, ◌≤◌, min, Bool, true, false, eqb, List, [], ◌∷◌, length, sym, refl, ap, ◌∙◌, subst, arith}
 use native.Mathlib.Decide.{dec_lt}
-use types.Run.{OneOf}
-use denote.Enum.Declared.{tag_of}
 use Rattle.program.specs.Types as type
 use Rattle.words.specs.Word.{word_at, words_at, set_word}
 use Rattle.words.proofs.Words.{length_set_word}
 use Rattle.answers.specs.Tests.{pick}
 use Rattle.answers.proofs.Clashes.{impossible}
-use Rattle.program.specs.contracts.reader.Mode.{the_type}
 use Rattle.program.specs.declared.act.Act.TheVariants.{Quiet, Body}
 use Rattle.program.specs.declared.reader.After.{After}
 use Rattle.program.specs.declared.reader.After.TheVariants as after
@@ -24,7 +21,6 @@ use Rattle.program.specs.Acts.{asks, act_of}
 use Rattle.program.specs.Cursors.{HeaderFits, CursorFits}
 use Rattle.program.specs.Runs.{moded_of, skip_at, stored_at, Leads}
 use Rattle.program.specs.Runs as runs
-use Rattle.program.proofs.Modes.{none}
 use Rattle.program.proofs.Passes.{Passing, passing_start, passing_on}
 use Rattle.program.proofs.Runs.{stored_open, stored_shut, stored_some, stored_step, stored_act, passed_step}
 use Rattle.program.proofs.Runs.{passed_act}
@@ -113,15 +109,9 @@ passes_rest file (runs.passes {c = c} {n = n} {a = a} l e k) f = passes_rest fil
 
 -- ---- as the code counts them
 
-abbrev not_stored : List ℕ
-not_stored = 0 ∷ 1 ∷ 2 ∷ 3 ∷ 5 ∷ 6 ∷ 7 ∷ 8 ∷ 9 ∷ 10 ∷ 11 ∷ 12 ∷ []
-
-pub past_rest : (file m : List ℕ) (c d : Cursor) (at to : ℕ) → OneOf not_stored (tag_of the_type c.mode)
+pub past_rest : (file m : List ℕ) (c d : Cursor) (at to : ℕ) → ((i : ℕ) → c.mode ≡ Stored i → ⊥)
     → Leads file c at d to → StoresPast file m c at m d to
-unfolding pick
-past_rest file m c d at to h k =
-    let f : (i : ℕ) → c.mode ≡ Stored i → ⊥ =
-    λ i e. none not_stored 4 tt (subst (λ (x : Mode). OneOf not_stored (tag_of the_type x)) e h) in
+past_rest file m c d at to f k =
     record { stores = passes_store file m k f; rests = λ i e. absurd (passes_rest file k f i e) }
 
 module _ (file : List ℕ) (c : Cursor) (i at n : ℕ) (s : CursorFits file c) (e : c.mode ≡ Stored i)

@@ -17,7 +17,7 @@ use program::header::total;
 use words::{clear, wipe};
 
 // An answer, and the records' numbers beside it.
-#[derive(Drop)]
+#[derive(Clone, Copy)]
 pub struct Outcome {
     pub answer: Answer,
     pub records: [u32; TABLE_ROOM],

@@ -1,0 +1,11 @@
+use Rattle.std.proofs.Common.{◌≡◌, ◌-◌, ◌≤◌, arith, rules}
+use Rattle.loader.specs.Bases.{bases_from, bases_fault}
+use Rattle.loader.proofs.Entries.{header_long, entry_small, count_bad, count_good, entries_bad, entries_on}
+use Rattle.loader.proofs.Entries.{entries_end}
+use Rattle.loader.proofs.bases.bases_fault.Given as goal
+
+abbrev pub invariant-loop-i : goal.invariant-loop-i
+invariant-loop-i l = (l.i ≤ l.t) × (bases_fault l.file l.bases l.from ≡ bases_from l.file l.bases l.from l.i (l.t - l.i))
+
+abbrev pub decreases-loop-i : goal.decreases-loop-i
+decreases-loop-i l = l.t - l.i

@@ -1,0 +1,9 @@
+use Rattle.std.proofs.Common.{◌-◌, length, rules}
+use Rattle.loader.proofs.Copies.{Puts, put_start, put_length, put_all, put_room, put_turn}
+use Rattle.loader.proofs.table.put_numbers.Given as goal
+
+abbrev pub invariant-loop-i : goal.invariant-loop-i
+invariant-loop-i l = Puts l.numbers l.initial.table l.at l.table l.i
+
+abbrev pub decreases-loop-i : goal.decreases-loop-i
+decreases-loop-i l = length l.numbers - l.i
