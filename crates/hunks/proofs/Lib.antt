@@ -5,8 +5,6 @@ pub mod Filling
 pub mod Handing
 -- a table as its numbers
 pub mod Numbering
--- what the walks share
-pub mod Walking
 -- the laws of moving
 pub mod Moving
 -- the contracts decide
