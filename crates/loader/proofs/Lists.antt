@@ -1,6 +1,6 @@
 -- A call that is lent lists of bases, a load one and a move two: its tests in their order, said once for any number
 -- of lists. Assumes nothing.
-use Rattle.std.proofs.Common.{◌≡◌, ℕ, ◌+◌, ◌⊎◌, ◌↔◌, List, [], ◌∷◌, sym, refl, ap, ◌∙◌, inl, inr, arith}
+use Rattle.std.proofs.Common.{◌≡◌, ℕ, ◌+◌, ◌⊎◌, ◌↔◌, List, [], ◌∷◌, refl, ap, inl, inr, arith}
 use Rattle.answers.specs.declared.Refusal.{Refusal}
 use Rattle.answers.specs.declared.Tested.TheVariants.{Passed, Failed}
 use Rattle.program.specs.declared.check.Answer.{Answer}

@@ -3,7 +3,6 @@
 use Rattle.std.proofs.Common.{◌≡◌, ℕ, ◌↔◌, List, [], ◌∷◌, length, sym, ◌∙◌, inl, inr}
 use Rattle.answers.specs.Numbers as fault
 use Rattle.answers.specs.Members.{◌∈◌}
-use Rattle.answers.specs.Refusals.{refusal}
 use Rattle.answers.specs.declared.Refusal.{Refusal}
 use Rattle.answers.proofs.Members.{listed, in_part}
 use Rattle.program.specs.declared.check.Answer.{Answer}

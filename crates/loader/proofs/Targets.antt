@@ -8,7 +8,7 @@ use Rattle.words.proofs.Words.{word_at_same_bytes}
 use Rattle.words.proofs.Shifts.{OffAll, Added, length_shift_all, shift_all_off, shift_all_added}
 use Rattle.program.specs.declared.check.Answer.TheVariants.{Accepted}
 use Rattle.program.specs.Page.{Hunk, Each, Holds, total}
-use Rattle.loader.specs.Memory.{targets_of, amount_of, bodies_of, load_of, moved, move_of}
+use Rattle.loader.specs.Memory.{targets_of, amount_of, bodies_of, moved}
 use Rattle.loader.specs.Calls.{records_in, Loads, Moves}
 use Rattle.loader.specs.Pages.{PageTarget, image_of, file_targets, bare, Adds, Outside, with_hunks}
 use Rattle.loader.proofs.Inside.{within_targets, within_more, length_bodies}

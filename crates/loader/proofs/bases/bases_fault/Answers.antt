@@ -1,6 +1,5 @@
 -- `loader::bases::bases_fault` meets its contract: the entries that are left decide. Assumes nothing.
-use Rattle.std.proofs.Common.{◌≡◌, ◌-◌, ◌≤◌, arith, rules}
-use Rattle.loader.specs.Bases.{bases_from, bases_fault}
+use Rattle.std.proofs.Common.{arith}
 use Rattle.loader.proofs.Entries.{header_long, entry_small, count_bad, count_good, entries_bad, entries_on}
 use Rattle.loader.proofs.Entries.{entries_end}
 use Rattle.loader.proofs.bases.bases_fault.Goals as goal

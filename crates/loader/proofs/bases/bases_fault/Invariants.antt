@@ -1,7 +1,5 @@
-use Rattle.std.proofs.Common.{◌≡◌, ◌-◌, ◌≤◌, arith, rules}
+use Rattle.std.proofs.Common.{◌≡◌, ◌-◌, ◌≤◌}
 use Rattle.loader.specs.Bases.{bases_from, bases_fault}
-use Rattle.loader.proofs.Entries.{header_long, entry_small, count_bad, count_good, entries_bad, entries_on}
-use Rattle.loader.proofs.Entries.{entries_end}
 use Rattle.loader.proofs.bases.bases_fault.Given as goal
 
 abbrev pub invariant-loop-i : goal.invariant-loop-i

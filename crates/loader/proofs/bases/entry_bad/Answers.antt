@@ -1,6 +1,5 @@
 -- `loader::bases::entry_bad` meets its contract. Assumes nothing.
 use Rattle.loader.proofs.Entries.{entry_odd, entry_high, entry_low}
-use Rattle.std.proofs.Common.{rules}
 use Rattle.loader.proofs.bases.entry_bad.Goals as goal
 
 pub returns-then-bases-i-ne0 : goal.returns-then-bases-i-ne0

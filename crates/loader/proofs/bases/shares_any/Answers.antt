@@ -1,6 +1,5 @@
 -- `loader::bases::shares_any` meets its contract: the hunks that are left decide. Assumes nothing.
-use Rattle.std.proofs.Common.{◌≡◌, ◌-◌, ◌≤◌, refl, arith, rules}
-use Rattle.loader.specs.Bases.{shares}
+use Rattle.std.proofs.Common.{◌-◌, refl, arith}
 use Rattle.loader.proofs.Entries.{shares_yes, shares_no, shares_none}
 use Rattle.loader.proofs.bases.shares_any.Goals as goal
 

@@ -1,6 +1,5 @@
-use Rattle.std.proofs.Common.{◌≡◌, ◌-◌, ◌≤◌, refl, arith, rules}
+use Rattle.std.proofs.Common.{◌≡◌, ◌≤◌}
 use Rattle.loader.specs.Bases.{shares}
-use Rattle.loader.proofs.Entries.{shares_yes, shares_no, shares_none}
 use Rattle.loader.proofs.bases.shares_any.Given as goal
 
 abbrev pub invariant-loop-j : goal.invariant-loop-j

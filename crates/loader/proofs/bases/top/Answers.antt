@@ -1,5 +1,5 @@
 -- `loader::bases::top` meets its contract. Assumes nothing.
-use Rattle.std.proofs.Common.{arith, rules}
+use Rattle.std.proofs.Common.{arith}
 use Rattle.loader.proofs.bases.top.Goals as goal
 
 pub overflow_cast-result : goal.overflow_cast-result

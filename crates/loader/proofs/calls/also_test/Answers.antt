@@ -1,6 +1,5 @@
 -- `loader::calls::also_test` meets its contract. Assumes nothing.
 use Rattle.loader.proofs.Answering.{also_failed}
-use Rattle.std.proofs.Common.{rules}
 use Rattle.loader.proofs.calls.also_test.Goals as goal
 
 pub returns : goal.returns

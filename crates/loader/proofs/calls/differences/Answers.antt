@@ -1,6 +1,6 @@
 -- `loader::calls::differences` meets its contract. Assumes nothing.
-use Rattle.std.proofs.Common.{◌-◌, length, arith, rules}
-use Rattle.loader.proofs.Copies.{Differs, differ_start, differ_old, differ_room, differ_turn, differ_all}
+use Rattle.std.proofs.Common.{arith}
+use Rattle.loader.proofs.Copies.{differ_start, differ_old, differ_room, differ_turn, differ_all}
 use Rattle.loader.proofs.calls.differences.Goals as goal
 
 pub loop-i-init : goal.loop-i-init

@@ -1,5 +1,5 @@
-use Rattle.std.proofs.Common.{◌-◌, length, arith, rules}
-use Rattle.loader.proofs.Copies.{Differs, differ_start, differ_old, differ_room, differ_turn, differ_all}
+use Rattle.std.proofs.Common.{◌-◌, length}
+use Rattle.loader.proofs.Copies.{Differs}
 use Rattle.loader.proofs.calls.differences.Given as goal
 
 abbrev pub invariant-loop-i : goal.invariant-loop-i

@@ -1,6 +1,5 @@
 -- `loader::calls::fill` meets its contract. Assumes nothing.
 use Rattle.loader.proofs.Answering.{fill_from, fill_cut, fill_to, fill_done}
-use Rattle.std.proofs.Common.{rules}
 use Rattle.loader.proofs.calls.fill.Goals as goal
 
 pub slice_bounds-numbers-end : goal.slice_bounds-numbers-end

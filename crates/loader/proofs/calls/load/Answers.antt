@@ -1,6 +1,5 @@
 -- `loader::calls::load` meets its contract. Assumes nothing.
 use Rattle.loader.proofs.Calling.{load_fills, load_returns}
-use Rattle.std.proofs.Common.{rules}
 use Rattle.loader.proofs.calls.load.Goals as goal
 
 pub fill-requires : goal.fill-requires

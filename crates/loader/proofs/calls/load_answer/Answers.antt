@@ -1,5 +1,5 @@
 -- `loader::calls::load_answer` meets its contract. Assumes nothing.
-use Rattle.std.proofs.Common.{arith, rules}
+use Rattle.std.proofs.Common.{arith}
 use Rattle.loader.proofs.Answering.{checked_header, also_checked, load_refused, load_last}
 use Rattle.loader.proofs.calls.load_answer.Goals as goal
 

@@ -1,7 +1,6 @@
 -- `loader::calls::load_verdict` meets its contract. Assumes nothing.
 use Rattle.loader.proofs.Zeros.{all_zeros}
 use Rattle.loader.proofs.Calling.{load_cleanly}
-use Rattle.std.proofs.Common.{rules}
 use Rattle.loader.proofs.calls.load_verdict.Goals as goal
 
 pub load_answer-requires : goal.load_answer-requires

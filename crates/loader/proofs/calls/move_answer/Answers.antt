@@ -1,5 +1,5 @@
 -- `loader::calls::move_answer` meets its contract. Assumes nothing.
-use Rattle.std.proofs.Common.{arith, rules}
+use Rattle.std.proofs.Common.{arith}
 use Rattle.loader.proofs.Answering.{checked_header, checked_long, checked_few, also_twice, move_refused}
 use Rattle.loader.proofs.Answering.{move_last}
 use Rattle.loader.proofs.calls.move_answer.Goals as goal

@@ -1,6 +1,5 @@
 -- `loader::calls::move_program` meets its contract. Assumes nothing.
 use Rattle.loader.proofs.Calling.{move_fills, move_returns}
-use Rattle.std.proofs.Common.{rules}
 use Rattle.loader.proofs.calls.move_program.Goals as goal
 
 pub fill-requires : goal.fill-requires

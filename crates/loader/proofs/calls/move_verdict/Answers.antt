@@ -1,7 +1,6 @@
 -- `loader::calls::move_verdict` meets its contract. Assumes nothing.
 use Rattle.loader.proofs.Zeros.{all_zeros}
 use Rattle.loader.proofs.Calling.{move_cleanly}
-use Rattle.std.proofs.Common.{rules}
 use Rattle.loader.proofs.calls.move_verdict.Goals as goal
 
 pub move_answer-requires : goal.move_answer-requires

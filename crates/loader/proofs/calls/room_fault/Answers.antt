@@ -1,6 +1,5 @@
 -- `loader::calls::room_fault` meets its contract. Assumes nothing.
 use Rattle.answers.proofs.Tests.{choices}
-use Rattle.std.proofs.Common.{rules}
 use Rattle.loader.proofs.calls.room_fault.Goals as goal
 
 pub returns-then-memory-n : goal.returns-then-memory-n

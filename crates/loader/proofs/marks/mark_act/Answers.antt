@@ -1,7 +1,6 @@
 -- `loader::marks::mark_act` meets its contract. Assumes nothing.
 use Rattle.loader.proofs.Acts.{add_room}
 use Rattle.loader.proofs.Marking.{mark_rest, mark_met, mark_new}
-use Rattle.std.proofs.Common.{rules}
 use Rattle.loader.proofs.marks.mark_act.Goals as goal
 
 pub returns-in_default : goal.returns-in_default

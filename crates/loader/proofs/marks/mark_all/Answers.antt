@@ -1,8 +1,7 @@
 -- `loader::marks::mark_all` meets its contract: the marks are those of the targets seen. Assumes nothing.
-use Rattle.std.proofs.Common.{◌-◌, length, rules}
 use Rattle.program.proofs.Runs.{turn_less, turn_aligned, turn_fits}
 use Rattle.loader.proofs.Acts.{cursor_low}
-use Rattle.loader.proofs.Marking.{Clashes, clash_start, mark_long, mark_fits, clash_bad, clash_met, clash_turn}
+use Rattle.loader.proofs.Marking.{clash_start, mark_long, mark_fits, clash_bad, clash_met, clash_turn}
 use Rattle.loader.proofs.Marking.{clash_end}
 use Rattle.loader.proofs.marks.mark_all.Goals as goal
 

@@ -1,6 +1,5 @@
 -- `loader::marks::near_fault` meets its contract: what is marked is cleared. Assumes nothing.
 use Rattle.loader.proofs.Zeros.{front_zero, front_long, front_room, cleared}
-use Rattle.std.proofs.Common.{rules}
 use Rattle.loader.proofs.marks.near_fault.Goals as goal
 
 pub slice_bounds-mark_all-end-2 : goal.slice_bounds-mark_all-end-2

@@ -1,6 +1,5 @@
 -- `loader::memory::add_act` meets its contract. Assumes nothing.
 use Rattle.loader.proofs.Acts.{add_room, add_named, add_done, add_rest}
-use Rattle.std.proofs.Common.{rules}
 use Rattle.loader.proofs.memory.add_act.Goals as goal
 
 pub add_amount-requires : goal.add_amount-requires

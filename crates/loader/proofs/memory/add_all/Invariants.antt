@@ -1,8 +1,6 @@
-use Rattle.std.proofs.Common.{◌-◌, length, rules}
-use Rattle.program.proofs.Passes.{Passing, passing_start, passing_fits, passing_bad, passing_end}
-use Rattle.program.proofs.Runs.{turn_less, turn_aligned, passing_turn}
+use Rattle.std.proofs.Common.{◌-◌, length}
+use Rattle.program.proofs.Passes.{Passing}
 use Rattle.loader.specs.Memory.{shift_one, amount_of}
-use Rattle.loader.proofs.Acts.{quiet_shift, act_room, cursor_low, length_shift_one, shift_pass}
 use Rattle.loader.proofs.memory.add_all.Given as goal
 
 abbrev pub invariant-loop-at : goal.invariant-loop-at

@@ -1,8 +1,7 @@
 -- `loader::memory::store_all` meets its contract: a pass that stores. Assumes nothing.
-use Rattle.std.proofs.Common.{◌-◌, length, rules}
 use Rattle.program.proofs.Passes.{passing_fits, passing_bad, passing_end, passing_room}
 use Rattle.program.proofs.Runs.{turn_aligned}
-use Rattle.loader.proofs.StoredRuns.{StoringAll, all_start, all_within, all_turn, store_less}
+use Rattle.loader.proofs.StoredRuns.{all_start, all_within, all_turn, store_less}
 use Rattle.loader.proofs.memory.store_all.Goals as goal
 
 pub loop-at-init : goal.loop-at-init

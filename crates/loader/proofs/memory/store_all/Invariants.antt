@@ -1,7 +1,5 @@
-use Rattle.std.proofs.Common.{◌-◌, length, rules}
-use Rattle.program.proofs.Passes.{passing_fits, passing_bad, passing_end, passing_room}
-use Rattle.program.proofs.Runs.{turn_aligned}
-use Rattle.loader.proofs.StoredRuns.{StoringAll, all_start, all_within, all_turn, store_less}
+use Rattle.std.proofs.Common.{◌-◌, length}
+use Rattle.loader.proofs.StoredRuns.{StoringAll}
 use Rattle.loader.proofs.memory.store_all.Given as goal
 
 abbrev pub invariant-loop-at : goal.invariant-loop-at

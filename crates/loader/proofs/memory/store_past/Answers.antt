@@ -1,7 +1,6 @@
 -- `loader::memory::store_past` meets its contract. Assumes nothing.
 use Rattle.program.proofs.Runs.{stored_left}
 use Rattle.loader.proofs.StoredRuns.{past_rest, run_from, run_to, run_past}
-use Rattle.std.proofs.Common.{rules}
 use Rattle.loader.proofs.memory.store_past.Goals as goal
 
 pub returns-in_default : goal.returns-in_default

@@ -1,6 +1,6 @@
 -- `loader::memory::store_run` meets its contract. Assumes nothing.
-use Rattle.std.proofs.Common.{◌-◌, rules}
-use Rattle.loader.proofs.StoredRuns.{Storing, storing_start, storing_room, storing_on, storing_end}
+use Rattle.std.proofs.Common.{rules}
+use Rattle.loader.proofs.StoredRuns.{storing_start, storing_room, storing_on, storing_end}
 use Rattle.loader.proofs.memory.store_run.Goals as goal
 
 pub loop-i-init : goal.loop-i-init

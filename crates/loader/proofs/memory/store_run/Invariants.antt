@@ -1,5 +1,5 @@
-use Rattle.std.proofs.Common.{◌-◌, rules}
-use Rattle.loader.proofs.StoredRuns.{Storing, storing_start, storing_room, storing_on, storing_end}
+use Rattle.std.proofs.Common.{◌-◌}
+use Rattle.loader.proofs.StoredRuns.{Storing}
 use Rattle.loader.proofs.memory.store_run.Given as goal
 
 abbrev pub invariant-loop-i : goal.invariant-loop-i

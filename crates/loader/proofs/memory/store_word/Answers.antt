@@ -1,5 +1,4 @@
 -- `loader::memory::store_word` meets its contract. Assumes nothing.
-use Rattle.std.proofs.Common.{rules}
 use Rattle.loader.proofs.memory.store_word.Goals as goal
 
 pub returns : goal.returns

@@ -1,6 +1,5 @@
 -- `loader::table::put_numbers` meets its contract. Assumes nothing.
-use Rattle.std.proofs.Common.{◌-◌, length, rules}
-use Rattle.loader.proofs.Copies.{Puts, put_start, put_length, put_all, put_room, put_turn}
+use Rattle.loader.proofs.Copies.{put_start, put_length, put_all, put_room, put_turn}
 use Rattle.loader.proofs.table.put_numbers.Goals as goal
 
 pub loop-i-init : goal.loop-i-init

@@ -1,5 +1,5 @@
-use Rattle.std.proofs.Common.{◌-◌, length, rules}
-use Rattle.loader.proofs.Copies.{Puts, put_start, put_length, put_all, put_room, put_turn}
+use Rattle.std.proofs.Common.{◌-◌, length}
+use Rattle.loader.proofs.Copies.{Puts}
 use Rattle.loader.proofs.table.put_numbers.Given as goal
 
 abbrev pub invariant-loop-i : goal.invariant-loop-i

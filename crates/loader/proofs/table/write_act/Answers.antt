@@ -1,6 +1,5 @@
 -- `loader::table::write_act` meets its contract. Assumes nothing.
 use Rattle.loader.proofs.Acts.{place_fits, space_there, base_there, record_there, record_done, record_rest}
-use Rattle.std.proofs.Common.{rules}
 use Rattle.loader.proofs.table.write_act.Goals as goal
 
 pub overflow_cast-record : goal.overflow_cast-record

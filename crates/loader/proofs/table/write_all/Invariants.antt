@@ -1,8 +1,6 @@
-use Rattle.std.proofs.Common.{◌-◌, length, rules}
-use Rattle.program.proofs.Passes.{Passing, passing_start, passing_fits, passing_bad, passing_end, passing_room}
-use Rattle.program.proofs.Runs.{turn_less, turn_aligned, passing_turn}
+use Rattle.std.proofs.Common.{◌-◌, length}
+use Rattle.program.proofs.Passes.{Passing}
 use Rattle.loader.specs.Table.{record_one}
-use Rattle.loader.proofs.Acts.{quiet_record, record_fits, cursor_low, length_record_one}
 use Rattle.loader.proofs.table.write_all.Given as goal
 
 abbrev pub invariant-loop-at : goal.invariant-loop-at
