@@ -9,18 +9,24 @@ fn var(name: &str) -> String {
 }
 
 fn made(top: &Path) -> PathBuf {
-    let (target, host) = (var("CARGO_CFG_TARGET_ARCH"), var("HOST"));
+    let target = var("CARGO_CFG_TARGET_ARCH");
     assert!(
-        host.starts_with(&target),
-        "make-archive makes no archive for {target} on {host}: set JUFFERDEEG_ARCHIVE"
+        ["x86_64", "aarch64"].contains(&&target[..]),
+        "make-archive makes no archive for {target}: set JUFFERDEEG_ARCHIVE"
     );
-    for source in ["crates", "crates.txt", "make-archive"] {
+    for source in ["crates.txt", "make-archive"] {
         println!("cargo:rerun-if-changed={}", top.join(source).display());
+    }
+    // the sources of the crates, and not what rt makes beside them
+    let crates = fs::read_dir(top.join("crates")).expect("the folder of the crates").flatten();
+    let parts = crates.flat_map(|of| ["src", "specs", "proofs"].map(|part| of.path().join(part)));
+    for part in parts.filter(|part| part.exists()) {
+        println!("cargo:rerun-if-changed={}", part.display());
     }
     let script = top.join("make-archive");
     let status = Command::new(&script).status().unwrap_or_else(|e| panic!("{}: {e}", script.display()));
     assert!(status.success(), "{} has failed", script.display());
-    top.join("target/native/libjufferdeeg.a")
+    top.join("target").join(target).join("libjufferdeeg.a")
 }
 
 fn main() {
