@@ -9,7 +9,6 @@ use std::io::{BufWriter, Write};
 use std::path::{Path, PathBuf};
 use std::process::{Command, Stdio};
 use std::sync::atomic::{AtomicU32, Ordering};
-use std::sync::OnceLock;
 
 /// The checksum by which the instrument shows the contents of an area.
 pub fn checksum(bytes: &[u8]) -> u32 {
@@ -17,38 +16,14 @@ pub fn checksum(bytes: &[u8]) -> u32 {
     h as u32
 }
 
-/// The folder of the Rattle kit: two above the page that `rt doc` names. It is asked for once.
-fn kit() -> &'static Path {
-    static KIT: OnceLock<PathBuf> = OnceLock::new();
-    KIT.get_or_init(|| {
-        let said = Command::new("rt").arg("doc").output().expect("rt is on the PATH");
-        let page = String::from_utf8(said.stdout).expect("rt doc prints a path");
-        let folder = Path::new(page.trim()).ancestors().nth(2);
-        folder.expect("the page lies in a folder of the kit").to_path_buf()
-    })
-}
-
-/// The command that runs the repository's program `target/bin/NAME`.
-///
-/// Such a program is made for x86-64 and needs the kit's loader and C library. Where the kit brings an emulator
-/// for this machine, the loader runs under that.
+/// The command that runs the repository's program NAME, which `rt` leaves in `crates/NAME/out`. It is for x86-64 and
+/// takes the loader and the C library of the machine.
 pub fn rattle(name: &str) -> Command {
     let repository = Path::new(env!("CARGO_MANIFEST_DIR")).parent();
-    let program = repository.expect("this package lies in a repository").join("target/bin").join(name);
-    assert!(program.is_file(), "{} is not there; `rt check` builds it", program.display());
-    let tools = kit().join("on").join(std::env::consts::ARCH).join("toolchain");
-    let libraries = tools.join("lib");
-    let loader = libraries.join("ld-linux-x86-64.so.2");
-    let emulator = tools.join("bin/qemu-x86_64");
-    let mut command = if emulator.is_file() {
-        let mut command = Command::new(emulator);
-        command.arg(loader);
-        command
-    } else {
-        Command::new(loader)
-    };
-    command.arg("--library-path").arg(libraries).arg(program);
-    command
+    let crates = repository.expect("this package lies in a repository").join("crates");
+    let program = crates.join(name).join("out").join(name);
+    assert!(program.is_file(), "{} is not there; `rt ci` builds it", program.display());
+    Command::new(program)
 }
 
 /// A request: its number and its body.

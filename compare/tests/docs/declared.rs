@@ -29,15 +29,15 @@ impl Declared {
     }
 }
 
-/// Whether this can be a name: letters, digits, hyphens and underscores, and a letter first.
+/// Whether this can be a name: letters, digits and underscores, and a letter first.
 pub fn is_name(word: &str) -> bool {
-    let inner = |c: char| c.is_ascii_alphanumeric() || c == '-' || c == '_';
+    let inner = |c: char| c.is_ascii_alphanumeric() || c == '_';
     word.starts_with(|c: char| c.is_ascii_alphabetic()) && word.chars().all(inner)
 }
 
 /// The name with which this text begins.
 fn leading(text: &str) -> Option<&str> {
-    let end = text.find(|c: char| !c.is_ascii_alphanumeric() && c != '-' && c != '_').unwrap_or(text.len());
+    let end = text.find(|c: char| !c.is_ascii_alphanumeric() && c != '_').unwrap_or(text.len());
     Some(&text[..end]).filter(|name| is_name(name))
 }
 
@@ -161,7 +161,7 @@ lemma : A
 abbrev pub f : A
 f x = y
 module _ (x : A) where
-  pub a-b : B
+  pub a_b : B
   pub record R : Type 0 where
     pub part : C
 
@@ -169,7 +169,7 @@ module _ (x : A) where
   pub g : D
 data T where
   one : T
-pub use M.N.{Placed, _&_}
+pub use M.N.{Placed, ◌&◌}
 pub h : E
 ";
 
@@ -201,7 +201,7 @@ fn g(
     fn what_specs_declare() {
         assert_eq!(
             names("M.antt", SPECS),
-            ["f", "a-b", "R", "R.part", "R.in_it", "g", "T", "T.one", "Placed", "h"]
+            ["f", "a_b", "R", "R.part", "R.in_it", "g", "T", "T.one", "Placed", "h"]
         );
         let private: Vec<_> = declared_in("M.antt", SPECS).into_iter().filter(|one| !one.public).collect();
         assert_eq!(private.iter().map(|one| &one.name[..]).collect::<Vec<_>>(), ["lemma"]);

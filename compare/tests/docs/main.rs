@@ -87,7 +87,9 @@ fn theorems_stand_in_the_files_that_the_tables_say() {
     let (mut held, mut missing) = (0, Vec::new());
     for row in rows(&page(CONTRACTS)) {
         let (Some(place), Some(theorems)) = (row.cell("crate, file"), row.cell("theorem")) else { continue };
-        let named = spans_in(theorems).into_iter().filter(|name| name.trim_start_matches('-').contains('-'));
+        let is_theorem = |name: &String| library().is_theorem(name) || library().is_proved(name);
+        let named = spans_in(theorems).into_iter().filter(|name| name.trim_start_matches('_').contains('_'));
+        let named = named.filter(is_theorem);
         for theorem in named {
             held += 1;
             if !stands_there(&theorem, place) {
@@ -101,17 +103,18 @@ fn theorems_stand_in_the_files_that_the_tables_say() {
 
 #[test]
 fn theorems_stand_somewhere() {
-    assert!(stands_there("accepted-exactly", "`audit`, `Accepting`; `walk`, `Broken`"));
-    assert!(stands_there("accepted-exactly", "`Accepting` of each crate"));
-    assert!(!stands_there("accepted-exactly", "`audit`, `Refusing`"));
-    assert!(!stands_there("accepted-exactly", "`walk`, `Accepting`"));
-    assert!(!stands_there("never-accepted", "`audit`, `Accepting`"));
+    assert!(stands_there("accepted_exactly", "`audit`, `Accepting`; `walk`, `Broken`"));
+    assert!(stands_there("accepted_exactly", "`Accepting` of each crate"));
+    assert!(!stands_there("accepted_exactly", "`audit`, `Refusing`"));
+    assert!(!stands_there("accepted_exactly", "`walk`, `Accepting`"));
+    assert!(!stands_there("never_accepted", "`audit`, `Accepting`"));
 }
 
 /// The public functions of a file that have a `requires`. A function's head ends with a line that is just `{`.
 fn asking_in(code: &str) -> Vec<String> {
     let heads = code.split("pub fn ").skip(1).filter_map(|rest| Some(&rest[..rest.find("{\n")?]));
-    let asks = heads.filter(|head| head.contains("\n    requires {") || head.contains("\n        requires {"));
+    // a clause may have a name, or a star
+    let asks = heads.filter(|head| head.lines().any(|line| line.trim_start().starts_with("requires")));
     asks.filter_map(|head| Some(head[..head.find('(')?].to_string())).collect()
 }
 
@@ -138,7 +141,7 @@ fn what_asks_is_listed() {
 
 #[test]
 fn a_requires_is_seen() {
-    let asks = "pub fn a(n: u32)\n    requires { n }\n    ensures { n }\n{\n}\n";
+    let asks = "pub fn a(n: u32)\n    requires low { n }\n    ensures { n }\n{\n}\n";
     let hidden = "pub(crate) fn b()\n    requires { n }\n{\n}\n";
     let plain = "// pub\npub fn c()\n{\n}\n";
     assert_eq!(asking_in(&[asks, hidden, plain].join("\n")), ["a"]);
@@ -216,11 +219,11 @@ fn names_of_each_kind_are_found() {
         (Kind::Crate, "the crate `words`"),
         (Kind::Module, "`Accepting`"),
         (Kind::Module, "`Sizes.*`"),
-        (Kind::Member, "`Accepting.accepted-exactly`"),
+        (Kind::Member, "`Accepting.accepted_exactly`"),
         (Kind::Member, "`Disk.blocks`"),
         (Kind::Item, "`audit::audit::audit(image, claim)`"),
         (Kind::Item, "`Block::NEXT`"),
-        (Kind::Word, "`accepted-exactly` in `crates/audit/proofs/Accepting.antt`"),
+        (Kind::Word, "`accepted_exactly` in `crates/audit/proofs/Accepting.antt`"),
         (Kind::Word, "`Audits floppy`"),
         (Kind::Word, "`put_word`"),
     ] {
@@ -239,14 +242,14 @@ fn names_of_nothing_are_missing() {
         "the crate `nothing`",
         "## `nothing`",
         "`NoSuchModule.*`",
-        "`NoSuchModule.accepted-exactly`",
-        "`Accepting.never-accepted`",
+        "`NoSuchModule.accepted_exactly`",
+        "`Accepting.never_accepted`",
         "`Disk.nothing`",
         "`audit::audit::nothing`",
         "`Block::NOTHING`",
         "`Volume` of `words`",
-        "`accepted-exactly` in `crates/audit/proofs/Refusing.antt`",
-        "`never-accepted`",
+        "`accepted_exactly` in `crates/audit/proofs/Refusing.antt`",
+        "`never_accepted`",
         "`noSuchOf floppy`",
         "`no_such_function`",
         "`NoSuchType`",
@@ -260,7 +263,7 @@ fn names_of_nothing_are_missing() {
 fn a_section_is_about_its_crate() {
     let under = |of: &str, text: &str| library().find(&spans_of(CONTRACTS, &format!("## `{of}`\n{text}"))[1]);
     let functions = ["`audit::audit_on`", "`directories::walk_entry`"];
-    let others = ["`Bits.antt`", "`specs/Bits.antt`", "`Accepting.accepted-exactly`", "`one_report`"];
+    let others = ["`Bits.antt`", "`specs/Bits.antt`", "`Accepting.accepted_exactly`", "`one_report`"];
     for text in functions.into_iter().chain(others) {
         assert!(matches!(under("audit", text), Found::As(_)), "{text}");
         assert_eq!(under("words", text), Found::Missing, "{text}");
@@ -271,8 +274,8 @@ fn a_section_is_about_its_crate() {
 #[test]
 fn what_is_no_name_is_not_looked_up() {
     let numbers_and_signs = ["`42`", "`x`", "`..`", "`/`", "`-`", "`2 ^ 32`", "`--gate`"];
-    let expressions = ["`rt dev words`", "`&mut [Hunk]`", "`let x = y`"];
-    let of_others = ["`target/fuzz`", "`io::count`", "`usize`"];
+    let expressions = ["`rt check words`", "`&mut [Hunk]`", "`let x = y`"];
+    let of_others = ["`target/fuzz`", "`std::fs`", "`usize`"];
     for text in [&numbers_and_signs[..], &expressions, &of_others].concat() {
         assert_eq!(found(text), Found::Nothing, "{text}");
     }
@@ -280,7 +283,7 @@ fn what_is_no_name_is_not_looked_up() {
 
 #[test]
 fn an_ending_goes_with_the_name_before_it() {
-    let spans = spans_of(CONTRACTS, "`Refusing.refused-1`, `-2` and `-99`");
+    let spans = spans_of(CONTRACTS, "`Refusing.refused_1`, `_2` and `_99`");
     let found: Vec<_> = spans.iter().map(|span| library().find(span)).collect();
     assert_eq!(found, [Found::As(Kind::Member), Found::As(Kind::Word), Found::Missing]);
 }
@@ -290,11 +293,11 @@ fn an_ending_goes_with_the_name_before_it() {
 fn a_list_is_of_one_module() {
     let last = |text: &str| library().find(spans_of(CONTRACTS, text).last().expect("a span"));
     assert_eq!(
-        last("`Accepting.accepted-exactly`, `accepted-report` and `refused-claims`"),
+        last("`Accepting.accepted_exactly`, `accepted_report` and `refused_claims`"),
         Found::As(Kind::Member)
     );
-    assert_eq!(last("`Refusing.refused-exactly`, `refused-1` and `refused-claims`"), Found::Missing);
-    assert_eq!(last("`Refusing.refused-exactly`; `refused-claims`"), Found::As(Kind::Word));
+    assert_eq!(last("`Refusing.refused_exactly`, `refused_1` and `refused_claims`"), Found::Missing);
+    assert_eq!(last("`Refusing.refused_exactly`; `refused_claims`"), Found::As(Kind::Word));
 }
 
 /// The longest line of code, of a comment and of a page. A row of a table may be longer.

@@ -39,7 +39,7 @@ pub enum Form<'a> {
     Member(&'a str, &'a str),
     /// `crate::module::function`, or the end of such a path.
     Item(Vec<&'a str>),
-    /// `-2`: the name before it, with this for its last part.
+    /// `_2`: the name before it, with this for its last part.
     Ending(&'a str),
     /// One name.
     Word(&'a str),
@@ -80,9 +80,9 @@ fn is_path(text: &str) -> bool {
     fits && text.contains(|c: char| c.is_ascii_alphabetic()) && (text.contains('/') || ends())
 }
 
-/// A hyphen and a number.
+/// An underscore and a number.
 fn is_ending(text: &str) -> bool {
-    text.strip_prefix('-').is_some_and(|end| !end.is_empty() && end.bytes().all(|byte| byte.is_ascii_digit()))
+    text.strip_prefix('_').is_some_and(|end| !end.is_empty() && end.bytes().all(|byte| byte.is_ascii_digit()))
 }
 
 /// The form of a span. Of a call or an expression that is the form of its first word, where that is no plain one.
@@ -147,9 +147,12 @@ impl Library {
         let paths = paths_under(&root());
         let list = text(&root().join("crates.txt"));
         let lines = list.lines().filter(|line| !line.starts_with('#'));
-        let (crates, below): (Vec<_>, Vec<_>) = lines.filter_map(|line| line.split_once(':')).unzip();
+        let (heads, below): (Vec<_>, Vec<_>) = lines.filter_map(|line| line.split_once(':')).unzip();
+        // a head may say after the name that the crate is a static library
+        let crates: Vec<_> = heads.iter().filter_map(|head| head.split_whitespace().next()).collect();
         let kit = below.iter().flat_map(|names| names.split_whitespace()).filter(|name| !crates.contains(name));
-        let kit = kit.map(String::from).collect();
+        // `std` is never listed
+        let kit = kit.chain(["std"]).map(String::from).collect();
         let declared = all_declared(&paths);
         Library { crates: crates.into_iter().map(String::from).collect(), kit, declared, paths }
     }
@@ -241,6 +244,16 @@ impl Library {
         crates.iter().any(|of| self.near(Some(of)).any(|one| here(one) && one.name == theorem))
     }
 
+    /// Whether this is the name of nothing in code or in a definition: then it is to be that of a theorem.
+    pub fn is_theorem(&self, name: &str) -> bool {
+        !self.declared.iter().any(|one| one.name == name && !one.file.contains("/proofs/"))
+    }
+
+    /// Whether a theorem has this name, whatever else has it.
+    pub fn is_proved(&self, name: &str) -> bool {
+        self.declared.iter().any(|one| one.name == name && one.public && one.file.contains("/proofs/"))
+    }
+
     /// A single name: of the crate or the file that the page says, else anything that has a name; a wrong program
     /// has to be one of the section's crate.
     fn lone(&self, name: &str, span: &Span) -> Option<Kind> {
@@ -269,8 +282,9 @@ impl Library {
             Form::Member(of, name) => self.member(of, name, within),
             Form::Item(parts) => self.item(&parts, within),
             Form::Ending(ending) => self.word(&with_ending(&span.before, ending)?, within),
-            Form::Word(name) => match module_of_list(&span.before).filter(|_| name.contains('-')) {
-                Some(of) => self.member(of, name, within),
+            Form::Word(name) => match module_of_list(&span.before).filter(|_| name.contains('_')) {
+                Some(of) if self.is_theorem(name) => self.member(of, name, within),
+                Some(of) => self.member(of, name, within).or_else(|| self.lone(name, span)),
                 None => self.lone(name, span),
             },
             Form::Other => None,
@@ -322,8 +336,8 @@ fn as_pattern(part: &str) -> String {
 /// The name at the end of what stands before, with another last part.
 fn with_ending(before: &str, ending: &str) -> Option<String> {
     let names = before.split('`').skip(1).step_by(2);
-    let name = names.filter(|name| name.contains('-') && !name.starts_with('-')).last()?;
-    let (start, _) = name.rsplit_once('-')?;
+    let name = names.filter(|name| name.contains('_') && !name.starts_with('_')).last()?;
+    let (start, _) = name.rsplit_once('_')?;
     let start = start.rsplit_once('.').map_or(start, |(_, name)| name);
     Some(format!("{start}{ending}"))
 }

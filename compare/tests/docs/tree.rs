@@ -4,7 +4,7 @@ use std::fs;
 use std::path::Path;
 
 /// Folders that are made by tools.
-const MADE: [&str; 2] = ["target", ".git"];
+const MADE: [&str; 3] = ["target", "out", ".git"];
 
 pub fn text(path: &Path) -> String {
     fs::read_to_string(path).unwrap_or_else(|e| panic!("{}: {e}", path.display()))
