@@ -5,4 +5,3 @@ pub mod Headlines
 pub mod Seen
 pub mod SeenMoving
 pub mod Spoken
-pub mod Walking

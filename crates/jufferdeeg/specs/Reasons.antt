@@ -1,12 +1,11 @@
 -- The sentence of a refusal's number as C meets it: a line of the constant `SENTENCES` of `answers::sentences`.
 use Rattle.std.specs.Prelude.{ℕ, List}
-use Rattle.answers.specs.Constants.{stored}
 use Rattle.answers.specs.Lines.{line_of, PutsLine}
-use Rattle.answers.specs.contracts.sentences.bytes.⟦let·text·SENTENCES·text·len⟧-asked.Mir.{t-1}
+use Rattle.answers.specs.declared.sentences.TheConstants.{SENTENCES}
 
 -- the bytes of the constant
 unfoldable pub sentences : List ℕ
-sentences = stored t-1
+sentences = SENTENCES
 
 -- the sentence of number n, which is empty where there is none
 abbrev pub sentence_of : ℕ → List ℕ
