@@ -2,10 +2,13 @@
 ghost use Rattle.std.specs.Prelude.{◌+◌, ◌≤◌, ◌≡◌, length};
 ghost use Rattle.console.specs.Hex.{lowest, line_of};
 
+use crate::streams::{buffer, write_all};
+use std::io::Print;
+
 // Bytes of a word's line: eight digits and the end.
 const LINE: usize = 9;
 
-// The last place in a buffer, the 4096 bytes of `io::buffer`, where a line fits.
+// The last place in a buffer, the 4096 bytes of `streams::buffer`, where a line fits.
 const LAST: usize = 4087;
 
 // The lowest digit of w.
@@ -49,27 +52,27 @@ fn put(w: u32, buffer: &mut [u8], at: usize)
 }
 
 // Where the next line goes: a buffer in which none fits is written, and begun again.
-fn next(fd: i32, buffer: &[u8], at: usize) -> usize
+fn next(to: &impl Print, buffer: &[u8], at: usize) -> usize
     requires { at ≤ length buffer.now }
     ensures { result ≤ 4087 }
 {
     if at > LAST {
-        io::write_all(fd, &buffer[..at]);
+        write_all(to, &buffer[..at]);
         return 0;
     }
     at
 }
 
 // The words that these bytes are, a line each.
-pub fn words(fd: i32, bytes: &[u8]) {
-    let mut buffer = io::buffer();
+pub fn words(to: &impl Print, bytes: &[u8]) {
+    let mut buffer = buffer();
     let mut at: usize = 0;
     let mut i: usize = 0;
     while i < bytes.len() / 4 {
-        at = next(fd, &buffer, at);
+        at = next(to, &buffer, at);
         put(words::word(bytes, 4 * i), &mut buffer, at);
         at += LINE;
         i += 1;
     }
-    io::write_all(fd, &buffer[..at]);
+    write_all(to, &buffer[..at]);
 }

@@ -1,9 +1,10 @@
-// What the programs share: texts and numbers in lines, words in hex, and rooms.
+// What the programs share: texts and numbers in lines, words in hex, rooms, and streams.
 #![tactic(auto)]
 
 pub mod hex;
 pub mod rooms;
 pub mod say;
+pub mod streams;
 
 // Whether two texts are the same.
 pub fn same(a: &[u8], b: &[u8]) -> bool {
