@@ -3,7 +3,7 @@ ghost use Rattle.std.specs.Prelude.{◌≡◌, ◌<◌, ◌≤◌};
 
 use crate::build::{IMAGE, block, fill, mend, put};
 use console::say;
-use libc::STDOUT_FILENO;
+use std::io::Print;
 use volume::disk::Disk;
 use volume::entry::entry_fault;
 use volume::file::{data_fault, file_fault, list_fault};
@@ -27,7 +27,7 @@ pub const DATA: u32 = 7;
 // of none. A list block has a number of keys still to come. Data blocks are the first and the last of a file of 489
 // bytes, the one of a file of 488, and one that the block before it does not name. On a disk of the Fast File System
 // files have 513 bytes, 36,865 and none; the data block is the last of a file of 513 bytes.
-#[derive(Drop)]
+#[derive(Clone, Copy)]
 pub enum Kind {
     Root,
     Map,
@@ -70,28 +70,28 @@ impl Kind {
     }
 
     // Begins its line.
-    pub fn say(self) {
+    pub fn say(self, rt: &impl Print) {
         match self {
-            Kind::Root => say::text(b"root"),
-            Kind::Map => say::text(b"map"),
-            Kind::Bitmap => say::text(b"bitmap"),
-            Kind::Directory => say::text(b"directory"),
-            Kind::Header => say::text(b"header"),
-            Kind::File => say::text(b"file"),
-            Kind::Long => say::text(b"long"),
-            Kind::Empty => say::text(b"empty"),
+            Kind::Root => say::text(rt, b"root"),
+            Kind::Map => say::text(rt, b"map"),
+            Kind::Bitmap => say::text(rt, b"bitmap"),
+            Kind::Directory => say::text(rt, b"directory"),
+            Kind::Header => say::text(rt, b"header"),
+            Kind::File => say::text(rt, b"file"),
+            Kind::Long => say::text(rt, b"long"),
+            Kind::Empty => say::text(rt, b"empty"),
             Kind::List(n) => {
-                say::text(b"list");
-                say::number(n);
+                say::text(rt, b"list");
+                say::number(rt, n);
             }
-            Kind::First => say::text(b"first"),
-            Kind::Last => say::text(b"last"),
-            Kind::Only => say::text(b"only"),
-            Kind::Unnamed => say::text(b"unnamed"),
-            Kind::FastFile => say::text(b"fast file"),
-            Kind::FastLong => say::text(b"fast long"),
-            Kind::FastEmpty => say::text(b"fast empty"),
-            Kind::FastData => say::text(b"fast data"),
+            Kind::First => say::text(rt, b"first"),
+            Kind::Last => say::text(rt, b"last"),
+            Kind::Only => say::text(rt, b"only"),
+            Kind::Unnamed => say::text(rt, b"unnamed"),
+            Kind::FastFile => say::text(rt, b"fast file"),
+            Kind::FastLong => say::text(rt, b"fast long"),
+            Kind::FastEmpty => say::text(rt, b"fast empty"),
+            Kind::FastData => say::text(rt, b"fast data"),
         }
     }
 
@@ -151,9 +151,9 @@ impl Kind {
     }
 
     // Ends its line with the fault.
-    fn judge(self, image: &[u8; IMAGE]) {
-        say::number(self.fault(image));
-        say::end();
+    fn judge(self, rt: &impl Print, image: &[u8; IMAGE]) {
+        say::number(rt, self.fault(image));
+        say::end(rt);
     }
 }
 
@@ -204,33 +204,33 @@ fn data_block(number: u32, held: u32, following: u32) -> [u8; IMAGE] {
 }
 
 // The line of a good block.
-pub fn good(kind: Kind) {
+pub fn good(rt: &impl Print, kind: Kind) {
     let image = kind.block();
-    kind.say();
-    kind.judge(&image);
+    kind.say(rt);
+    kind.judge(rt, &image);
 }
 
 // A changed word, in its line.
-fn say_word(w: usize, value: u32) {
-    say::numbered(STDOUT_FILENO, b" w", w as u64);
-    say::word(value);
+fn say_word(rt: &impl Print, w: usize, value: u32) {
+    say::numbered(rt, b" w", w as u64);
+    say::word(rt, value);
 }
 
 // The line of a block with one word changed.
-pub fn one(kind: Kind, w: usize, value: u32)
+pub fn one(rt: &impl Print, kind: Kind, w: usize, value: u32)
     requires { w < 128 }
 {
     let key = kind.key();
     let mut image = kind.block();
     put(&mut image, key, w, value);
     mend(&mut image, key);
-    kind.say();
-    say_word(w, value);
-    kind.judge(&image);
+    kind.say(rt);
+    say_word(rt, w, value);
+    kind.judge(rt, &image);
 }
 
 // The line of a block with two words changed.
-pub fn two(kind: Kind, w: usize, value: u32, x: usize, other: u32)
+pub fn two(rt: &impl Print, kind: Kind, w: usize, value: u32, x: usize, other: u32)
     requires { (w < 128) × (x < 128) }
 {
     let key = kind.key();
@@ -238,21 +238,21 @@ pub fn two(kind: Kind, w: usize, value: u32, x: usize, other: u32)
     put(&mut image, key, w, value);
     put(&mut image, key, x, other);
     mend(&mut image, key);
-    kind.say();
-    say_word(w, value);
-    say_word(x, other);
-    kind.judge(&image);
+    kind.say(rt);
+    say_word(rt, w, value);
+    say_word(rt, x, other);
+    kind.judge(rt, &image);
 }
 
 // The line of a block with one word changed and its sum not mended.
-pub fn unmended(kind: Kind, w: usize, value: u32)
+pub fn unmended(rt: &impl Print, kind: Kind, w: usize, value: u32)
     requires { w < 128 }
 {
     let key = kind.key();
     let mut image = kind.block();
     put(&mut image, key, w, value);
-    kind.say();
-    say::text(b" unmended");
-    say_word(w, value);
-    kind.judge(&image);
+    kind.say(rt);
+    say::text(rt, b" unmended");
+    say_word(rt, w, value);
+    kind.judge(rt, &image);
 }
