@@ -5,10 +5,10 @@
 ghost use Rattle.std.specs.Prelude.{◌≡◌, length, ◌<◌, ◌≤◌};
 
 use answers::{Fault, Refusal};
-use console::{hex, say};
-use libc::{STDIN_FILENO, STDOUT_FILENO};
+use console::{hex, say, streams};
 use loader::table::TABLE_ROOM;
 use program::check::Answer;
+use std::io::Print;
 
 // The longest file that is taken.
 const LONGEST: usize = 16384;
@@ -74,39 +74,42 @@ fn hunks(file: &[u8]) -> usize
 }
 
 // Writes why there are no words.
-fn refused(fault: Refusal) {
-    say::refusal(STDOUT_FILENO, fault);
-    say::end();
+fn refused(rt: &impl Print, fault: Refusal) {
+    say::refusal(rt, fault);
+    say::end(rt);
 }
 
 // Loads the file at these bases, and writes what comes of it.
-fn load(file: &[u8], bases: &[u32], memory: &mut [u8], work: &mut [u8]) {
+fn load(rt: &impl Print, file: &[u8], bases: &[u32], memory: &mut [u8], work: &mut [u8]) {
     let mut table = [0u32; TABLE_ROOM];
     let answer = loader::calls::load(file, bases, memory, &mut table, work);
     match answer {
-        Answer::Accepted(_, n) => hex::words(STDOUT_FILENO, &memory[..n]),
-        Answer::Refused(fault) => refused(fault),
+        Answer::Accepted(_, n) => hex::words(rt, &memory[..n]),
+        Answer::Refused(fault) => refused(rt, fault),
     }
 }
 
 // The same with areas and bases of its own.
-fn run(file: &[u8]) {
+fn run(rt: &impl Print, file: &[u8]) {
     let list = bases();
     let mut memory = area();
     let mut work = area();
     let n = hunks(file);
-    load(file, &list[..n], &mut memory, &mut work);
+    load(rt, file, &list[..n], &mut memory, &mut work);
 }
 
-fn main() {
+fn main(rt: HostRuntime) {
     let mut room = file_room();
-    let got = io::read_full(STDIN_FILENO, &mut room);
+    let got = streams::read_full(&mut rt.stdin(), &mut room);
     if got > LONGEST {
-        refused(Refusal {
-            number: Fault::SHORT_ROOM,
-            place: 0,
-        });
+        refused(
+            &rt,
+            Refusal {
+                number: Fault::SHORT_ROOM,
+                place: 0,
+            },
+        );
         return;
     }
-    run(&room[..got]);
+    run(&rt, &room[..got]);
 }

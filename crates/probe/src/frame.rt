@@ -1,9 +1,8 @@
 // The frame of a request, bodies, and the answers that every request may get.
-use console::say;
-use libc::STDIN_FILENO;
+use console::{say, streams};
 use volume::disk::Disk;
 
-// How many bytes `io::buffer` has.
+// How many bytes `streams::buffer` has.
 const PIECE: u32 = 4096;
 
 // What is kept from one request to the next: the number of blocks that calls name, the lengths of the held image and of
@@ -64,23 +63,23 @@ impl State {
     }
 
     // A bad request, whose body has been read.
-    pub fn bad(self) -> State {
-        bad_request();
+    pub fn bad(self, rt: &HostRuntime) -> State {
+        bad_request(rt);
         self
     }
 
     // The input ended inside a request.
-    pub fn broken(self) -> State {
-        bad_request();
+    pub fn broken(self, rt: &HostRuntime) -> State {
+        bad_request(rt);
         self.ended()
     }
 
     // A bad request, of whose body `length` bytes are still to be skipped.
-    pub fn refused(self, length: u32) -> State {
-        if skip(length) {
-            return self.bad();
+    pub fn refused(self, rt: &HostRuntime, length: u32) -> State {
+        if skip(rt, length) {
+            return self.bad(rt);
         }
-        self.broken()
+        self.broken(rt)
     }
 }
 
@@ -93,9 +92,9 @@ pub enum Frame {
 }
 
 // Reads up to a request's body.
-pub fn next() -> Frame {
+pub fn next(rt: &HostRuntime) -> Frame {
     let mut head = [0u8; 8];
-    let got = io::read_full(STDIN_FILENO, &mut head);
+    let got = streams::read_full(&mut rt.stdin(), &mut head);
     if got == 0 {
         return Frame::End;
     }
@@ -106,37 +105,37 @@ pub fn next() -> Frame {
 }
 
 // The answer to a request that is none.
-fn bad_request() {
-    say::text(b"bad request\n");
+fn bad_request(rt: &HostRuntime) {
+    say::text(rt, b"bad request\n");
 }
 
 // Fills `part` from the input, and answers whether the input had as much.
-pub fn fill(part: &mut [u8]) -> bool {
-    let got = io::read_full(STDIN_FILENO, part);
+pub fn fill(rt: &HostRuntime, part: &mut [u8]) -> bool {
+    let got = streams::read_full(&mut rt.stdin(), part);
     got == part.len()
 }
 
 // The same for all of a body, which is held from now on under this name: that is the answer.
-pub fn hold(name: &[u8], length: u32, part: &mut [u8]) -> bool {
-    if !fill(part) {
+pub fn hold(rt: &HostRuntime, name: &[u8], length: u32, part: &mut [u8]) -> bool {
+    if !fill(rt, part) {
         return false;
     }
-    say::text(name);
-    say::number(length);
-    say::end();
+    say::text(rt, name);
+    say::number(rt, length);
+    say::end(rt);
     true
 }
 
 // Reads `length` bytes to forget them, in pieces, and answers whether the input had as many.
-fn skip(length: u32) -> bool {
-    let mut piece = io::buffer();
+fn skip(rt: &HostRuntime, length: u32) -> bool {
+    let mut piece = streams::buffer();
     let mut left = length;
     while left >= PIECE {
-        if !fill(&mut piece) {
+        if !fill(rt, &mut piece) {
             return false;
         }
         left -= PIECE;
     }
-    let n = io::count(left as isize, &piece);
-    fill(&mut piece[..n])
+    let n = streams::count(left as isize, &piece);
+    fill(rt, &mut piece[..n])
 }

@@ -45,6 +45,7 @@ const DISK: u32 = 9;
 
 // Reads the body of a request and answers it.
 fn answer(
+    rt: &HostRuntime,
     number: u32,
     length: u32,
     state: State,
@@ -56,37 +57,38 @@ fn answer(
     work: &mut [u8],
 ) -> State {
     if number == IMAGE {
-        return image::image(length, state, image);
+        return image::image(rt, length, state, image);
     }
     if number == PATCH {
-        return image::patch(length, state, image);
+        return image::patch(rt, length, state, image);
     }
     if number == AUDIT {
-        return volumes::audit_held(length, state, image);
+        return volumes::audit_held(rt, length, state, image);
     }
     if number == FIND {
-        return volumes::find_held(length, state, image);
+        return volumes::find_held(rt, length, state, image);
     }
     if number == READ {
-        return volumes::read_held(length, state, image, output);
+        return volumes::read_held(rt, length, state, image, output);
     }
     if number == FILE {
-        return programs::file(length, state, file);
+        return programs::file(rt, length, state, file);
     }
     if number == LOAD {
-        return programs::call(false, length, state, file, memory, table, work);
+        return programs::call(rt, false, length, state, file, memory, table, work);
     }
     if number == MOVE {
-        return programs::call(true, length, state, file, memory, table, work);
+        return programs::call(rt, true, length, state, file, memory, table, work);
     }
     if number == DISK {
-        return volumes::disk(length, state);
+        return volumes::disk(rt, length, state);
     }
-    state.refused(length)
+    state.refused(rt, length)
 }
 
 // Takes one request, if there is another.
 fn one(
+    rt: &HostRuntime,
     state: State,
     image: &mut [u8],
     output: &mut [u8],
@@ -95,20 +97,21 @@ fn one(
     table: &mut [u32],
     work: &mut [u8],
 ) -> State {
-    let next = frame::next();
+    let next = frame::next(rt);
     match next {
         Frame::Request(number, length) => {
             answer(
-                number, length, state, image, output, file, memory, table, work,
+                rt, number, length, state, image, output, file, memory, table, work,
             )
         }
-        Frame::Broken => state.broken(),
+        Frame::Broken => state.broken(rt),
         Frame::End => state.ended(),
     }
 }
 
 // Takes one request after the other.
 fn all(
+    rt: &HostRuntime,
     image: &mut [u8],
     output: &mut [u8],
     file: &mut [u8],
@@ -119,7 +122,7 @@ fn all(
     let mut state = frame::start();
     let mut turns = u64::MAX;
     while turns > 0 && state.more {
-        state = one(state, image, output, file, memory, table, work);
+        state = one(rt, state, image, output, file, memory, table, work);
         turns -= 1;
     }
 }
@@ -138,7 +141,7 @@ fn area_room() -> [u8; AREA_ROOM]
     [0; AREA_ROOM]
 }
 
-fn main() {
+fn main(rt: HostRuntime) {
     let mut image = rooms::image();
     let mut output = file_room();
     let mut file = file_room();
@@ -146,6 +149,7 @@ fn main() {
     let mut work = area_room();
     let mut table = [0u32; TABLE_NUMBERS];
     all(
+        &rt,
         &mut image,
         &mut output,
         &mut file,

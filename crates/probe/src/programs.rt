@@ -2,7 +2,7 @@
 use crate::checksum::{fill_bytes, fill_numbers, of_bytes, of_numbers};
 use crate::frame::{State, fill, hold};
 use crate::line::{say_area, say_pair};
-use console::say;
+use console::{say, streams};
 use loader::table::RECORD_LENGTH;
 use program::check::Answer;
 
@@ -23,40 +23,55 @@ const TABLE: u32 = 0x55555555;
 const WORK: u8 = 0xAA;
 
 // Request 6: the body becomes the held file. It is read straight into the file's room.
-pub fn file(length: u32, state: State, room: &mut [u8]) -> State {
-    let n = io::count(length as isize, room);
+pub fn file(rt: &HostRuntime, length: u32, state: State, room: &mut [u8]) -> State {
+    let n = streams::count(length as isize, room);
     if n as u64 != length as u64 {
-        return state.refused(length);
+        return state.refused(rt, length);
     }
-    if hold(b"file", length, &mut room[..n]) {
+    if hold(rt, b"file", length, &mut room[..n]) {
         return state.with_file(length);
     }
-    state.broken()
+    state.broken(rt)
 }
 
 // The line for a call that was made with these areas.
-fn say_call(verb: &[u8], answer: Answer, memory: &[u8], table: &[u32], work: &[u8]) {
+fn say_call(
+    rt: &HostRuntime,
+    verb: &[u8],
+    answer: Answer,
+    memory: &[u8],
+    table: &[u32],
+    work: &[u8],
+) {
     match answer {
-        Answer::Accepted(hunks, bytes) => say_pair(verb, hunks, bytes),
-        Answer::Refused(fault) => say_pair(b"refused", fault.number, fault.place),
+        Answer::Accepted(hunks, bytes) => say_pair(rt, verb, hunks, bytes),
+        Answer::Refused(fault) => say_pair(rt, b"refused", fault.number, fault.place),
     }
-    say_area(b" memory", of_bytes(memory));
-    say_area(b" table", of_numbers(table));
-    say_area(b" work", of_bytes(work));
-    say::end();
+    say_area(rt, b" memory", of_bytes(memory));
+    say_area(rt, b" table", of_numbers(table));
+    say_area(rt, b" work", of_bytes(work));
+    say::end(rt);
 }
 
 // Fills the areas, loads the file and answers.
-fn load_into(file: &[u8], bases: &[u32], memory: &mut [u8], table: &mut [u32], work: &mut [u8]) {
+fn load_into(
+    rt: &HostRuntime,
+    file: &[u8],
+    bases: &[u32],
+    memory: &mut [u8],
+    table: &mut [u32],
+    work: &mut [u8],
+) {
     fill_bytes(memory, MEMORY);
     fill_numbers(table, TABLE);
     fill_bytes(work, WORK);
     let answer = loader::calls::load(file, bases, memory, table, work);
-    say_call(b"loaded", answer, memory, table, work);
+    say_call(rt, b"loaded", answer, memory, table, work);
 }
 
 // Fills the work area, moves the program and answers.
 fn move_in(
+    rt: &HostRuntime,
     file: &[u8],
     old: &[u32],
     new: &[u32],
@@ -66,7 +81,7 @@ fn move_in(
 ) {
     fill_bytes(work, WORK);
     let answer = loader::calls::move_program(file, old, new, memory, table, work);
-    say_call(b"moved", answer, memory, table, work);
+    say_call(rt, b"moved", answer, memory, table, work);
 }
 
 // A number as a length.
@@ -81,6 +96,7 @@ fn of_records(records: u32) -> usize {
 
 // A load by so many numbers: memory length, records, work length, bases.
 fn load_by(
+    rt: &HostRuntime,
     numbers: &[u32; NUMBERS],
     count: usize,
     state: State,
@@ -90,19 +106,20 @@ fn load_by(
     work: &mut [u8],
 ) -> State {
     if count < 3 {
-        return state.bad();
+        return state.bad(rt);
     }
     if count > 3 + BASES {
-        return state.bad();
+        return state.bad(rt);
     }
     let all = &numbers[..];
-    load_into(file, &all[3..count], memory, table, work);
+    load_into(rt, file, &all[3..count], memory, table, work);
     state.with_load(numbers[0], numbers[1])
 }
 
 // A move by so many numbers: memory length, records, work length, count of old bases, old bases, new bases. Memory
 // and table are parts of those that the last load was lent.
 fn move_by(
+    rt: &HostRuntime,
     numbers: &[u32; NUMBERS],
     count: usize,
     state: State,
@@ -112,29 +129,38 @@ fn move_by(
     work: &mut [u8],
 ) -> State {
     if numbers[0] > state.memory {
-        return state.bad();
+        return state.bad(rt);
     }
     if numbers[1] > state.records {
-        return state.bad();
+        return state.bad(rt);
     }
     let old = wide(numbers[3]);
     if old > BASES {
-        return state.bad();
+        return state.bad(rt);
     }
     let new = 4 + old;
     if count < new {
-        return state.bad();
+        return state.bad(rt);
     }
     if count > new + BASES {
-        return state.bad();
+        return state.bad(rt);
     }
     let all = &numbers[..];
-    move_in(file, &all[4..new], &all[new..count], memory, table, work);
+    move_in(
+        rt,
+        file,
+        &all[4..new],
+        &all[new..count],
+        memory,
+        table,
+        work,
+    );
     state
 }
 
 // A load or a move by so many numbers.
 fn call_by(
+    rt: &HostRuntime,
     moves: bool,
     numbers: &[u32; NUMBERS],
     count: usize,
@@ -145,13 +171,14 @@ fn call_by(
     work: &mut [u8],
 ) -> State {
     if moves {
-        return move_by(numbers, count, state, file, memory, table, work);
+        return move_by(rt, numbers, count, state, file, memory, table, work);
     }
-    load_by(numbers, count, state, file, memory, table, work)
+    load_by(rt, numbers, count, state, file, memory, table, work)
 }
 
 // The same in areas of the lengths that the first three numbers say.
 fn call_within(
+    rt: &HostRuntime,
     moves: bool,
     numbers: &[u32; NUMBERS],
     count: usize,
@@ -165,15 +192,16 @@ fn call_within(
     let t = of_records(numbers[1]);
     let w = wide(numbers[2]);
     if m > memory.len() {
-        return state.bad();
+        return state.bad(rt);
     }
     if t > table.len() {
-        return state.bad();
+        return state.bad(rt);
     }
     if w > work.len() {
-        return state.bad();
+        return state.bad(rt);
     }
     call_by(
+        rt,
         moves,
         numbers,
         count,
@@ -196,6 +224,7 @@ fn numbers_of(body: &[u8; BODY], numbers: &mut [u32; NUMBERS]) {
 
 // Requests 7, a load, and 8, a move: the body is numbers.
 pub fn call(
+    rt: &HostRuntime,
     moves: bool,
     length: u32,
     state: State,
@@ -206,19 +235,20 @@ pub fn call(
 ) -> State {
     let mut body = [0u8; BODY];
     let mut numbers = [0u32; NUMBERS];
-    let n = io::count(length as isize, &body);
+    let n = streams::count(length as isize, &body);
     if n as u64 != length as u64 {
-        return state.refused(length);
+        return state.refused(rt, length);
     }
-    if !fill(&mut body[..n]) {
-        return state.broken();
+    if !fill(rt, &mut body[..n]) {
+        return state.broken(rt);
     }
     if n % 4 != 0 {
-        return state.bad();
+        return state.bad(rt);
     }
     numbers_of(&body, &mut numbers);
-    let held = io::count(state.file as isize, room);
+    let held = streams::count(state.file as isize, room);
     call_within(
+        rt,
         moves,
         &numbers,
         n / 4,
