@@ -2,6 +2,7 @@
 use crate::numbers::{Parsed, number};
 use crate::saying::wrong;
 use console::same;
+use console::streams::{argument, buffer};
 use volume::disk::Disk;
 
 // The number of blocks that calls name, and the places of the arguments: the image, or the first one; the one after it,
@@ -39,9 +40,9 @@ pub enum Asking {
 }
 
 // With the option, whose value is argument 3; a text that names no number is said.
-fn by_option() -> Asking {
-    let mut text = io::buffer();
-    let n = os::arg(3, &mut text);
+fn by_option(rt: &HostRuntime) -> Asking {
+    let mut text = buffer();
+    let n = argument(rt, 3, &mut text);
     let found = named_by(&text[..n]);
     match found {
         Parsed::Is(blocks) => Asking::Is(Asked {
@@ -52,6 +53,7 @@ fn by_option() -> Asking {
         }),
         Parsed::None => {
             wrong(
+                rt,
                 &text[..n],
                 b" is no number of blocks: name 1760, 3520 or any",
             );
@@ -61,23 +63,27 @@ fn by_option() -> Asking {
 }
 
 // Whether argument 2 is the option.
-fn has_option() -> bool {
-    let mut text = io::buffer();
-    let n = os::arg(2, &mut text);
+fn has_option(rt: &HostRuntime) -> bool {
+    let mut text = buffer();
+    let n = argument(rt, 2, &mut text);
     same(&text[..n], b"-b")
 }
 
 // What a verb is asked with so many arguments, if it has an image.
-pub fn of_image(count: usize) -> Asking {
+pub fn of_image(rt: &HostRuntime, count: usize) -> Asking {
     if count < 3 {
         return Asking::Is(plainly());
     }
-    if has_option() {
+    if has_option(rt) {
         if count < 4 {
-            wrong(b"-b", b" needs a number of blocks: name 1760, 3520 or any");
+            wrong(
+                rt,
+                b"-b",
+                b" needs a number of blocks: name 1760, 3520 or any",
+            );
             return Asking::Wrong;
         }
-        return by_option();
+        return by_option(rt);
     }
     Asking::Is(plainly())
 }

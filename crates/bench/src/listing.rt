@@ -4,43 +4,44 @@ ghost use Rattle.loader.specs.Table.{record_length};
 
 use console::hex::{digit, line, words};
 use console::say::{end, numbered, text};
-use libc::STDOUT_FILENO;
+use console::streams::write_all;
 use loader::table::RECORD_LENGTH;
 use program::header::{CHIP, FAST};
 
 // The name of a kind of memory.
-fn memory_kind(memory: u32) {
+fn memory_kind(rt: &HostRuntime, memory: u32) {
     if memory == CHIP {
-        return text(b"chip");
+        return text(rt, b"chip");
     }
     if memory == FAST {
-        return text(b"fast");
+        return text(rt, b"fast");
     }
-    text(b"any");
+    text(rt, b"any");
 }
 
 // A record of the hunk table.
-fn hunk(i: usize, kind: u32, place: u32, size: u32, base: u32, memory: u32) {
-    numbered(STDOUT_FILENO, b"hunk ", i as u64);
-    text(b": kind ");
+fn hunk(rt: &HostRuntime, i: usize, kind: u32, place: u32, size: u32, base: u32, memory: u32) {
+    numbered(rt, b"hunk ", i as u64);
+    text(rt, b": kind ");
     let three = [digit(kind / 256), digit(kind / 16), digit(kind)];
-    io::write_all(STDOUT_FILENO, &three);
-    numbered(STDOUT_FILENO, b", place ", place as u64);
-    numbered(STDOUT_FILENO, b", size ", size as u64);
+    write_all(rt, &three);
+    numbered(rt, b", place ", place as u64);
+    numbered(rt, b", size ", size as u64);
     let digits = line(base);
-    text(b", base ");
-    io::write_all(STDOUT_FILENO, &digits[..8]);
-    text(b", memory ");
-    memory_kind(memory);
-    end();
+    text(rt, b", base ");
+    write_all(rt, &digits[..8]);
+    text(rt, b", memory ");
+    memory_kind(rt, memory);
+    end(rt);
 }
 
 // The records of a table.
-fn hunks(table: &[u32]) {
+fn hunks(rt: &HostRuntime, table: &[u32]) {
     let mut i: usize = 0;
     while i < table.len() / RECORD_LENGTH {
         let at = RECORD_LENGTH * i;
         hunk(
+            rt,
             i,
             table[at],
             table[at + 1],
@@ -53,10 +54,10 @@ fn hunks(table: &[u32]) {
 }
 
 // A program of so many hunks and so many bytes.
-pub fn program(count: u32, bytes: usize, memory: &[u8], table: &[u32])
+pub fn program(rt: &HostRuntime, count: u32, bytes: usize, memory: &[u8], table: &[u32])
     requires { (bytes ≤ length memory.now) × (record_length * count ≤ length table.now) }
 {
-    words(STDOUT_FILENO, &memory[..bytes]);
+    words(rt, &memory[..bytes]);
     let numbers = RECORD_LENGTH * count as usize;
-    hunks(&table[..numbers]);
+    hunks(rt, &table[..numbers]);
 }

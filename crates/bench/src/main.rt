@@ -19,7 +19,9 @@ mod volumes;
 
 use asked::{Asked, Asking};
 use console::same;
+use console::streams::{arg_count, argument, buffer};
 use status::Outcome;
+use std::process::ExitCode;
 
 #[derive(Drop)]
 enum Verb {
@@ -66,65 +68,74 @@ fn verb_of(text: &[u8]) -> Verb {
 }
 
 // What the verb is asked with so many arguments.
-fn asked_of(verb: Verb, count: usize) -> Asking {
+fn asked_of(rt: &HostRuntime, verb: Verb, count: usize) -> Asking {
     match verb {
-        Verb::Audit => asked::of_image(count),
-        Verb::Find => asked::of_image(count),
-        Verb::Read => asked::of_image(count),
-        Verb::Reset => asked::of_image(count),
+        Verb::Audit => asked::of_image(rt, count),
+        Verb::Find => asked::of_image(rt, count),
+        Verb::Read => asked::of_image(rt, count),
+        Verb::Reset => asked::of_image(rt, count),
         _ => Asking::Is(asked::plainly()),
     }
 }
 
 // Does what the verb says with so many arguments. The rooms are made once and lent to each: for an image, a file,
 // which is no longer than the largest image, memory and the work area.
-fn act(verb: Verb, asked: Asked, count: usize) -> Outcome {
+fn act(rt: &HostRuntime, verb: Verb, asked: Asked, count: usize) -> Outcome {
     let mut image = console::rooms::image();
     let mut file = console::rooms::image();
     let mut memory = rooms::memory();
     let mut work = rooms::memory();
     match verb {
-        Verb::Audit => volumes::audit_images(asked, count, &mut image),
-        Verb::Find => volumes::find_paths(asked, count, &mut image),
-        Verb::Read => volumes::read_file(asked, count, &mut image, &mut file),
-        Verb::Load => programs::load(count, &mut file, &mut memory, &mut work),
-        Verb::Move => programs::move_program(count, &mut file, &mut memory, &mut work),
-        Verb::Reset => reset::reset(asked, count, &mut image, &mut file, &mut memory, &mut work),
-        Verb::Help => usage::say(),
-        Verb::Version => usage::version(),
+        Verb::Audit => volumes::audit_images(rt, asked, count, &mut image),
+        Verb::Find => volumes::find_paths(rt, asked, count, &mut image),
+        Verb::Read => volumes::read_file(rt, asked, count, &mut image, &mut file),
+        Verb::Load => programs::load(rt, count, &mut file, &mut memory, &mut work),
+        Verb::Move => programs::move_program(rt, count, &mut file, &mut memory, &mut work),
+        Verb::Reset => reset::reset(
+            rt,
+            asked,
+            count,
+            &mut image,
+            &mut file,
+            &mut memory,
+            &mut work,
+        ),
+        Verb::Help => usage::say(rt),
+        Verb::Version => usage::version(rt),
         Verb::Unknown => Outcome::Unasked,
     }
 }
 
 // The same for the verb that argument 1 is.
-fn run(count: usize) -> Outcome {
-    let mut text = io::buffer();
-    let n = os::arg(1, &mut text);
+fn run(rt: &HostRuntime, count: usize) -> Outcome {
+    let mut text = buffer();
+    let n = argument(rt, 1, &mut text);
     let verb = verb_of(&text[..n]);
     if let Verb::Unknown = verb {
         return saying::wrong(
+            rt,
             &text[..n],
             b" is no verb; ./bench alone says how it is used",
         );
     }
-    let asking = asked_of(verb, count);
+    let asking = asked_of(rt, verb, count);
     let Asking::Is(asked) = asking else {
         return Outcome::Unasked;
     };
-    act(verb, asked, count)
+    act(rt, verb, asked, count)
 }
 
 // The same, if there is one and all arguments fit.
-fn start(count: usize) -> Outcome {
+fn start(rt: &HostRuntime, count: usize) -> Outcome {
     if count < 2 {
-        return usage::say();
+        return usage::say(rt);
     }
-    if !arguments::all_fit(count) {
+    if !arguments::all_fit(rt, count) {
         return Outcome::Unasked;
     }
-    run(count)
+    run(rt, count)
 }
 
-fn main() {
-    status::tell(start(os::arg_count()));
+fn main(rt: HostRuntime) -> ExitCode {
+    status::tell(start(&rt, arg_count(&rt)))
 }

@@ -1,4 +1,6 @@
-// What came of a run, for the script that makes the exit status of it.
+// What came of a run, and the exit status that tells it.
+
+use std::process::ExitCode;
 
 // What came of an image, of a path, or of all of a run. Unasked: a wrong use, or something that could not be read or
 // written.
@@ -8,9 +10,6 @@ pub enum Outcome {
     Refused,
     Unasked,
 }
-
-// The descriptor that the script reads. A program that is run without one there writes to nobody.
-const STATUS_FILENO: i32 = 9;
 
 // The one of two that a script should hear of.
 pub fn worse(a: Outcome, b: Outcome) -> Outcome {
@@ -26,17 +25,11 @@ pub fn worse(a: Outcome, b: Outcome) -> Outcome {
     }
 }
 
-// Writes the exit status, a digit.
-pub fn tell(outcome: Outcome) {
+// The exit status that tells it.
+pub fn tell(outcome: Outcome) -> ExitCode {
     match outcome {
-        Outcome::Accepted => {
-            io::write_all(STATUS_FILENO, b"0");
-        }
-        Outcome::Refused => {
-            io::write_all(STATUS_FILENO, b"1");
-        }
-        Outcome::Unasked => {
-            io::write_all(STATUS_FILENO, b"2");
-        }
+        Outcome::Accepted => ExitCode::from(0),
+        Outcome::Refused => ExitCode::from(1),
+        Outcome::Unasked => ExitCode::from(2),
     }
 }

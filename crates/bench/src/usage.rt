@@ -1,16 +1,16 @@
 // How the tool is used, and its version.
 use crate::status::Outcome;
-use libc::STDOUT_FILENO;
+use console::streams::write_all;
 
 // The newest version that CHANGELOG.md names, in the line that says it.
-pub fn version() -> Outcome {
-    io::write_all(STDOUT_FILENO, b"bench 0.1.0\n");
+pub fn version(rt: &HostRuntime) -> Outcome {
+    write_all(rt, b"bench 0.1.0\n");
     Outcome::Accepted
 }
 
-pub fn say() -> Outcome {
-    io::write_all(
-        STDOUT_FILENO,
+pub fn say(rt: &HostRuntime) -> Outcome {
+    write_all(
+        rt,
         b"\
 ./bench audit IMAGE...                 is each image a volume, and what does it hold\n\
 ./bench find IMAGE PATH...             what each path leads to; its parts are split by /\n\

@@ -8,59 +8,59 @@ use crate::status::Outcome;
 use crate::{files, saying, status};
 use audit::audit::{Audited, Report};
 use console::say::numbered;
-use libc::{STDERR_FILENO, STDOUT_FILENO};
+use console::streams::{argument, buffer, write_all};
 use lookup::find::Found;
 use reading::read::Reading;
 
 // ---- the calls, and what is said of them; `who` begins the line
 
 // An accepted volume.
-fn accepted(who: &[u8], report: Report) -> Outcome {
-    io::write_all(STDOUT_FILENO, who);
-    numbered(STDOUT_FILENO, b": accepted, ", report.directories as u64);
-    numbered(STDOUT_FILENO, b" directories, ", report.files as u64);
-    numbered(STDOUT_FILENO, b" files, ", report.lists as u64);
-    numbered(STDOUT_FILENO, b" list blocks, ", report.blocks as u64);
-    numbered(STDOUT_FILENO, b" data blocks, ", report.used as u64);
-    numbered(STDOUT_FILENO, b" used, ", report.free as u64);
-    io::write_all(STDOUT_FILENO, b" free\n");
+fn accepted(rt: &HostRuntime, who: &[u8], report: Report) -> Outcome {
+    write_all(rt, who);
+    numbered(rt, b": accepted, ", report.directories as u64);
+    numbered(rt, b" directories, ", report.files as u64);
+    numbered(rt, b" files, ", report.lists as u64);
+    numbered(rt, b" list blocks, ", report.blocks as u64);
+    numbered(rt, b" data blocks, ", report.used as u64);
+    numbered(rt, b" used, ", report.free as u64);
+    write_all(rt, b" free\n");
     Outcome::Accepted
 }
 
 // Audits an image. The claim area has more bytes than there are blocks.
-pub fn audit_image(named: u32, who: &[u8], image: &[u8]) -> Outcome {
-    let mut claim = io::buffer();
+pub fn audit_image(rt: &HostRuntime, named: u32, who: &[u8], image: &[u8]) -> Outcome {
+    let mut claim = buffer();
     let answer = audit::audit::audit(named, image, &mut claim);
     match answer {
-        Audited::Accepted(report) => accepted(who, report),
-        Audited::Refused(fault) => refused(STDOUT_FILENO, who, fault, 0),
+        Audited::Accepted(report) => accepted(rt, who, report),
+        Audited::Refused(fault) => refused(rt, who, fault, 0),
     }
 }
 
-fn directory(who: &[u8], key: u32, compared: u32) -> Outcome {
-    io::write_all(STDOUT_FILENO, who);
-    numbered(STDOUT_FILENO, b": directory, key ", key as u64);
-    numbered(STDOUT_FILENO, b", compared ", compared as u64);
-    io::write_all(STDOUT_FILENO, b"\n");
+fn directory(rt: &HostRuntime, who: &[u8], key: u32, compared: u32) -> Outcome {
+    write_all(rt, who);
+    numbered(rt, b": directory, key ", key as u64);
+    numbered(rt, b", compared ", compared as u64);
+    write_all(rt, b"\n");
     Outcome::Accepted
 }
 
-fn file(who: &[u8], key: u32, size: u32, compared: u32) -> Outcome {
-    io::write_all(STDOUT_FILENO, who);
-    numbered(STDOUT_FILENO, b": file, key ", key as u64);
-    numbered(STDOUT_FILENO, b", size ", size as u64);
-    numbered(STDOUT_FILENO, b", compared ", compared as u64);
-    io::write_all(STDOUT_FILENO, b"\n");
+fn file(rt: &HostRuntime, who: &[u8], key: u32, size: u32, compared: u32) -> Outcome {
+    write_all(rt, who);
+    numbered(rt, b": file, key ", key as u64);
+    numbered(rt, b", size ", size as u64);
+    numbered(rt, b", compared ", compared as u64);
+    write_all(rt, b"\n");
     Outcome::Accepted
 }
 
 // Finds a path.
-pub fn find_path(named: u32, who: &[u8], image: &[u8], path: &[u8]) -> Outcome {
+pub fn find_path(rt: &HostRuntime, named: u32, who: &[u8], image: &[u8], path: &[u8]) -> Outcome {
     let found = lookup::find::find(named, image, path);
     match found {
-        Found::Directory(key, compared) => directory(who, key, compared),
-        Found::File(key, size, compared) => file(who, key, size, compared),
-        Found::Refused(fault) => refused(STDOUT_FILENO, who, fault, 0),
+        Found::Directory(key, compared) => directory(rt, who, key, compared),
+        Found::File(key, size, compared) => file(rt, who, key, size, compared),
+        Found::Refused(fault) => refused(rt, who, fault, 0),
     }
 }
 
@@ -107,24 +107,24 @@ impl Tally {
 }
 
 // Audits the image of this name.
-fn audit_file(named: u32, name: &[u8], room: &mut [u8]) -> Outcome {
-    let held = files::read(name, Kind::Image, room);
+fn audit_file(rt: &HostRuntime, named: u32, name: &[u8], room: &mut [u8]) -> Outcome {
+    let held = files::read(rt, name, Kind::Image, room);
     if !held.whole {
         return Outcome::Unasked;
     }
     let n = held.bytes;
-    audit_image(named, name, &room[..n])
+    audit_image(rt, named, name, &room[..n])
 }
 
 // Audits the image that argument i names.
-fn audit_argument(named: u32, i: usize, room: &mut [u8]) -> Outcome {
-    let mut name = io::buffer();
-    let n = os::arg(i, &mut name);
-    audit_file(named, &name[..n], room)
+fn audit_argument(rt: &HostRuntime, named: u32, i: usize, room: &mut [u8]) -> Outcome {
+    let mut name = buffer();
+    let n = argument(rt, i, &mut name);
+    audit_file(rt, named, &name[..n], room)
 }
 
 // Audits the images from the first argument on.
-fn audit_each(asked: Asked, count: usize, room: &mut [u8]) -> Tally {
+fn audit_each(rt: &HostRuntime, asked: Asked, count: usize, room: &mut [u8]) -> Tally {
     let mut tally = Tally {
         accepted: 0,
         refused: 0,
@@ -132,97 +132,109 @@ fn audit_each(asked: Asked, count: usize, room: &mut [u8]) -> Tally {
     };
     let mut i = asked.first;
     while i < count {
-        tally = tally.with(audit_argument(asked.named, i, room));
+        tally = tally.with(audit_argument(rt, asked.named, i, room));
         i += 1;
     }
     tally
 }
 
-fn summary(images: usize, tally: Tally) {
-    numbered(STDOUT_FILENO, b"", images as u64);
-    numbered(STDOUT_FILENO, b" images: ", tally.accepted as u64);
-    numbered(STDOUT_FILENO, b" accepted, ", tally.refused as u64);
-    numbered(STDOUT_FILENO, b" refused, ", tally.unread as u64);
-    io::write_all(STDOUT_FILENO, b" not read\n");
+fn summary(rt: &HostRuntime, images: usize, tally: Tally) {
+    numbered(rt, b"", images as u64);
+    numbered(rt, b" images: ", tally.accepted as u64);
+    numbered(rt, b" accepted, ", tally.refused as u64);
+    numbered(rt, b" refused, ", tally.unread as u64);
+    write_all(rt, b" not read\n");
 }
 
-pub fn audit_images(asked: Asked, count: usize, room: &mut [u8]) -> Outcome {
+pub fn audit_images(rt: &HostRuntime, asked: Asked, count: usize, room: &mut [u8]) -> Outcome {
     if count <= asked.first {
-        return wrong(b"audit", b" needs an IMAGE");
+        return wrong(rt, b"audit", b" needs an IMAGE");
     }
-    let tally = audit_each(asked, count, room);
+    let tally = audit_each(rt, asked, count, room);
     if count > asked.second {
-        summary(count - asked.first, tally);
+        summary(rt, count - asked.first, tally);
     }
     tally.outcome()
 }
 
 // Finds the path that argument i is.
-fn find_argument(named: u32, i: usize, image: &[u8]) -> Outcome {
-    let mut path = io::buffer();
-    let n = os::arg(i, &mut path);
+fn find_argument(rt: &HostRuntime, named: u32, i: usize, image: &[u8]) -> Outcome {
+    let mut path = buffer();
+    let n = argument(rt, i, &mut path);
     let text = &path[..n];
-    find_path(named, text, image, text)
+    find_path(rt, named, text, image, text)
 }
 
 // Finds the paths from the second argument on.
-fn find_each(asked: Asked, count: usize, image: &[u8]) -> Outcome {
+fn find_each(rt: &HostRuntime, asked: Asked, count: usize, image: &[u8]) -> Outcome {
     let mut all = Outcome::Accepted;
     let mut i = asked.second;
     while i < count {
-        all = status::worse(all, find_argument(asked.named, i, image));
+        all = status::worse(all, find_argument(rt, asked.named, i, image));
         i += 1;
     }
     all
 }
 
-pub fn find_paths(asked: Asked, count: usize, room: &mut [u8]) -> Outcome {
+pub fn find_paths(rt: &HostRuntime, asked: Asked, count: usize, room: &mut [u8]) -> Outcome {
     if count <= asked.second {
-        return wrong(b"find", b" needs an IMAGE and a PATH");
+        return wrong(rt, b"find", b" needs an IMAGE and a PATH");
     }
-    let held = files::read_argument(asked.first, Kind::Image, room);
+    let held = files::read_argument(rt, asked.first, Kind::Image, room);
     if !held.whole {
         return Outcome::Unasked;
     }
     let n = held.bytes;
-    find_each(asked, count, &room[..n])
+    find_each(rt, asked, count, &room[..n])
 }
 
 // Writes a file's bytes, and nothing else, to standard output.
-fn put_out(path: &[u8], bytes: &[u8]) -> Outcome {
-    if io::write_all(STDOUT_FILENO, bytes) {
+fn put_out(rt: &HostRuntime, path: &[u8], bytes: &[u8]) -> Outcome {
+    if write_all(rt, bytes) {
         return Outcome::Accepted;
     }
-    wrong(path, b": cannot be written to standard output")
+    wrong(rt, path, b": cannot be written to standard output")
 }
 
 // Reads a file and writes its bytes.
-fn read_path(named: u32, image: &[u8], path: &[u8], output: &mut [u8]) -> Outcome {
+fn read_path(
+    rt: &HostRuntime,
+    named: u32,
+    image: &[u8],
+    path: &[u8],
+    output: &mut [u8],
+) -> Outcome {
     let reading = reading::read::read(named, image, path, 0, output);
     match reading {
-        Reading::Bytes(n) => put_out(path, &output[..n]),
+        Reading::Bytes(n) => put_out(rt, path, &output[..n]),
         Reading::Refused(fault) => {
-            saying::begin();
-            refused(STDERR_FILENO, path, fault, 0)
+            saying::begin(rt);
+            refused(&rt.stderr(), path, fault, 0)
         }
     }
 }
 
 // The same for the path that the second argument is.
-fn read_argument(asked: Asked, image: &[u8], output: &mut [u8]) -> Outcome {
-    let mut path = io::buffer();
-    let n = os::arg(asked.second, &mut path);
-    read_path(asked.named, image, &path[..n], output)
+fn read_argument(rt: &HostRuntime, asked: Asked, image: &[u8], output: &mut [u8]) -> Outcome {
+    let mut path = buffer();
+    let n = argument(rt, asked.second, &mut path);
+    read_path(rt, asked.named, image, &path[..n], output)
 }
 
-pub fn read_file(asked: Asked, count: usize, room: &mut [u8], output: &mut [u8]) -> Outcome {
+pub fn read_file(
+    rt: &HostRuntime,
+    asked: Asked,
+    count: usize,
+    room: &mut [u8],
+    output: &mut [u8],
+) -> Outcome {
     if count != asked.third {
-        return wrong(b"read", b" needs an IMAGE and one PATH");
+        return wrong(rt, b"read", b" needs an IMAGE and one PATH");
     }
-    let held = files::read_argument(asked.first, Kind::Image, room);
+    let held = files::read_argument(rt, asked.first, Kind::Image, room);
     if !held.whole {
         return Outcome::Unasked;
     }
     let n = held.bytes;
-    read_argument(asked, &room[..n], output)
+    read_argument(rt, asked, &room[..n], output)
 }

@@ -2,7 +2,7 @@
 ghost use Rattle.std.specs.Prelude.{◌≡◌, ◌≤◌, min, length};
 ghost use Rattle.console.specs.Counts.{IsPrefixLen, clamp_len};
 
-use std::env::Env;
+use std::env::{Env, FillError};
 use std::io::{Print, Read};
 
 // 4,096 zeros. The `ensures` gives only the length, so that no proof computes the list.
@@ -50,6 +50,22 @@ pub fn argument(rt: &impl Env, i: usize, buf: &mut [u8]) -> usize
         Ok(n) => n,
         Err(_) => count(0, buf),
     }
+}
+
+// Whether there is an argument i.
+fn has_arg(rt: &impl Env, i: usize) -> bool {
+    let mut none = [0u8; 0];
+    !matches!(rt.arg(i, &mut none), Err(FillError::NotPresent))
+}
+
+// How many arguments there are, the program's name among them.
+pub fn arg_count(rt: &impl Env) -> usize {
+    for i in 0..usize::MAX {
+        if !has_arg(rt, i) {
+            return i;
+        }
+    }
+    usize::MAX
 }
 
 // Reads until buf is full, the input ends or a read fails, and answers how many bytes it put at the start of buf. On an
