@@ -7,7 +7,7 @@ use volume::disk::Disk;
 
 // The number of blocks that calls name, and the places of the arguments: the image, or the first one; the one after it,
 // as a path; and the next.
-#[derive(Drop)]
+#[derive(Clone, Copy)]
 pub struct Asked {
     pub named: u32,
     pub first: usize,

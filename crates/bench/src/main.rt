@@ -23,7 +23,7 @@ use console::streams::{arg_count, argument, buffer};
 use status::Outcome;
 use std::process::ExitCode;
 
-#[derive(Drop)]
+#[derive(Clone, Copy)]
 enum Verb {
     Audit,
     Find,

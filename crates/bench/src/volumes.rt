@@ -67,7 +67,7 @@ pub fn find_path(rt: &HostRuntime, named: u32, who: &[u8], image: &[u8], path: &
 // ---- the verbs, over so many arguments
 
 // How many images came to what.
-#[derive(Drop)]
+#[derive(Clone, Copy)]
 struct Tally {
     accepted: usize,
     refused: usize,
