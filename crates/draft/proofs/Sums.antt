@@ -1,5 +1,5 @@
 -- A block's sum is mended by what is missing to 2^32. Assumes nothing.
-use Rattle.std.proofs.Common.{◌≡◌, ℕ, ◌+◌, ◌-◌, ◌*◌, ◌%◌, ◌^◌, ◌<◌, List, sym, ◌∙◌, arith}
+use Rattle.std.proofs.Common.{◌≡◌, ℕ, ◌+◌, ◌-◌, ◌*◌, ◌%◌, ◌^◌, ◌<◌, List, ◌∙◌, arith}
 use Rattle.words.specs.Word.{add_at}
 use Rattle.words.specs.Sum.{sum_at}
 use Rattle.words.proofs.Words.{add_at_mod}

@@ -1,5 +1,6 @@
 -- A word with one bit changed, as code makes it: the bit's power added, taken away, or neither. Assumes nothing.
-use Rattle.std.proofs.Common.{◌≡◌, ℕ, ◌+◌, ◌-◌, ◌*◌, ◌/◌, ◌%◌, ◌^◌, ◌<◌, ◌≤◌, Bool, true, false, List, sym, ap, ◌∙◌, arith}
+use Rattle.std.proofs.Common.{◌≡◌, ℕ, ◌+◌, ◌-◌, ◌*◌, ◌/◌, ◌%◌, ◌^◌, ◌<◌, ◌≤◌, Bool, true, false, List, ◌∙◌, arith}
+use Rattle.std.proofs.lemmas.Nat.{pow_below}
 use Rattle.words.specs.Word.{word_at, set_word}
 use Rattle.volume.specs.Bitmap.{bit_word, bit_number}
 use Rattle.writes.specs.Bits.{bit_of, with_bit, set_bit}
@@ -8,10 +9,7 @@ use Rattle.writes.proofs.Bits.{bit_adds, bit_small}
 module _ (w p : ℕ) (l : p < 32) where
   -- the bit's power fits a word
   power : (1 * 2 ^ p) % 4294967296 ≡ 2 ^ p
-  power =
-      let h = bit_adds 0 p 1 in
-      let b = bit_small 32 0 p 1 (omega arith) l (omega arith) in
-      omega (arith, h, b)
+  power = omega (arith, pow_below p 32 l)
 
   -- what is there without the bit, and with it
   without : w / 2 ^ p % 2 ≡ 0 → (v : ℕ) → with_bit w p v ≡ w + v * 2 ^ p

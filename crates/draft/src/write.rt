@@ -50,7 +50,7 @@ fn edit_block(blocks: &mut [u8], n: usize, j: usize, v: u32)
 // Write n: block `key` as the first n writes leave it.
 pub fn draft(image: &[u8], order: &mut [u32], blocks: &mut [u8], n: usize, key: u32)
     requires { Room image.now order.old blocks.old n key }
-    ensures { Drafts image.now order.old blocks.old n key
+    ensures { Drafts order.old blocks.old n key
         (block_of (carried image.now (writes_in order.old blocks.old n)) key)
         order.new blocks.new }
 {
@@ -69,7 +69,7 @@ pub fn draft_edited(
     v: u32,
 )
     requires { (Room image.now order.old blocks.old n key) × (j < block_words) }
-    ensures { Drafts image.now order.old blocks.old n key
+    ensures { Drafts order.old blocks.old n key
         (edited (carried image.now (writes_in order.old blocks.old n)) key j v)
         order.new blocks.new }
 {

@@ -6,3 +6,5 @@ pub mod Copies
 pub mod Sums
 -- a bit changed
 pub mod Bits
+-- a block as the writes before leave it
+pub mod Fetched

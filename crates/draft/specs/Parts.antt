@@ -1,6 +1,6 @@
 -- What the code that makes a write asks and promises.
-use Rattle.std.specs.Prelude.{◌≡◌, ℕ, suc, ◌*◌, ◌<◌, ◌≤◌, List, length, slice_index, slice_set}
-use Rattle.volume.specs.Blocks.{block_bytes, Holds}
+use Rattle.std.specs.Prelude.{◌≡◌, ℕ, ◌<◌, List, length, slice_index, slice_set}
+use Rattle.volume.specs.Blocks.{Holds}
 use Rattle.writes.specs.Writes.{put}
 
 -- the first n keys of an order are blocks of the image
@@ -15,6 +15,6 @@ pub record Room (s order blocks : List ℕ) (n k : ℕ) : Type 0 where
   pub before : Inside s order n
 
 -- write n is of block k, with b as its block; all else stays
-pub record Drafts (s order blocks : List ℕ) (n k : ℕ) (b order' blocks' : List ℕ) : Type 0 where
-  pub order : order' ≡ slice_set order n k
-  pub blocks : blocks' ≡ put blocks n b
+pub record Drafts (order blocks : List ℕ) (n k : ℕ) (b order' blocks' : List ℕ) : Type 0 where
+  pub entry : order' ≡ slice_set order n k
+  pub block : blocks' ≡ put blocks n b

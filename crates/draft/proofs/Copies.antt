@@ -1,5 +1,5 @@
--- A block copied byte by byte, and a block of an area with one word changed. Assumes nothing.
-use Rattle.std.proofs.Common.{◌≡◌, ℕ, ◌+◌, ◌*◌, ◌<◌, ◌≤◌, List, ◌++◌, length, get_or, take, drop, set, sym, refl, ap, ◌∙◌, le_refl, add-one, arith, length-drop, get_or-drop, take-take}
+-- A block copied byte by byte. Assumes nothing.
+use Rattle.std.proofs.Common.{◌≡◌, ℕ, ◌+◌, ◌*◌, ◌<◌, List, ◌++◌, length, get_or, take, drop, set, sym, refl, ap, le_refl, add-one, arith, length-drop, get_or-drop, take-take}
 use lib.Seq.{paste, paste-suc}
 use Rattle.volume.specs.Blocks.{block_bytes, Holds}
 use Rattle.writes.specs.Writes.{put, block_of}
