@@ -3,7 +3,8 @@
  * program to other addresses.
  *
  * `./make-archive` proves the library and makes target/native/libjufferdeeg.a for this processor, x86-64 or
- * aarch64. It needs memcpy and memset of a C library, and nothing else from outside.
+ * aarch64; target/x86_64 and target/aarch64 have one for each.
+ * It needs memcpy and memset of a C library, and nothing else from outside.
  *
  * What holds for every call:
  * - It may be given any bytes. It ends, stays inside what it is lent, and keeps no pointer to it. There are no
@@ -16,9 +17,9 @@
  *   it refused, number says why, place says where, and all else in the struct is 0.
  * - Words of an image, of a program file and of the memory that a program is loaded into have their highest byte
  *   first. Bases, records and answers are numbers of the machine.
- * - Stack, not proved but measured, on both processors (examples/c/stack.c): an audit took up to 0.97 MiB for the
- *   deepest volume of 1,760 blocks that there can be, and up to 1.94 MiB for that of 3,520. So lend it 1 MiB if 1,760
- *   are named, else 2 MiB. Find and read took less than 40 KiB, the other calls less than 4 KiB. */
+ * - Stack, not proved but measured (examples/c/stack.c): an audit took up to 0.97 MiB for the deepest volume of
+ *   1,760 blocks that there can be, and up to 1.94 MiB for that of 3,520. So lend it 1 MiB if 1,760 are named, else
+ *   2 MiB. Find and read took less than 40 KiB, the other calls less than 4 KiB. */
 #ifndef JUFFERDEEG_H
 #define JUFFERDEEG_H
 

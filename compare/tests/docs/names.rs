@@ -12,7 +12,7 @@ use crate::tree::{ends_in, paths_under, text};
 #[rustfmt::skip]
 pub const ALLOWED: [&str; 28] = [
     // words of Rattle, and of the proofs that it asks for
-    "ensures", "loop-again", "match", "omega", "pub", "requires", "returns", "rw", "true", "usize",
+    "ensures", "match", "omega", "pub", "requires", "result", "rw", "true", "use", "usize",
     // commands and programs that others made
     "disktype", "grub-fstest", "readdisk", "rt", "unadf", "xdms",
     // functions of ADFlib and of GRUB
