@@ -66,7 +66,11 @@ fn structs_are_declared_alike() {
         ("program_numbers", "ProgramNumbers", &programs),
         ("hunk", "Hunk", &hunks),
     ] {
-        let of_source = inside(source, &format!("#[repr(C)]\npub struct {name} "), '{', '}');
+        let head = format!("pub struct {name} ");
+        let before = source.split(&head).next().unwrap();
+        let mut attributes = before.lines().rev().take_while(|line| line.starts_with("#["));
+        assert!(attributes.any(|line| line == "#[repr(C)]"), "{name}");
+        let of_source = inside(source, &head, '{', '}');
         let proved = parts(&of_source, ',', of_rust);
         assert!(proved.len() >= 3, "{name}");
         let for_c = parts(&inside(&c, &format!("struct jufferdeeg_{in_c} {{"), ' ', '}'), ';', of_c);
