@@ -47,9 +47,9 @@ fn with_count(o: Outcome) -> Counted
     }
 }
 
-fn record_at(c: Counted, i: usize) -> Hunk
+fn record_at(c: &Counted, i: usize) -> Hunk
     requires { i < 64 }
-    ensures { result ≡ record_at c.numbers i }
+    ensures { result ≡ record_at c.now.numbers i }
 {
     let k = RECORD_LENGTH * i;
     Hunk {
@@ -97,7 +97,7 @@ fn fill(table: &mut [Hunk], c: Counted)
 {
     let mut i = 0;
     while i < c.count {
-        table[i] = record_at(c, i);
+        table[i] = record_at(&c, i);
         i += 1;
     }
 }
@@ -114,8 +114,9 @@ pub fn load(
         work.old result memory.new table.new work.new }
 {
     let c = load_counted(file, bases, memory, table.len(), work);
+    let a = c.answer;
     fill(table, c);
-    c.answer
+    a
 }
 
 // Moves a loaded program from the old bases to the new ones.
@@ -131,6 +132,7 @@ pub fn move_program(
         table.old work.old result memory.new table.new work.new }
 {
     let c = move_counted(file, old, new, memory, table.len(), work);
+    let a = c.answer;
     fill(table, c);
-    c.answer
+    a
 }
