@@ -17,9 +17,10 @@
  *   it refused, number says why, place says where, and all else in the struct is 0.
  * - Words of an image, of a program file and of the memory that a program is loaded into have their highest byte
  *   first. Bases, records and answers are numbers of the machine.
- * - Stack, not proved but measured (examples/c/stack.c): an audit took up to 0.97 MiB for the deepest volume of
- *   1,760 blocks that there can be, and up to 1.94 MiB for that of 3,520. So lend it 1 MiB if 1,760 are named, else
- *   2 MiB. Find and read took less than 40 KiB, the other calls less than 4 KiB. */
+ * - Stack, not proved but measured (examples/c/stack.c): on x86-64 an audit took up to 0.65 MiB for the deepest volume
+ *   of 1,760 blocks that there can be, and up to 1.29 MiB for that of 3,520; on aarch64, when that was measured last,
+ *   0.97 and 1.94 MiB. So lend it 1 MiB if 1,760 are named, else 2 MiB. Find and read took less than 40 KiB, the other
+ *   calls less than 5 KiB. */
 #ifndef JUFFERDEEG_H
 #define JUFFERDEEG_H
 

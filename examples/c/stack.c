@@ -20,7 +20,7 @@
 #define AUDIT_MOST ((1 << 20) - 2 * 576)
 #define HIGH_AUDIT_MOST ((2 << 20) - 2 * 576)
 #define FIND_MOST (40 << 10)
-#define OTHERS_MOST (4 << 10)
+#define OTHERS_MOST (5 << 10)
 
 static uint8_t image[JUFFERDEEG_MOST_IMAGE_BYTES], claim[JUFFERDEEG_MOST_CLAIM_BYTES], output[1024], path[255];
 static uint32_t blocks; /* of the image */
