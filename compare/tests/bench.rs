@@ -2,8 +2,9 @@
 //! cannot ask.
 //!
 //! Answers due come from this package, see [`counter`](compare::counter); what is said of a wrong use is written out
-//! here. Standard output and standard error are both held to the byte, and so is the exit status. Every run has a folder
-//! of its own, and what is in it has to be the same afterwards.
+//! here. Standard output and standard error are both held to the byte, and so is the exit status: the program writes
+//! it to descriptor 9, for the script at the top of the repository. Every run has a folder of its own, and what is in
+//! it has to be the same afterwards.
 
 use std::collections::{BTreeMap, BTreeSet};
 use std::ffi::OsStr;
@@ -84,6 +85,7 @@ impl Drop for Desk {
     fn drop(&mut self) {
         // nothing can be done about what will not go, least of all while unwinding
         let _ = fs::remove_dir_all(&self.folder);
+        let _ = fs::remove_file(self.status_file());
     }
 }
 
@@ -111,6 +113,11 @@ impl Desk {
         &self.files[name]
     }
 
+    /// Where descriptor 9 of the program leads: beside the folder.
+    fn status_file(&self) -> PathBuf {
+        self.folder.with_extension("status")
+    }
+
     /// What a command says with these words; the files have to stay as they are, and no others to come.
     fn said_by(&self, mut command: Command, words: &[impl AsRef<[u8]>]) -> Said {
         command.args(words.iter().map(|word| OsStr::from_bytes(word.as_ref())));
@@ -135,12 +142,21 @@ impl Desk {
         assert!(names.iter().eq(self.files.keys()), "{}: {names:?} are left", shown(words));
     }
 
-    /// What the program says with these words, and the status that it ends with.
+    /// What the program says with these words. It ends well; its status is what it writes to descriptor 9.
     fn said(&self, words: &[impl AsRef<[u8]>]) -> Said {
-        let said = self.said_by(rattle("bench"), words);
-        let known = [ACCEPTED, REFUSED, UNASKED].contains(&said.status);
-        assert!(known, "{}: ended with {}", shown(words), said.status);
-        said
+        let program = rattle("bench");
+        let mut command = Command::new("sh");
+        command.args(["-c", "exec \"$@\" 9>\"$0\""]).arg(self.status_file());
+        command.arg(program.get_program()).args(program.get_args());
+        let said = self.said_by(command, words);
+        assert_eq!(said.status, 0, "{}: the program's own status", shown(words));
+        let status = match &fs::read(self.status_file()).expect("a file of ours")[..] {
+            b"0" => ACCEPTED,
+            b"1" => REFUSED,
+            b"2" => UNASKED,
+            other => panic!("{}: {other:?} on descriptor 9", shown(words)),
+        };
+        Said { status, ..said }
     }
 
     fn hold(&self, words: &[impl AsRef<[u8]>], due: &Said) {
@@ -1527,7 +1543,7 @@ const FORGED: [&str; 5] = [
 ];
 
 /// The script runs the program that is there, from any folder, and proves nothing for it: it says what the program
-/// says, and ends with its status.
+/// says, and ends with the status that the program writes.
 #[test]
 fn the_script_from_another_folder() {
     // it has to be built before
@@ -1647,7 +1663,7 @@ const PROVING: &str = "bench: proving and building; this takes some minutes, onc
 /// The first use proves and builds, says how far it is, and then does what is asked; the second says no more of it.
 #[test]
 fn the_first_use_says_how_far_it_is() {
-    let program = rattle("bench").get_program().to_owned();
+    let program = rattle("bench").get_args().last().expect("the program").to_owned();
     let desk = unbuilt();
     let check = format!(
         "[ \"$1 $2\" = \"check bench\" ] || exit 1\necho \"rt: words proved (unchanged since it was last proved)\"\n\
