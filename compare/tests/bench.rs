@@ -2,9 +2,8 @@
 //! cannot ask.
 //!
 //! Answers due come from this package, see [`counter`](compare::counter); what is said of a wrong use is written out
-//! here. Standard output and standard error are both held to the byte, and so is the exit status: the program writes
-//! it to descriptor 9, for the script at the top of the repository. Every run has a folder of its own, and what is in
-//! it has to be the same afterwards.
+//! here. Standard output and standard error are both held to the byte, and so is the exit status. Every run has a
+//! folder of its own, and what is in it has to be the same afterwards.
 
 use std::collections::{BTreeMap, BTreeSet};
 use std::ffi::OsStr;
@@ -85,7 +84,6 @@ impl Drop for Desk {
     fn drop(&mut self) {
         // nothing can be done about what will not go, least of all while unwinding
         let _ = fs::remove_dir_all(&self.folder);
-        let _ = fs::remove_file(self.status_file());
     }
 }
 
@@ -113,11 +111,6 @@ impl Desk {
         &self.files[name]
     }
 
-    /// Where descriptor 9 of the program leads: beside the folder.
-    fn status_file(&self) -> PathBuf {
-        self.folder.with_extension("status")
-    }
-
     /// What a command says with these words; the files have to stay as they are, and no others to come.
     fn said_by(&self, mut command: Command, words: &[impl AsRef<[u8]>]) -> Said {
         command.args(words.iter().map(|word| OsStr::from_bytes(word.as_ref())));
@@ -142,21 +135,9 @@ impl Desk {
         assert!(names.iter().eq(self.files.keys()), "{}: {names:?} are left", shown(words));
     }
 
-    /// What the program says with these words. It ends well; its status is what it writes to descriptor 9.
+    /// What the program says with these words.
     fn said(&self, words: &[impl AsRef<[u8]>]) -> Said {
-        let program = rattle("bench");
-        let mut command = Command::new("sh");
-        command.args(["-c", "exec \"$@\" 9>\"$0\""]).arg(self.status_file());
-        command.arg(program.get_program()).args(program.get_args());
-        let said = self.said_by(command, words);
-        assert_eq!(said.status, 0, "{}: the program's own status", shown(words));
-        let status = match &fs::read(self.status_file()).expect("a file of ours")[..] {
-            b"0" => ACCEPTED,
-            b"1" => REFUSED,
-            b"2" => UNASKED,
-            other => panic!("{}: {other:?} on descriptor 9", shown(words)),
-        };
-        Said { status, ..said }
+        self.said_by(rattle("bench"), words)
     }
 
     fn hold(&self, words: &[impl AsRef<[u8]>], due: &Said) {
@@ -1663,12 +1644,14 @@ const PROVING: &str = "bench: proving and building; this takes some minutes, onc
 /// The first use proves and builds, says how far it is, and then does what is asked; the second says no more of it.
 #[test]
 fn the_first_use_says_how_far_it_is() {
-    let program = rattle("bench").get_args().last().expect("the program").to_owned();
+    let program = rattle("bench").get_program().to_owned();
     let desk = unbuilt();
     let check = format!(
-        "[ \"$1 $2\" = \"check bench\" ] || exit 1\necho \"rt: words proved (unchanged since it was last proved)\"\n\
-         echo \"note: bench proved nothing\"\nmkdir -p target/bin\ncp '{}' target/bin/\n\
-         echo \"rt: bench proved (88 s)\"\necho \"rt: ok, 2 crates proved\"",
+        "[ \"${{PWD##*/}} $*\" = \"bench run -- --version\" ] || exit 1\n\
+         echo \"crate words: modules loaded=0 checked=39\"\necho \"logic=proved functions=11 native=nat\"\n\
+         echo \"note: bench proved nothing\" >&2\nmkdir -p out\ncp '{}' out/\n\
+         echo \"library words: modules loaded=39 checked=0\"\n\
+         echo \"crate bench: modules loaded=7 checked=88\"\necho \"logic=proved functions=81 axioms=2\"",
         program.to_str().expect("a path of ours")
     );
     let kit = kit_with(&check);
@@ -1683,10 +1666,14 @@ fn the_first_use_says_how_far_it_is() {
 #[test]
 fn a_first_use_that_fails() {
     let desk = unbuilt();
-    let kit = kit_with("echo \"rt: words proved (7 s)\"\necho \"rt: bench NOT PROVED (exit 1, 9 s)\"\nexit 1");
+    let kit = kit_with(
+        "echo \"crate words: modules loaded=0 checked=39\"\necho \"logic=proved functions=11\"\n\
+         echo \"crate bench: modules loaded=7 checked=88\"\necho \"logic=not-proved\"\nexit 1",
+    );
     let said = desk.said_by(script(&desk.folder, &kit), &["audit", "titles.adf"]);
     let log = desk.folder.canonicalize().expect("a folder of ours").join("target/bench.log");
-    let told = "rt: words proved (7 s)\nrt: bench NOT PROVED (exit 1, 9 s)\nbench: not proved or not built";
+    let told = "crate words: modules loaded=0 checked=39\nlogic=proved functions=11\n\
+                crate bench: modules loaded=7 checked=88\nlogic=not-proved\nbench: not proved or not built";
     assert_eq!(untimed(&said.err), format!("{PROVING}{told}; {} has all of it\n", log.display()));
     assert_eq!((&said.out[..], said.status), (&b""[..], UNASKED));
 }
