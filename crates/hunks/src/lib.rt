@@ -23,7 +23,7 @@ pub struct Hunk {
 }
 
 // An answer, how many records come with it, and their numbers.
-#[derive(Clone, Copy)]
+#[derive(Drop)]
 struct Counted {
     answer: Answer,
     count: usize,

@@ -35,16 +35,14 @@ pub(crate) fn program_numbers(a: Answer) -> ProgramNumbers
 }
 
 // Checks a program file: the hunks and the bytes of memory that a load of it takes.
-#[unsafe(no_mangle)]
-pub extern "C" fn jufferdeeg_check(file: &[u8]) -> ProgramNumbers
+pub fn jufferdeeg_check(file: &[u8]) -> ProgramNumbers
     ensures { result ≡ check_numbers file.now }
 {
     program_numbers(program::check::check(file))
 }
 
 // Loads a program at the given bases.
-#[unsafe(no_mangle)]
-pub extern "C" fn jufferdeeg_load(
+pub fn jufferdeeg_load(
     file: &[u8],
     bases: &[u32],
     memory: &mut [u8],
@@ -58,8 +56,7 @@ pub extern "C" fn jufferdeeg_load(
 }
 
 // Moves a loaded program from the old bases to the new ones.
-#[unsafe(no_mangle)]
-pub extern "C" fn jufferdeeg_move(
+pub fn jufferdeeg_move(
     file: &[u8],
     old: &[u32],
     new: &[u32],

@@ -120,24 +120,21 @@ fn read_numbers(a: Reading) -> ReadNumbers
 
 // Audits an image: that of a disk of the `named` number of blocks, or of either size where 0 is named, and of the kind
 // that its boot tag names.
-#[unsafe(no_mangle)]
-pub extern "C" fn jufferdeeg_audit(named: u32, image: &[u8], claim: &mut [u8]) -> AuditNumbers
+pub fn jufferdeeg_audit(named: u32, image: &[u8], claim: &mut [u8]) -> AuditNumbers
     ensures { AuditsImage named image.now (length claim.old) result claim.new }
 {
     audit_numbers(audit::audit::audit(named, image, claim))
 }
 
 // What a path leads to on such an image.
-#[unsafe(no_mangle)]
-pub extern "C" fn jufferdeeg_find(named: u32, image: &[u8], path: &[u8]) -> FindNumbers
+pub fn jufferdeeg_find(named: u32, image: &[u8], path: &[u8]) -> FindNumbers
     ensures { result ≡ find_in_image named image.now path.now }
 {
     find_numbers(lookup::find::find(named, image, path))
 }
 
 // Reads a file of such an image from an offset on.
-#[unsafe(no_mangle)]
-pub extern "C" fn jufferdeeg_read(
+pub fn jufferdeeg_read(
     named: u32,
     image: &[u8],
     path: &[u8],
