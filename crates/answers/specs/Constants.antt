@@ -3,9 +3,11 @@
 -- statement stores the constant.
 use Rattle.std.specs.Prelude.{ℕ, ◌-◌, ◌^◌, List, [], ◌∷◌}
 use mir.Val.{bits}
-use mir.Syntax.{Opd, copy, int, int_neg, int_big, float, opd_true, opd_false, opd_unit, ptr_const, size_of, align_of, num_of, fn_addr, vtable}
+use mir.Syntax.{Opd, copy, int, int_neg, int_big, float, opd_true, opd_false, opd_unit, ptr_const, size_of, align_of}
+use mir.Syntax.{num_of, fn_addr, vtable}
 use mir.Syntax.{Rv, rv_opd, op2, op1, addr_of, aggregate, repeat, repeat_p, select}
-use mir.Syntax.{Body, skip, seq, assign, block, loop, cond, switch, exit, return, call, unreachable, call_v, lend_static}
+use mir.Syntax.{Body, skip, seq, assign, block, loop, cond, switch, exit, return, call, unreachable, call_v}
+use mir.Syntax.{lend_static}
 
 -- a number as it is written; 0 for what is none. `int_neg w n` is n below the end of width w.
 abbrev number : Opd → ℕ

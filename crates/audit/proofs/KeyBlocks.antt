@@ -11,7 +11,8 @@ use Rattle.volume.specs.declared.disk.Disk.{Disk}
 use Rattle.volume.specs.Blocks.{Holds, key_word}
 use Rattle.walk.specs.declared.Counts.{Counts}
 use Rattle.walk.specs.declared.file.KeyBlock.{KeyBlock}
-use Rattle.walk.specs.Nodes.{Node, list, datum, list_link, key_nodes, key_block_nodes, leads_to, noted, with_list, with_block}
+use Rattle.walk.specs.Nodes.{Node, list, datum, list_link, key_nodes, key_block_nodes, leads_to, noted, with_list}
+use Rattle.walk.specs.Nodes.{with_block}
 use Rattle.walk.specs.KeyBlocks.{header_of, next_of, list_node, link_to, InFile, KeysReady, InImage, NextReady}
 use Rattle.walk.proofs.Links.{link_next}
 use Rattle.walk.proofs.Loops.{in_image, ready_image, nodes, next, Turn, turn_next, turn_again, turn_end, list_ready}

@@ -51,7 +51,8 @@ module _ (d : Disk) (s : List ℕ) (bitmap_key : ℕ) (cl : List ℕ) where
     pub bits_few : Sized d → free < 4294967295
     bits_few h = omega (arith, v.few, v.high, h.most)
 
-    module _ (q : k < d.blocks) (f w : Bool) (e : f ≡ is_free s bitmap_key k) (g : w ≡ bit_wrong f (get_or cl k 0)) where
+    module _ (q : k < d.blocks) (f w : Bool) (e : f ≡ is_free s bitmap_key k)
+        (g : w ≡ bit_wrong f (get_or cl k 0)) where
       one_more : bits_from s bitmap_key cl k free (d.blocks - k) ≡ pick w (Wrong k)
           (bits_from s bitmap_key cl (k + 1) (pick f (free + 1) free) (d.blocks - (k + 1)))
       unfolding bits_from

@@ -50,7 +50,8 @@ module _ (v : ℕ) where
   pub numbered : Numbered v (test_of v)
   unfolding pick
   numbered =
-      go (eqb v fault.image_length) refl (eqb v fault.claim_area) refl (eqb v fault.boot_tag) refl (eqb v fault.wrong_bit)
+      go (eqb v fault.image_length) refl (eqb v fault.claim_area) refl (eqb v fault.boot_tag) refl
+      (eqb v fault.wrong_bit)
       refl
     where
       go : (a : Bool) → eqb v fault.image_length ≡ a → (b : Bool) → eqb v fault.claim_area ≡ b → (c : Bool)

@@ -17,7 +17,8 @@ use Rattle.volume.specs.Blocks.{directory}
 use Rattle.answers.proofs.Clashes.{impossible}
 use Rattle.walk.proofs.Passes.{key_passed}
 use Rattle.walk.specs.declared.Counts.{Counts}
-use Rattle.walk.specs.Nodes.{Node, root, bitmap, entry, list, datum, key_of, leads_to, noted, with_entry, graph, fault_of}
+use Rattle.walk.specs.Nodes.{Node, root, bitmap, entry, list, datum, key_of, leads_to, noted, with_entry, graph}
+use Rattle.walk.specs.Nodes.{fault_of}
 use Rattle.audit.specs.declared.walked.Walked.{Walked}
 use Rattle.audit.specs.declared.walked.Walked.TheVariants.{Done, Stopped}
 use Rattle.audit.specs.Walks.{Met, total, goes_on, Walks, Ready}

@@ -1,5 +1,6 @@
 -- A block copied byte by byte. Assumes nothing.
-use Rattle.std.proofs.Common.{◌≡◌, ℕ, ◌+◌, ◌*◌, ◌<◌, List, ◌++◌, length, get_or, take, drop, set, sym, refl, ap, le_refl, add-one, arith, length-drop, get_or-drop, take-take}
+use Rattle.std.proofs.Common.{◌≡◌, ℕ, ◌+◌, ◌*◌, ◌<◌, List, ◌++◌, length, get_or, take, drop, set, sym, refl, ap}
+use Rattle.std.proofs.Common.{le_refl, add-one, arith, length-drop, get_or-drop, take-take}
 use lib.Seq.{paste, paste-suc}
 use Rattle.volume.specs.Blocks.{block_bytes, Holds}
 use Rattle.writes.specs.Writes.{put, block_of}

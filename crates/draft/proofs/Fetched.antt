@@ -1,6 +1,7 @@
 -- A block as writes in two lent areas leave it: the last of them that names it, or else the image's own; and a block
 -- that is written twice. Assumes nothing.
-use Rattle.std.proofs.Common.{◌≡◌, ◌≢◌, ℕ, zero, suc, ◌+◌, ◌*◌, ◌<◌, ◌≤◌, List, [], ◌∷◌, ◌++◌, length, get_or, take, drop, sym, refl, ◌∙◌, add-one, arith}
+use Rattle.std.proofs.Common.{◌≡◌, ◌≢◌, ℕ, zero, suc, ◌+◌, ◌*◌, ◌<◌, ◌≤◌, List, [], ◌∷◌, ◌++◌, length, get_or, take}
+use Rattle.std.proofs.Common.{drop, sym, refl, ◌∙◌, add-one, arith}
 use Rattle.std.proofs.lemmas.Slice.{put_mid-paste}
 use borrow.Rule.Slice.PartMut.{put_mid}
 use Rattle.words.specs.Word.{set_word}
@@ -40,7 +41,8 @@ holds_after s order blocks n k r =
 
 -- ---- a block after one write more
 
-module _ (s order blocks : List ℕ) (i k : ℕ) (before : Inside s order (i + 1)) (whole : Holds blocks i) (inside : Holds s k) where
+module _ (s order blocks : List ℕ) (i k : ℕ) (before : Inside s order (i + 1)) (whole : Holds blocks i)
+    (inside : Holds s k) where
   length_before : length (carried s (writes_in order blocks i)) ≡ length s
   length_before = length_after s order blocks i (λ j l. before j (omega (arith, l))) (omega (arith, whole))
 

@@ -140,7 +140,8 @@ module _ (d : Disk) (z : Sized d) (s : List ℕ) (b : Bytes s) (v : Volume d s) 
   pub delete_answers : (j : ℕ) → SameAnswers d s (cut_at j) ⊎ SameAnswers d end (cut_at j)
   delete_answers j = go (delete_whole j).1
     where
-      go : SameTree d s (cut_at j) ⊎ SameTree d end (cut_at j) → SameAnswers d s (cut_at j) ⊎ SameAnswers d end (cut_at j)
+      go : SameTree d s (cut_at j) ⊎ SameTree d end (cut_at j)
+          → SameAnswers d s (cut_at j) ⊎ SameAnswers d end (cut_at j)
       go (inl a) = inl (same_answers d s (cut_at j) tree (delete_whole j).0 a)
       go (inr a) = inr (same_answers d end (cut_at j) delete_lawful.tree (delete_whole j).0 a)
 

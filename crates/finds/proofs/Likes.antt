@@ -129,7 +129,8 @@ module _ (d : Disk) (s t : List ℕ) (v : Tree d s) (u : Tree d t) (k : ℕ) (c 
   lookup_like (a ∷ cs) x i n m o w =
       go (both x a o (λ y m e. (w y m e).0)) (λ y n m h g. lookup_like cs y (i + 1) n m h g)
     where
-      files : (cs : List (List ℕ)) (y n m : ℕ) → size_of t y ≡ size_of s y → Like (file_at s i n cs y) (file_at t i m cs y)
+      files : (cs : List (List ℕ)) (y n m : ℕ) → size_of t y ≡ size_of s y
+          → Like (file_at s i n cs y) (file_at t i m cs y)
       files [] y n m e = (refl, sym e)
       files (b ∷ cs) y n m e = refl
 
@@ -150,7 +151,8 @@ module _ (d : Disk) (s t : List ℕ) (v : Tree d s) (u : Tree d t) (k : ℕ) (c 
       go (same y l r e f h) ih = rw (e, f, c.kind y h) (chosen (directory s y) y l r refl h (w y l e).1 ih)
 
   -- Every find that does not come to k answers alike.
-  pub find_like : (path : List ℕ) → Misses d s k (root_of d) (components path) → Like (find_of d s path) (find_of d t path)
+  pub find_like : (path : List ℕ) → Misses d s k (root_of d) (components path)
+      → Like (find_of d s path) (find_of d t path)
   find_like path w = rw (find_components d s v path, find_components d t u path) (form (path_fault path))
     where
       form : (f : Tested) → Like (and f (lookup_from d s (root_of d) 0 0 (components path)))

@@ -84,7 +84,8 @@ module _ (d : Disk) (s t : List ℕ) (long : length t ≡ length s) where
   bytes_alike k h ls ds =
       let z : size_of t k ≡ size_of s k = h 81 (omega arith) (omega arith) (omega arith) in
       let q = list_blocks (blocks_of d s k) in
-      let l : lists_from t k q ≡ lists_from s k q = lists_same k q (h 126 (omega arith) (omega arith) (omega arith)) ls in
+      let l : lists_from t k q
+      ≡ lists_from s k q = lists_same k q (h 126 (omega arith) (omega arith) (omega arith)) ls in
       let n : keys_from t (blocks_of d s k) (k ∷ lists_from s k q) ≡ keys_of d s k =
       keys_same (blocks_of d s k) (k ∷ lists_from s k q) each in
       rw (z, l, n, data_same (keys_of d s k) ds) refl

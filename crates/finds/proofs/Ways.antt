@@ -167,7 +167,8 @@ module _ (d : Disk) (s : List ℕ) (v : Tree d s) where
 -- ---- a lookup, one component on
 
 lookup_on : (d : Disk) (t : List ℕ) (x y i j n m : ℕ) (b : List ℕ) (cs : List (List ℕ)) → j ≡ i + 1
-    → search_of d t x b ≡ At y m → directory t y ≡ true → lookup_from d t x i n (b ∷ cs) ≡ lookup_from d t y j (n + m) cs
+    → search_of d t x b ≡ At y m → directory t y ≡ true
+    → lookup_from d t x i n (b ∷ cs) ≡ lookup_from d t y j (n + m) cs
 unfolding lookup_from pick
 lookup_on d t x y i j n m b cs l e f = rw (e, f, l) refl
 

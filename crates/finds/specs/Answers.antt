@@ -35,7 +35,8 @@ Like (Refused r) (Refused q) = r ≡ q
 pub record LikeAnswers (d : Disk) (s t path : List ℕ) : Type 0 where
   pub finds : Like (find_of d s path) (find_of d t path)
   pub reads : (o n : ℕ) → read_of d t path o n ≡ read_of d s path o n
-  pub left : (o : ℕ) (output : List ℕ) (r : Reading) → output_after d t path o output r ≡ output_after d s path o output r
+  pub left : (o : ℕ) (output : List ℕ) (r : Reading)
+      → output_after d t path o output r ≡ output_after d s path o output r
 
 -- ---- paths
 

@@ -68,7 +68,8 @@ move_hands file old new m w records o c m1 w1 l e =
     })
 
 -- the first records are those of the file's hunks
-filled_by_lem : (a : Answer) (file bases ns : List ℕ) (k : ℕ) (t : List Hunk) → k ≡ count_of a → ns ≡ handed file bases a
+filled_by_lem : (a : Answer) (file bases ns : List ℕ) (k : ℕ) (t : List Hunk) → k ≡ count_of a
+    → ns ≡ handed file bases a
     → ((x n : ℕ) → a ≡ Accepted x n → x ≡ total_of file) → filled ns k t ≡ kept a (hunks_of file bases t) t
 unfolding records_of
 filled_by_lem (Accepted x n) file bases ns k t e h f =

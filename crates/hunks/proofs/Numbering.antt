@@ -88,7 +88,8 @@ same_table [] [] e = refl
 same_table [] (h ∷ t) e = absurd (omega (arith, ap length e))
 same_table (g ∷ s) [] e = absurd (omega (arith, ap length e))
 same_table (g ∷ s) (h ∷ t) e =
-    let at : (i : ℕ) → get_or (numbers_in (g ∷ s)) i 0 ≡ get_or (numbers_in (h ∷ t)) i 0 = λ i. ap (λ l. get_or l i 0) e in
+    let at : (i : ℕ) → get_or (numbers_in (g ∷ s)) i 0
+    ≡ get_or (numbers_in (h ∷ t)) i 0 = λ i. ap (λ l. get_or l i 0) e in
     ap₂ ◌∷◌ (same_hunk _ _ _ _ _ _ _ _ _ _ (at 0) (at 1) (at 2) (at 3) (at 4))
     (same_table s t (ap (drop record_length) e))
 

@@ -109,7 +109,8 @@ module _ (d : Disk) (s : List ℕ) (n : ℕ) where
   audit_refused_exactly v k = refusing.refused_exactly d s n v k
 
   -- 4 to 16: which field of the law the block breaks, a case for each number
-  pub audit_refused_cause : (v k : ℕ) → v ∈ audit.walk_refusals → audit.audit_of d s n ≡ audit.refuse v k → Cause d s v k
+  pub audit_refused_cause : (v k : ℕ) → v ∈ audit.walk_refusals → audit.audit_of d s n ≡ audit.refuse v k
+      → Cause d s v k
   audit_refused_cause v k h = refusing.refused_cause d s n v k h
 
   -- 17: all but the bits is as the law says, and k is the lowest block whose bit is wrong
@@ -176,7 +177,8 @@ module _ (d : Disk) (s path : List ℕ) where
   found_few k z n e = counting.found_few d s path k z n e
 
   -- 19 if and only if the chain has ended and no entry on it has the name; any refusal if and only if `Refuses` holds
-  pub missing_exactly : (i : ℕ) → (lookup.find_of d s path ≡ lookup.refuse fault.not_found i) ↔ lookups.Missing d s path i
+  pub missing_exactly : (i : ℕ) → (lookup.find_of d s path ≡ lookup.refuse fault.not_found i)
+      ↔ lookups.Missing d s path i
   missing_exactly i = missing.missing_exactly d s path i
 
   pub find_refused_exactly : (v k : ℕ) → (lookup.find_of d s path ≡ lookup.refuse v k) ↔ lookups.Refuses d s path v k

@@ -222,7 +222,8 @@ module _ (b : ℕ) (s path : List ℕ) (r : FindNumbers) (a : r ≡ find_in_imag
 
   -- the number is 0 or one of these
   pub find_number : r.number ∈ (0 ∷ lookup.find_refusals)
-  find_number = rw a (go (lookup.find_of (disk_of b s) s path) (lookup-numbers.number_listed (disk_of b s) s path _ finds))
+  find_number = rw a (go (lookup.find_of (disk_of b s) s path)
+      (lookup-numbers.number_listed (disk_of b s) s path _ finds))
     where
       go : (x : Found) → ((f : Refusal) → x ≡ found.Refused f → (lookup.numbers_of x).number ∈ lookup.find_refusals)
           → (find_numbers x).number ∈ (0 ∷ lookup.find_refusals)
@@ -277,7 +278,8 @@ module _ (b : ℕ) (s path : List ℕ) (o : ℕ) (output : List ℕ) (r : ReadNu
   pub read_unfit : (k : ℕ) → ((r.number ≡ fault.image_length) × (r.place ≡ k)) ↔ ((k ≡ 0) × Unfit b s)
   read_unfit k =
       rw a.answer
-      (Iff.trans (read_says (read.read_of (disk_of b s) s path o (length output)) fault.image_length k (λ e. omega arith))
+      (Iff.trans (read_says (read.read_of (disk_of b s) s path o (length output)) fault.image_length k
+      (λ e. omega arith))
       (unread.refused_unfit b s path o (length output) k))
 
   -- 3 if and only if the disk fits, the path is right, and the image has the boot tag of no disk

@@ -1,5 +1,6 @@
 -- One act at a time: what it asks lies inside, and what it does. Assumes nothing.
-use Rattle.std.proofs.Common.{◌≡◌, ℕ, zero, suc, ◌+◌, ◌*◌, ◌<◌, ◌≤◌, Bool, true, false, eqb, List, [], ◌∷◌, length, sym, refl, ap, ◌∙◌, subst, arith}
+use Rattle.std.proofs.Common.{◌≡◌, ℕ, zero, suc, ◌+◌, ◌*◌, ◌<◌, ◌≤◌, Bool, true, false, eqb, List, [], ◌∷◌, length, sym}
+use Rattle.std.proofs.Common.{refl, ap, ◌∙◌, subst, arith}
 use native.Mathlib.Decide.{dec_lt}
 use Rattle.program.specs.Types as type
 use Rattle.words.specs.Word.{add_at}
@@ -78,7 +79,8 @@ module _ (file : List ℕ) (c : Cursor) (at w : ℕ) (d : Cursor) (s : CursorFit
   fits_in (mode.Skip n a) h e = tt
   fits_in mode.End h e = tt
 
-  pub act_fits : step_of (total_of file) (space_of file) c w ≡ On d → ActFits (loaded_of file) (total_of file) (act_of c at w)
+  pub act_fits : step_of (total_of file) (space_of file) c w ≡ On d
+      → ActFits (loaded_of file) (total_of file) (act_of c at w)
   unfolding step_of act_of
   act_fits = fits_in c.mode s.mode
 
@@ -89,7 +91,8 @@ more_room m n t u (Store p w) h k f = omega arith
 more_room m n t u (Add p z b) h k f = (omega (arith, f.0), omega (arith, f.1))
 
 fits : (file : List ℕ) (c : Cursor) (at w : ℕ) (r : Next) (d : Cursor) (a : Act) (n t : ℕ) → CursorFits file c
-    → r ≡ step_of (total_of file) (space_of file) c w → r ≡ On d → a ≡ act_of c at w → loaded_of file ≤ n → total_of file ≤ t
+    → r ≡ step_of (total_of file) (space_of file) c w → r ≡ On d → a ≡ act_of c at w → loaded_of file ≤ n
+    → total_of file ≤ t
     → ActFits n t a
 fits file c at w r d a n t s q e x h k =
     more_room (loaded_of file) n (total_of file) t a h k (rw x (act_fits file c at w d s (sym q ∙ e)))

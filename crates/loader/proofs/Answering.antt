@@ -1,5 +1,6 @@
 -- What an accepted file has, and what the calls answer and leave. Assumes nothing.
-use Rattle.std.proofs.Common.{◌≡◌, ℕ, ◌+◌, ◌*◌, ◌%◌, ◌≤◌, Bool, true, false, eqb, ltb, List, [], ◌∷◌, ◌++◌, length, take, drop, sym, refl, ap, ◌∙◌, arith, length-take-le, ltb-false, eqb-true}
+use Rattle.std.proofs.Common.{◌≡◌, ℕ, ◌+◌, ◌*◌, ◌%◌, ◌≤◌, Bool, true, false, eqb, ltb, List, [], ◌∷◌, ◌++◌, length}
+use Rattle.std.proofs.Common.{take, drop, sym, refl, ap, ◌∙◌, arith, length-take-le, ltb-false, eqb-true}
 use Rattle.answers.specs.Numbers as fault
 use Rattle.program.specs.Types as type
 use Rattle.answers.specs.Tests.{pick}
@@ -147,7 +148,8 @@ room_passed t n m tb w h =
 pub work_fits : (t n m tb w : ℕ) (h : Tested) → h ≡ room_fault t n m tb w → h ≡ Passed → n ≤ w
 work_fits t n m tb w h e x = (room_passed t n m tb w (sym e ∙ x)).2
 
-pub bases_passed : (file bases : List ℕ) (from : ℕ) → bases_fault file bases from ≡ Passed → length bases ≡ total_of file
+pub bases_passed : (file bases : List ℕ) (from : ℕ) → bases_fault file bases from ≡ Passed
+    → length bases ≡ total_of file
 unfolding bases_fault pick
 bases_passed file bases from h = go (eqb (length bases) (total_of file)) refl h
   where
@@ -209,7 +211,8 @@ module _ (file old new : List ℕ) (m tb w : ℕ) (v : Answer) (ev : v ≡ check
       → a ≡ also v h → k ≡ bases_fault file new t → b ≡ also a k → r ≡ last_tests file b m tb w
       → r ≡ move_answer file old new m tb w
   unfolding move_answer
-  move_last t h k a b r et eh ea ek eb er = er ∙ rw (← ev, ← eh, ← ea, ap (bases_fault file new) (sym et) ∙ sym ek, ← eb)
+  move_last t h k a b r et eh ea ek eb er =
+      er ∙ rw (← ev, ← eh, ← ea, ap (bases_fault file new) (sym et) ∙ sym ek, ← eb)
 
 -- ---- what an accepted call has
 

@@ -1,6 +1,8 @@
 -- 40 is given if and only if a list of bases has another length, or at its first bad entry; and why an entry is bad.
 -- Assumes nothing.
-use Rattle.std.proofs.Common.{◌≡◌, ℕ, zero, suc, ◌+◌, ◌*◌, ◌%◌, ◌^◌, ◌<◌, ◌≤◌, Bool, true, false, eqb, ltb, ◌≢◌, ◌⊎◌, ◌↔◌, List, length, sym, refl, ap, ◌∙◌, subst, inl, inr, arith, ltb-false, ltb-true, lt-ltb, eq-eqb, ne_eqb, eqb-true}
+use Rattle.std.proofs.Common.{◌≡◌, ℕ, zero, suc, ◌+◌, ◌*◌, ◌%◌, ◌^◌, ◌<◌, ◌≤◌, Bool, true, false, eqb, ltb, ◌≢◌, ◌⊎◌}
+use Rattle.std.proofs.Common.{◌↔◌, List, length, sym, refl, ap, ◌∙◌, subst, inl, inr, arith, ltb-false, ltb-true}
+use Rattle.std.proofs.Common.{lt-ltb, eq-eqb, ne_eqb, eqb-true}
 use native.Mathlib.Decide.{dec_lt}
 use lib.ListN.{get_or-eq_default}
 use borrow.Author.Tests.{eqb-false}
@@ -40,7 +42,8 @@ module _ (file bases : List ℕ) (from : ℕ) where
   unfolding bases_from
   from_why i zero f h = not_failed h
   from_why i (suc n) f h =
-      go (pick_failed (entry_bad file bases i) (refusal fault.bad_base (from + i)) (bases_from file bases from (i + 1) n)
+      go (pick_failed (entry_bad file bases i) (refusal fault.bad_base (from + i))
+      (bases_from file bases from (i + 1) n)
       f h) (from_why (i + 1) n f)
     where
       go : ((entry_bad file bases i ≡ true) × (f ≡ refusal fault.bad_base (from + i)))
@@ -183,7 +186,8 @@ module _ (file bases : List ℕ) where
   unfolding entry_bad pick
   entry_there i h = go (eqb (amount_of bases i % 4) 0) refl h
     where
-      two : (ltb (2 ^ 32) (top_of file bases i) ≡ true) ⊎ (shares file bases i i ≡ true) → BadEntry (size_of file) bases i
+      two : (ltb (2 ^ 32) (top_of file bases i) ≡ true) ⊎ (shares file bases i i ≡ true)
+          → BadEntry (size_of file) bases i
       two (inl x) = inr (inl (ltb-true _ _ x))
       two (inr x) = inr (inr (shares_there i i x))
 

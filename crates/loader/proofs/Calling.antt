@@ -1,5 +1,6 @@
 -- The calls leave what they promise: laws for the returns of their code. Assumes nothing.
-use Rattle.std.proofs.Common.{◌≡◌, ℕ, ◌*◌, ◌%◌, ◌<◌, ◌≤◌, List, ◌++◌, length, drop, replicate, sym, refl, ap, ◌∙◌, arith}
+use Rattle.std.proofs.Common.{◌≡◌, ℕ, ◌*◌, ◌%◌, ◌<◌, ◌≤◌, List, ◌++◌, length, drop, replicate, sym, refl, ap, ◌∙◌}
+use Rattle.std.proofs.Common.{arith}
 use lib.ListN.{length-replicate}
 use Rattle.words.specs.Shift.{shift_all}
 use Rattle.words.proofs.Shifts.{shift_all_agree}

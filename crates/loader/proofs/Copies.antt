@@ -1,5 +1,7 @@
 -- Loops that write numbers one after the other. Assumes nothing.
-use Rattle.std.proofs.Common.{◌≡◌, ℕ, ◌+◌, ◌%◌, ◌^◌, ◌<◌, ◌≤◌, ◌≢◌, List, [], ◌∷◌, ◌++◌, length, get_or, take, drop, set, sym, refl, ap, ◌∙◌, append_assoc, add-one, arith, length-append, length-set, take-append-drop, length-take-le, take_all, get_or-set_other, take-suc, get_or-set_same}
+use Rattle.std.proofs.Common.{◌≡◌, ℕ, ◌+◌, ◌%◌, ◌^◌, ◌<◌, ◌≤◌, ◌≢◌, List, [], ◌∷◌, ◌++◌, length, get_or, take, drop}
+use Rattle.std.proofs.Common.{set, sym, refl, ap, ◌∙◌, append_assoc, add-one, arith, length-append, length-set}
+use Rattle.std.proofs.Common.{take-append-drop, length-take-le, take_all, get_or-set_other, take-suc, get_or-set_same}
 use native.Mathlib.Decide.{dec_lt}
 use lib.Seq.{set_at}
 use Rattle.loader.specs.Memory.{amount_of, moved}

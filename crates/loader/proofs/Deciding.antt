@@ -86,7 +86,8 @@ module _ (file : List ℕ) (m r w t n : ℕ) where
   unfolding move_answer load_answer
   move_exactly old new = (there, back)
     where
-      there : last_tests file (also (also (check_of file) (bases_fault file old 0)) (bases_fault file new (total_of file)))
+      there : last_tests file
+          (also (also (check_of file) (bases_fault file old 0)) (bases_fault file new (total_of file)))
           m r w ≡ Accepted t n
           → (last_tests file (also (check_of file) (bases_fault file old 0)) m r w ≡ Accepted t n)
           × (bases_fault file new (total_of file) ≡ Passed)
@@ -99,7 +100,8 @@ module _ (file : List ℕ) (m r w t n : ℕ) where
 
       back : (last_tests file (also (check_of file) (bases_fault file old 0)) m r w ≡ Accepted t n)
           × (bases_fault file new (total_of file) ≡ Passed)
-          → last_tests file (also (also (check_of file) (bases_fault file old 0)) (bases_fault file new (total_of file))) m
+          → last_tests file (also (also (check_of file) (bases_fault file old 0))
+          (bases_fault file new (total_of file))) m
           r w ≡ Accepted t n
       back h =
           let a =

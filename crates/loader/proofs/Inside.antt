@@ -1,5 +1,6 @@
 -- All that a sound file asks for lies inside: its targets, their hunks, its records. Assumes nothing.
-use Rattle.std.proofs.Common.{◌≡◌, ℕ, ◌+◌, ◌≤◌, List, [], ◌∷◌, length, drop, replicate, refl, ◌∙◌, arith, length-append, length-drop}
+use Rattle.std.proofs.Common.{◌≡◌, ℕ, ◌+◌, ◌≤◌, List, [], ◌∷◌, length, drop, replicate, refl, ◌∙◌, arith, length-append}
+use Rattle.std.proofs.Common.{length-drop}
 use lib.ListN.{length-replicate}
 use Rattle.words.specs.Shift.{Target}
 use Rattle.words.proofs.Shifts.{Within, Keyed}

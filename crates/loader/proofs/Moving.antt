@@ -1,6 +1,8 @@
 -- The laws of moving: a load at A moved to B is a load at B; A to B to C is A to C; A to A changes nothing; A to B to
 -- A restores. From accepted loads it follows that these moves are accepted. Assumes nothing.
-use Rattle.std.proofs.Common.{◌≡◌, ℕ, ◌+◌, ◌-◌, ◌*◌, ◌%◌, ◌^◌, ◌≤◌, Bool, true, false, ◌⊎◌, List, [], ◌∷◌, ◌++◌, length, drop, replicate, sym, refl, ap, ◌∙◌, ap₂, inl, inr, ⊎_elim, arith, length-append, length-drop, length-take-le, drop_at}
+use Rattle.std.proofs.Common.{◌≡◌, ℕ, ◌+◌, ◌-◌, ◌*◌, ◌%◌, ◌^◌, ◌≤◌, Bool, true, false, ◌⊎◌, List, [], ◌∷◌, ◌++◌, length}
+use Rattle.std.proofs.Common.{drop, replicate, sym, refl, ap, ◌∙◌, ap₂, inl, inr, ⊎_elim, arith, length-append}
+use Rattle.std.proofs.Common.{length-drop, length-take-le, drop_at}
 use lib.ListN.{length-replicate}
 use Rattle.answers.specs.Numbers as fault
 use Rattle.words.specs.Shift.{Target}
@@ -110,7 +112,8 @@ module _ (file : List ℕ) (s : HeaderFits file) (c : clash_of file ≡ Passed) 
     memory_load_move A B a =
         shift_all_moved (bodies_of file m) (targets_of file) (amount_of A) (moved A B) (amount_of B)
         (λ k. let l = a k in omega arith) (apart [] (targets_of file) c)
-        (within_more (loaded_of file) _ (targets_of file) (omega (arith, length_bodies file m h)) (within_targets file s))
+        (within_more (loaded_of file) _ (targets_of file) (omega (arith, length_bodies file m h))
+        (within_targets file s))
 
     memory_move_move : (A B C : List ℕ) → Low A → Low B → move_of file B C (move_of file A B m) ≡ move_of file A C m
     memory_move_move A B C a b =

@@ -1,6 +1,7 @@
 -- Each target of a page stands in its hunk, at the offset that the file's word at its byte says; so targets that are
 -- near are of one hunk. Assumes nothing.
-use Rattle.std.proofs.Common.{◌≡◌, ℕ, zero, suc, ◌+◌, ◌-◌, ◌*◌, ◌/◌, ◌<◌, ◌≤◌, ◌⊎◌, List, [], ◌∷◌, ◌++◌, length, sym, refl, ap, ◌∙◌, subst, inl, inr, ⊎_elim, append_assoc, arith}
+use Rattle.std.proofs.Common.{◌≡◌, ℕ, zero, suc, ◌+◌, ◌-◌, ◌*◌, ◌/◌, ◌<◌, ◌≤◌, ◌⊎◌, List, [], ◌∷◌, ◌++◌, length, sym}
+use Rattle.std.proofs.Common.{refl, ap, ◌∙◌, subst, inl, inr, ⊎_elim, append_assoc, arith}
 use native.Mathlib.Decide.{dec_lt}
 use Rattle.program.specs.Types as type
 use Rattle.words.specs.Word.{word_at, words_at}
@@ -135,7 +136,8 @@ module _ (file : List ℕ) (places sizes : ℕ → ℕ) where
       let q : hunk_words h ++ rest ≡ front ++ (parts ++ (type.end ∷ rest)) = simp append_assoc in
       let s = split file (hunk_words h) rest at m e in
       let u = split file front (parts ++ (type.end ∷ rest)) at m (e ∙ q) in
-      each_append Stands (hunk_at i p at h) (hunks_at (i + 1) (p + 4 * h.space.size) (at + 4 * length (hunk_words h)) hs)
+      each_append Stands (hunk_at i p at h)
+      (hunks_at (i + 1) (p + 4 * h.space.size) (at + 4 * length (hunk_words h)) hs)
       (parts_stand t n i p ep en h.parts (type.end ∷ rest) _ _ f.0.parts u.others)
       (hunks_stand t hs (i + 1) (p + 4 * h.space.size) _ _ f.1
       (λ k. let y : i + suc k ≡ i + 1 + k = omega arith in omega (arith, rw y at (g (suc k))))

@@ -1,6 +1,7 @@
 -- What hunks, written out, ask for: each its record, its stored words and its targets with their bytes in the file,
 -- in order. Assumes nothing.
-use Rattle.std.proofs.Common.{◌≡◌, ℕ, suc, ◌+◌, ◌-◌, ◌*◌, ◌/◌, ◌%◌, ◌<◌, ◌≤◌, false, eqb, ◌≢◌, List, [], ◌∷◌, ◌++◌, length, refl, ap, ◌∙◌, append_assoc, arith, length-append, le-ltb, lt-ltb, eq-eqb, ne_eqb}
+use Rattle.std.proofs.Common.{◌≡◌, ℕ, suc, ◌+◌, ◌-◌, ◌*◌, ◌/◌, ◌%◌, ◌<◌, ◌≤◌, false, eqb, ◌≢◌, List, [], ◌∷◌, ◌++◌}
+use Rattle.std.proofs.Common.{length, refl, ap, ◌∙◌, append_assoc, arith, length-append, le-ltb, lt-ltb, eq-eqb, ne_eqb}
 use borrow.Author.Tests.{lt-leb}
 use Rattle.program.specs.Types as type
 use Rattle.words.specs.Word.{words_at}

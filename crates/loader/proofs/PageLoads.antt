@@ -1,6 +1,7 @@
 -- A load of a file that is hunks, written out, in the terms of the page: its records, its memory, its targets with
 -- their bytes in the file. Assumes nothing.
-use Rattle.std.proofs.Common.{◌≡◌, ℕ, suc, ◌+◌, ◌-◌, ◌*◌, ◌/◌, ◌%◌, ◌≤◌, List, [], ◌∷◌, ◌++◌, map, length, take, drop, replicate, sym, refl, ap, ◌∙◌, append_assoc, arith, length-append, take_at}
+use Rattle.std.proofs.Common.{◌≡◌, ℕ, suc, ◌+◌, ◌-◌, ◌*◌, ◌/◌, ◌%◌, ◌≤◌, List, [], ◌∷◌, ◌++◌, map, length, take, drop}
+use Rattle.std.proofs.Common.{replicate, sym, refl, ap, ◌∙◌, append_assoc, arith, length-append, take_at}
 use mathlib.Core.List.{map-append}
 use lib.ListN.{length-replicate, replicate-append-replicate}
 use Rattle.words.specs.Word.{words_at, set_word}

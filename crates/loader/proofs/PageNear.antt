@@ -1,6 +1,7 @@
 -- 42 in the terms of the page: it is given at the first target that is near an earlier one of its hunk, at its byte
 -- in the file. Assumes nothing.
-use Rattle.std.proofs.Common.{◌≡◌, ℕ, ◌+◌, ◌<◌, ◌↔◌, List, [], ◌∷◌, ◌++◌, map, sym, refl, ap, ◌∙◌, subst, ap₂, inl, inr, arith}
+use Rattle.std.proofs.Common.{◌≡◌, ℕ, ◌+◌, ◌<◌, ◌↔◌, List, [], ◌∷◌, ◌++◌, map, sym, refl, ap, ◌∙◌, subst, ap₂, inl, inr}
+use Rattle.std.proofs.Common.{arith}
 use mathlib.Core.List.{map-append}
 use native.Mathlib.Decide.{dec_lt}
 use Rattle.answers.specs.Numbers as fault

@@ -1,6 +1,7 @@
 -- A load and a move in the terms of the page: when a call is accepted, and when each of 40, 41 and 42 is given, and
 -- where. Each is said once, of a call that is lent lists of bases. Assumes nothing.
-use Rattle.std.proofs.Common.{◌≡◌, ℕ, ◌+◌, ◌*◌, ◌↔◌, List, [], ◌∷◌, length, sym, refl, ap, ◌∙◌, subst, ap₂, inl, inr, arith}
+use Rattle.std.proofs.Common.{◌≡◌, ℕ, ◌+◌, ◌*◌, ◌↔◌, List, [], ◌∷◌, length, sym, refl, ap, ◌∙◌, subst, ap₂, inl, inr}
+use Rattle.std.proofs.Common.{arith}
 use Rattle.answers.specs.Numbers as fault
 use Rattle.answers.specs.Refusals.{refusal}
 use Rattle.answers.specs.declared.Refusal.{Refusal}
@@ -234,7 +235,8 @@ module _ (file : List ℕ) (lists : List (List ℕ)) (m r w : ℕ) where
       where
         go : CallWhy file lists m r w (refusal fault.short_room p)
             → (hs : List Hunk) × Holds file hs × Refuses41 hs lists m r w p
-        go (inl x) = unlisted check_refusals fault.short_room 41 tt (check_number file (refusal fault.short_room p) x) refl
+        go (inl x) = unlisted check_refusals fault.short_room 41 tt
+            (check_number file (refusal fault.short_room p) x) refl
         go (inr (hs, h, q, inl (e, y))) = absurd (omega (arith, number_of e))
         go (inr (hs, h, q, inr (inl (e, y)))) = (hs, h, (y.0, y.1, place_of e ∙ y.2))
         go (inr (hs, h, q, inr (inr (e, y)))) = absurd (omega (arith, number_of e))
@@ -289,7 +291,8 @@ module _ (file old new : List ℕ) (m r w : ℕ) where
       ↔ ((hs : List Hunk) × Holds file hs × Takes hs (old ∷ new ∷ []) m r w t n)
   move_accepted t n = rw (move_call file old new m r w) (call_accepted file (old ∷ new ∷ []) m r w t n)
 
-  pub move_refused : (f : Refusal) → (move_answer file old new m r w ≡ Refused f) ↔ CallWhy file (old ∷ new ∷ []) m r w f
+  pub move_refused : (f : Refusal) → (move_answer file old new m r w ≡ Refused f)
+      ↔ CallWhy file (old ∷ new ∷ []) m r w f
   move_refused f = rw (move_call file old new m r w) (call_refused file (old ∷ new ∷ []) m r w f)
 
   pub move_40_exactly : (p : ℕ)

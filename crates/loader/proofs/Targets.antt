@@ -1,6 +1,7 @@
 -- An accepted load leaves at each target the stored word and the base of its hunk, and an accepted move what stood
 -- there and new minus old base, modulo 2^32; a move changes no other byte. Assumes nothing.
-use Rattle.std.proofs.Common.{◌≡◌, ℕ, ◌+◌, ◌*◌, ◌%◌, ◌^◌, ◌≤◌, List, [], ◌∷◌, ◌++◌, map, length, get_or, sym, refl, ap, ◌∙◌, subst, arith}
+use Rattle.std.proofs.Common.{◌≡◌, ℕ, ◌+◌, ◌*◌, ◌%◌, ◌^◌, ◌≤◌, List, [], ◌∷◌, ◌++◌, map, length, get_or, sym, refl, ap}
+use Rattle.std.proofs.Common.{◌∙◌, subst, arith}
 use lib.ListN.{get_or-append}
 use Rattle.words.specs.Word.{word_at}
 use Rattle.words.specs.Shift.{shift_all}
@@ -88,7 +89,8 @@ module _ (file : List ℕ) (hs : List Hunk) (held : Holds file hs) where
           adds_bare m m' (file_targets hs) (moved old new) (rw (l.shifted, ← theirs) a)
 
       -- every other byte is as it was
-      pub move_others_stay : (length m' ≡ length m) × ((k : ℕ) → Outside k (file_targets hs) → get_or m' k 0 ≡ get_or m k 0)
+      pub move_others_stay : (length m' ≡ length m)
+          × ((k : ℕ) → Outside k (file_targets hs) → get_or m' k 0 ≡ get_or m k 0)
       move_others_stay = (
         ap length l.shifted ∙ length_shift_all m (targets_of file) (moved old new),
         λ k o. ap (λ (u : List ℕ). get_or u k 0) l.shifted ∙ others_stay m (moved old new) k o,

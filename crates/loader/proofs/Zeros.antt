@@ -1,5 +1,6 @@
 -- A work area of zeros, and its front, in which marks are set and cleared. Assumes nothing.
-use Rattle.std.proofs.Common.{◌≡◌, ℕ, zero, suc, ◌+◌, ◌-◌, ◌≤◌, List, ◌++◌, length, get_or, take, drop, replicate, sym, refl, ap, ◌∙◌, arith, length-take-le, take_at, drop_at}
+use Rattle.std.proofs.Common.{◌≡◌, ℕ, zero, suc, ◌+◌, ◌-◌, ◌≤◌, List, ◌++◌, length, get_or, take, drop, replicate, sym}
+use Rattle.std.proofs.Common.{refl, ap, ◌∙◌, arith, length-take-le, take_at, drop_at}
 use lib.ListN.{length-replicate, replicate-append-replicate}
 use Rattle.loader.specs.Memory.{loaded_of}
 

@@ -1,6 +1,7 @@
 -- A load in the terms of the page: records, memory and targets of a list of hunks that stand end to end
 -- (docs/FORMAT.md, "The program file").
-use Rattle.std.specs.Prelude.{◌≡◌, ℕ, zero, suc, ◌+◌, ◌-◌, ◌*◌, ◌/◌, ◌%◌, ◌^◌, ◌<◌, ◌≤◌, ◌⊎◌, List, [], ◌∷◌, ◌++◌, map, length, take, drop, replicate}
+use Rattle.std.specs.Prelude.{◌≡◌, ℕ, zero, suc, ◌+◌, ◌-◌, ◌*◌, ◌/◌, ◌%◌, ◌^◌, ◌<◌, ◌≤◌, ◌⊎◌, List, [], ◌∷◌, ◌++◌, map}
+use Rattle.std.specs.Prelude.{length, take, drop, replicate}
 use Rattle.program.specs.Types as type
 use Rattle.words.specs.Word.{word_at}
 use Rattle.words.specs.Shift.{Target, shift_all}
@@ -52,7 +53,8 @@ pub record PageTarget : Type 0 where
 -- stands at byte `at` of the file
 abbrev pub offsets_at : ℕ → ℕ → ℕ → ℕ → List ℕ → List PageTarget
 offsets_at i p k at [] = []
-offsets_at i p k at (o ∷ os) = record { hunk = i; loaded_at = p + o; named = k; byte = at } ∷ offsets_at i p k (at + 4) os
+offsets_at i p k at (o ∷ os) =
+    record { hunk = i; loaded_at = p + o; named = k; byte = at } ∷ offsets_at i p k (at + 4) os
 
 -- of groups from byte `at` on: in each, the offsets follow two words
 abbrev pub groups_at : ℕ → ℕ → ℕ → List Group → List PageTarget

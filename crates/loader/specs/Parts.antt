@@ -1,6 +1,7 @@
 -- What the parts of the code ask and tell each other: the core, which is lent a number of records and hands their
 -- numbers back, the passes, and the marks. Nothing that a call promises is said here; that is Calls.
-use Rattle.std.specs.Prelude.{◌≡◌, ℕ, ◌+◌, ◌*◌, ◌%◌, ◌<◌, ◌≤◌, Bool, true, false, List, [], ◌∷◌, ◌++◌, length, take, drop, replicate, ◌≢◌}
+use Rattle.std.specs.Prelude.{◌≡◌, ℕ, ◌+◌, ◌*◌, ◌%◌, ◌<◌, ◌≤◌, Bool, true, false, List, [], ◌∷◌, ◌++◌, length, take}
+use Rattle.std.specs.Prelude.{drop, replicate, ◌≢◌}
 use Rattle.words.specs.Word.{word_at, set_word}
 use Rattle.program.specs.Types as type
 use Rattle.program.specs.declared.act.Act.{Act}
@@ -87,7 +88,8 @@ pub record Writes (m n memory' numbers' : List ℕ) : Type 0 where
 
 -- the records at the bases, in room for 64; zeros where refused
 abbrev pub handed : List ℕ → List ℕ → Answer → List ℕ
-handed file bases a = effect a (with_records file bases (replicate table_room 0) (acts_of file)) (replicate table_room 0)
+handed file bases a =
+    effect a (with_records file bases (replicate table_room 0) (acts_of file)) (replicate table_room 0)
 
 pub record LoadsCore (file bases memory work : List ℕ) (records : ℕ)
     (o : Outcome) (memory' work' : List ℕ) : Type 0 where

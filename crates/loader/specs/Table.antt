@@ -38,7 +38,8 @@ table_room = record_length * type.most_hunks
 
 -- the records of a file's hunks, one after the other
 unfoldable pub records_of : List ℕ → List ℕ → List ℕ
-records_of file bases = take (record_length * total_of file) (with_records file bases (replicate table_room 0) (acts_of file))
+records_of file bases =
+    take (record_length * total_of file) (with_records file bases (replicate table_room 0) (acts_of file))
 
 -- a table gets them, and its further numbers stay
 abbrev pub table_of : List ℕ → List ℕ → List ℕ → List ℕ

@@ -36,7 +36,8 @@ pub record GoodEntry (size : ℕ → ℕ) (bases : List ℕ) (i : ℕ) : Type 0 
 -- what is wrong with entry i
 abbrev pub BadEntry : (ℕ → ℕ) → List ℕ → ℕ → Type 0
 BadEntry size bases i =
-    (amount_of bases i % 4 ≢ 0) ⊎ (2 ^ 32 < amount_of bases i + 4 * size i) ⊎ ((j : ℕ) × (j < i) × Shared size bases i j)
+    (amount_of bases i % 4 ≢ 0) ⊎ (2 ^ 32 < amount_of bases i + 4 * size i)
+    ⊎ ((j : ℕ) × (j < i) × Shared size bases i j)
 
 -- exactly a base for each hunk, and every entry is good
 pub record GoodBases (hs : List Hunk) (bases : List ℕ) : Type 0 where

@@ -150,7 +150,8 @@ module _ (d : Disk) (s : List ℕ) (v : Tree d s) where
         let b = chain_key s (slot_word s t i) q in
         let g : Hangs s t i b =
         record { slot = h.slot; position = q; there = refl; some = hang_some q (omega arith) } in
-        let f = (held_by d s v t holder).names i i b k g h (ap (λ x. folded d (name_of s x)) (sym (position_is q)) ∙ e) in
+        let f = (held_by d s v t holder).names i i b k g h
+        (ap (λ x. folded d (name_of s x)) (sym (position_is q)) ∙ e) in
         chain_apart d s t i holder h.slot v.owned q h.position l (hang_some h.position (omega arith))
         (f ∙ sym h.there)
 

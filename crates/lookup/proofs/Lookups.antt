@@ -185,7 +185,8 @@ module _ (d : Disk) (s path : List ℕ) (n : ℕ) (e : n ≡ image_bytes d) wher
   find_long r q p = p ∙ (rw (← e, ne_eqb (length s) n q))
 
   module _ (l : length s ≡ n) (form : Tested) (f : form ≡ path_fault path) where
-    tested : and form (pick (eqb (word_at s 0) (tag_of d)) (from_root d s path) (refuse fault.boot_tag 0)) ≡ find_of d s path
+    tested : and form (pick (eqb (word_at s 0) (tag_of d)) (from_root d s path) (refuse fault.boot_tag 0))
+        ≡ find_of d s path
     unfolding find_of pick
     tested = rw (← f, eq-eqb (length s) (image_bytes d) (l ∙ e))
 

@@ -174,7 +174,8 @@ module _ (d : Disk) (s : List ℕ) (t : ℕ) (name : List ℕ) where
   pub outcome : Outcome (search_of d s t name)
   outcome = let h = searched d s t name in go h.position h.others h.decides
     where
-      go : (p : ℕ) → Others d s t name 0 p → Decides d s t name p (search_of d s t name) → Outcome (search_of d s t name)
+      go : (p : ℕ) → Others d s t name 0 p → Decides d s t name p (search_of d s t name)
+          → Outcome (search_of d s t name)
       go p o (equal a b q) = at p (record { tests = a; named = b; others = o }) q
       go p o (over a q) = ended p (record { ended = a; others = o }) q
       go p o (fails a b q) = faulty p (record { some = a; fault = b; others = o }) q

@@ -201,7 +201,8 @@ module _ (d : Disk) (s path : List ℕ) where
       go (number_20 h a) = h
 
   -- 1 if and only if the image has another length.
-  pub length_exactly : (k : ℕ) → (find_of d s path ≡ refuse fault.image_length k) ↔ ((k ≡ 0) × (length s ≢ image_bytes d))
+  pub length_exactly : (k : ℕ) → (find_of d s path ≡ refuse fault.image_length k)
+      ↔ ((k ≡ 0) × (length s ≢ image_bytes d))
   length_exactly k = ((λ e. go ((refused_exactly 1 k).0 e)), (λ (q, h). (refused_exactly 1 k).1 (number_1 h refl q)))
     where
       go : Refuses d s path 1 k → (k ≡ 0) × (length s ≢ image_bytes d)

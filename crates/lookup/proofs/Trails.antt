@@ -116,7 +116,8 @@ module _ (d : Disk) (s : List ℕ) where
           → Leads d s t i n (c ∷ cs) (lookup_from d s t i n (c ∷ cs))
       ends [] x p f e =
           let y : 0 + (p + 1) ≡ p + 1 = omega arith in
-          file (first t c cs) p f e x (rw y (is p f e ∙ ap (λ l. file_at s i (n + (p + 1)) l (position_key d s t c p)) x))
+          file (first t c cs) p f e x
+          (rw y (is p f e ∙ ap (λ l. file_at s i (n + (p + 1)) l (position_key d s t c p)) x))
       ends (b ∷ l) x p f e =
           used (first t c cs) p f e (λ y. impossible cc)
           (is p f e ∙ ap (λ l. file_at s i (n + (p + 1)) l (position_key d s t c p)) x ∙ (rw here))

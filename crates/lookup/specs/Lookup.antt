@@ -62,7 +62,8 @@ lookup_from d s t i n (c ∷ cs) = stepped s i n cs (λ k m. lookup_from d s k (
 -- the root's tests, then all components
 unfoldable pub from_root : Disk → List ℕ → List ℕ → Found
 from_root d s path =
-    pick (eqb (root_fault d s) 0) (lookup_from d s (root_of d) 0 0 (components path)) (refuse (root_fault d s) (root_of d))
+    pick (eqb (root_fault d s) 0) (lookup_from d s (root_of d) 0 0 (components path))
+    (refuse (root_fault d s) (root_of d))
 
 -- what follows tests
 abbrev pub and : Tested → Found → Found

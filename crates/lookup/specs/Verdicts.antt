@@ -101,7 +101,8 @@ pub data Refuses (d : Disk) (s path : List ℕ) (v k : ℕ) : Type 0 where
   number_3 : length s ≡ image_bytes d → GoodForm path → word_at s 0 ≢ tag_of d → v ≡ fault.boot_tag → k ≡ 0
       → Refuses d s path v k
   -- 7, 8, 4 and 11: the root breaks the law as that number says
-  of_root : length s ≡ image_bytes d → GoodForm path → word_at s 0 ≡ tag_of d → RootBreaks s (root_of d) v → k ≡ root_of d
+  of_root : length s ≡ image_bytes d → GoodForm path → word_at s 0 ≡ tag_of d → RootBreaks s (root_of d) v
+      → k ≡ root_of d
       → Refuses d s path v k
   number_5 : Stands d s path k → (Inside d k → ⊥) → v ≡ fault.bad_key → Refuses d s path v k
   -- as many entries as a chain may have were compared

@@ -153,7 +153,8 @@ module _ (t w : ℕ) where
   both_late (suc zero) e = absurd (must_not (eqb w 0) fault.library (λ z. omega arith) e)
   both_late (suc (suc zero)) e = absurd (go (eqb w 0) e)
     where
-      go : (b : Bool) → pick b fault.header_word (must (leb w type.most_hunks) fault.header_word) ≡ fault.both_memories → ⊥
+      go : (b : Bool) → pick b fault.header_word (must (leb w type.most_hunks) fault.header_word) ≡ fault.both_memories
+          → ⊥
       go true x = omega arith
       go false x = must_not (leb w type.most_hunks) fault.header_word (λ z. omega arith) x
   both_late (suc (suc (suc zero))) e = absurd (must_not (eqb w 0) fault.header_word (λ z. omega arith) e)

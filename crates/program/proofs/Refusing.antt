@@ -216,7 +216,8 @@ module _ (file : List ℕ) (f : Refusal) where
       go (inl x) = absurd (c.unended x.0)
       go (inr x) = x.1
 
-  whole_check : GoodLength file → check_of file ≡ and (heads file 0 5) (and (heads file 5 (total_of file)) (walk_of file))
+  whole_check : GoodLength file
+      → check_of file ≡ and (heads file 0 5) (and (heads file 5 (total_of file)) (walk_of file))
   unfolding check_of pick
   whole_check w = rw (ne_eqb _ _ w.0, eq-eqb _ _ w.1)
 

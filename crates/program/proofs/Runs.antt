@@ -190,7 +190,8 @@ module _ (file : List ℕ) (c : Cursor) (at : ℕ) (i : Reads file c at) where
 
 pub passing_turn : (g : List ℕ → Act → List ℕ) (file x₀ x : List ℕ) (c d e : Cursor) (at w : ℕ) (r : Next) (a : Act)
     (y : List ℕ) (to : ℕ)
-    → Passing g file x₀ x c at → at < length file → w ≡ word_at file at → r ≡ step_of (total_of file) (space_of file) c w
+    → Passing g file x₀ x c at → at < length file → w ≡ word_at file at
+    → r ≡ step_of (total_of file) (space_of file) c w
     → r ≡ On d → a ≡ act_of c at w → y ≡ g x a → Leads file d (at + 4) e to
     → ((z : List ℕ) (b : Act) → length (g z b) ≡ length z) → ((z : List ℕ) (b : Act) → QuietOrStore b → g z b ≡ z)
     → Passing g file x₀ y e to

@@ -144,7 +144,8 @@ module _ (t : ℕ) (space : ℕ → Space) (h p w : ℕ) (d : Cursor) where
               offsets = each_snoc (OffsetFits s) os w f.2 o;
             }
 
-        last : length (os ▹ w) ≡ n → part_so_far (an_offset gs n k os) ▹ w ≡ part_so_far (a_count (gs ▹ group_of k (os ▹ w)))
+        last : length (os ▹ w) ≡ n
+            → part_so_far (an_offset gs n k os) ▹ w ≡ part_so_far (a_count (gs ▹ group_of k (os ▹ w)))
         last e =
             ap (λ (l : List ℕ). type.relocation ∷ l)
             (append_assoc (joined group_words gs) (n ∷ k ∷ os) (w ∷ [])
@@ -154,7 +155,8 @@ module _ (t : ℕ) (space : ℕ → Space) (h p w : ℕ) (d : Cursor) where
     part_step : (q : PartBegun) → PartBegunFits t s q → turn t space (cursor (part_mode q) h p s) w (part_mode q) ≡ On d
         → PartStep q
     part_step a_part f =
-        pick_on (eqb w type.relocation) _ _ (On d) (λ e x. inl (a_count [], tt, cons (eqb-true _ _ e) refl, on_on _ d x))
+        pick_on (eqb w type.relocation) _ _ (On d)
+        (λ e x. inl (a_count [], tt, cons (eqb-true _ _ e) refl, on_on _ d x))
         (λ _. pick_on (eqb w type.symbols) _ _ (On d)
         (λ e x. inl (a_symbol [], tt, cons (eqb-true _ _ e) refl, on_on _ d x))
         (λ _. pick_on (eqb w type.debug) _ _ (On d)
@@ -372,7 +374,8 @@ module _ (t : ℕ) (space : ℕ → Space) (h p w : ℕ) (d : Cursor) where
 
       -- one whole part more
       parted : (y : Part)
-          → name_words x ++ body_words b ++ joined part_words ps ++ part_words y ≡ so_far (after_body x b (ps ▹ y) a_part)
+          → name_words x ++ body_words b ++ joined part_words ps ++ part_words y
+          ≡ so_far (after_body x b (ps ▹ y) a_part)
       parted y =
           append_assoc (name_words x ++ body_words b) (joined part_words ps) (part_words y)
           ∙ ap (λ (l : List ℕ). name_words x ++ body_words b ++ l) (sym (joined_snoc part_words ps y))
@@ -471,7 +474,8 @@ module _ (file : List ℕ) (whole : length file % 4 ≡ 0) (s : HeaderFits file)
           })
 
   -- a word that is taken
-  word_on : (c d : Cursor) (at : ℕ) → at < length file → step_of (total_of file) (space_of file) c (word_at file at) ≡ On d
+  word_on : (c d : Cursor) (at : ℕ) → at < length file
+      → step_of (total_of file) (space_of file) c (word_at file at) ≡ On d
       → Within file c at ⊎ Past file c at → Within file d (at + 4) ⊎ Past file d (at + 4)
   unfolding step_of
   word_on c d at l e (inl r) =

@@ -21,7 +21,8 @@ module _ (d : Disk) (s path : List ℕ) (o n v k : ℕ) where
   pub refused_number : read_of d s path o n ≡ refuse v k → v ∈ read_refusals
   refused_number e =
       ⊎_elim (λ f. in_part find_refusals read_refusals v tt (lookup.refused_number d s path v k f))
-      (λ m. in_part after_lookup read_refusals v tt m) (after_lookup_lem d s path v k ((refused_exactly d s path o n v k).0 e))
+      (λ m. in_part after_lookup read_refusals v tt m)
+      (after_lookup_lem d s path v k ((refused_exactly d s path o n v k).0 e))
 
 module _ (d : Disk) (s path : List ℕ) (o : ℕ) (output : List ℕ) (r : Reading) (output' : List ℕ)
     (a : Reads d s path o output r output') where

@@ -18,7 +18,8 @@ use Rattle.reach.proofs.Lists.{in_left, in_right, in_either, in_at, in_map}
 use Rattle.volume.specs.declared.disk.Disk.{Disk}
 use Rattle.volume.specs.Disks.{root_of}
 use Rattle.volume.specs.Blocks.{slots, word_of, directory}
-use Rattle.volume.specs.Files.{keys_here, list_blocks, keys_down, lists_from, keys_from, size_of, blocks_of, lists_of, keys_of}
+use Rattle.volume.specs.Files.{keys_here, list_blocks, keys_down, lists_from, keys_from, size_of, blocks_of, lists_of}
+use Rattle.volume.specs.Files.{keys_of}
 use Rattle.volume.specs.References.{Kind, Ref, to, link, key_refs, slot_refs, refers_to, references}
 use Rattle.volume.specs.Law.{KeyCount, File, Tree}
 use Rattle.walk.specs.Nodes.{before}

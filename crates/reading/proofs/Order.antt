@@ -143,7 +143,8 @@ module _ (d : Disk) (s : List ℕ) (h : ℕ) where
           let w : m + slots + slots * suc j ≡ m + slots * suc (suc j) = omega arith in
           (f.0, at_right _ _ (suc (slots * suc j + j)) nodes next (omega (arith, long)) (rw w at f.1))
 
-  nodes_count : (q b m c r : ℕ) → r ≡ blocks_of d s h - m → q ≡ list_blocks r → length (blocks_from d s h b m c q) ≡ r + q
+  nodes_count : (q b m c r : ℕ) → r ≡ blocks_of d s h - m → q ≡ list_blocks r
+      → length (blocks_from d s h b m c q) ≡ r + q
   unfolding blocks_from
   nodes_count zero b m c r x y = nodes_long s h b m c (here m) 0 ∙ omega (arith, x, y)
   nodes_count (suc q) b m c r x y =
@@ -173,7 +174,8 @@ module _ (d : Disk) (s : List ℕ) (h : ℕ) where
   -- and there are no others
   pub data Stands (t : ℕ) (x : Node) : Type 0 where
     is_data_lem : (i k c : ℕ) → IsData d s h i k c → t ≡ i + i / slots → x ≡ datum k h (suc i) c → Stands t x
-    is_list_lem : (j k c : ℕ) → At j k (lists_of d s h) → t ≡ slots * suc j + j → x ≡ list k h (slots * suc j) c → Stands t x
+    is_list_lem : (j k c : ℕ) → At j k (lists_of d s h) → t ≡ slots * suc j + j → x ≡ list k h (slots * suc j) c
+        → Stands t x
 
   pub stands : (t : ℕ) (x : Node) → At t x (file_nodes d s h) → Stands t x
   stands t x a = go (dec_lt (t % suc slots) slots)
@@ -193,7 +195,8 @@ module _ (d : Disk) (s : List ℕ) (h : ℕ) where
           is_data_lem i p.0 g.0 w e (at_one t (file_nodes d s h) a (rw (← e) at (data_position i p.0 g.0 w)))
       go (no l) =
           let j = t / suc slots in
-          let p = at_some j (lists_of d s h) (rw (lists_long s h (list_blocks (blocks_of d s h))) (omega (arith, few))) in
+          let p = at_some j (lists_of d s h)
+          (rw (lists_long s h (list_blocks (blocks_of d s h))) (omega (arith, few))) in
           let e : t ≡ slots * suc j + j = omega arith in
           let g = list_position j p.0 p.1 in
           is_list_lem j p.0 g.0 p.1 e (at_one t (file_nodes d s h) a (rw (← e) at g.1))

@@ -115,7 +115,8 @@ blocks_inside d s k t e q =
     }
 
 -- what is found is a file with a key in the volume
-module _ (d : Disk) (s path : List ℕ) (f : Found) (e : f ≡ find_of d s path) (k z c : ℕ) (g : f ≡ found.File k z c) where
+module _ (d : Disk) (s path : List ℕ) (f : Found) (e : f ≡ find_of d s path) (k z c : ℕ)
+    (g : f ≡ found.File k z c) where
   abbrev is : IsFile d s path k z c
   is = (file_exactly d s path k z c).0 (sym e ∙ g)
 

@@ -22,7 +22,8 @@ use Rattle.volume.specs.References.{Kind}
 use Rattle.volume.specs.Law.{KeyCount, File}
 use Rattle.volume.specs.Rules.{file_fault}
 use Rattle.volume.proofs.Passes.{file_passed, list_passed, data_passed}
-use Rattle.walk.specs.Nodes.{Node, root, bitmap, entry, list, datum, before, key_nodes, key_of, bare, key_fault, fault_of}
+use Rattle.walk.specs.Nodes.{Node, root, bitmap, entry, list, datum, before, key_nodes, key_of, bare, key_fault}
+use Rattle.walk.specs.Nodes.{fault_of}
 use Rattle.walk.proofs.Passes.{key_passed, in_tree, sum_passed}
 use Rattle.walk.proofs.Spreads.{Run, Spread, here, file_spreads}
 use Rattle.walk.proofs.KeyRuns.{NodeFollows, run_nodes}

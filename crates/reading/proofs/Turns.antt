@@ -93,7 +93,8 @@ module _ (d : Disk) (s : List ℕ) (h o : ℕ) (before : List ℕ) where
         upto = omega arith;
         filled = refl;
         kept = refl;
-        rest = part_there d s h g t o (length before) ∙ rw (c, f, sub-zero (min (length before) (size_of s h - o))) refl;
+        rest = part_there d s h g t o (length before)
+            ∙ rw (c, f, sub-zero (min (length before) (size_of s h - o))) refl;
       }
 
   module _ (count bytes : ℕ) (out : List ℕ) (at : Listed) (within done : ℕ)

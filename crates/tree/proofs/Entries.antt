@@ -227,7 +227,8 @@ module _ (d : Disk) (s t : List ℕ)
             go (yes g) later = inr (later g (omega arith))
             go (no g) later = let x : j ≡ i = omega arith in inl (ap (key_word s b) x)
 
-    spread_carried : (q b m c : ℕ) → q ≡ list_blocks (blocks_of d s h - m) → SameList s t b → word_of t c 4 ≡ word_of s c 4
+    spread_carried : (q b m c : ℕ) → q ≡ list_blocks (blocks_of d s h - m) → SameList s t b
+        → word_of t c 4 ≡ word_of s c 4
         → Listed b → Spread d s h q b m c → Spread d t h q b m c
     spread_carried zero b m c e a w f p =
         let n = blocks_of d s h - m in

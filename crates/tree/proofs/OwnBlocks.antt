@@ -174,7 +174,8 @@ module _ (s : List ℕ) where
           go q (inl f) = next (subst (λ z. z ∈ own_of s B) (sym f ∙ q) a)
           go q (inr f) = below_from graph a (subst (Below graph l) q f)
 
-      rest_once : (q b n : ℕ) → Shape q b n → (B : Ref) → own_of s B ≡ key_refs s b → Mine s k B → Once key_of (rest q b n)
+      rest_once : (q b n : ℕ) → Shape q b n → (B : Ref) → own_of s B ≡ key_refs s b → Mine s k B
+          → Once key_of (rest q b n)
       unfolding refers_to
       rest_once zero b n h B e r = subst (Once key_of) (e ∙ refs_last b n h) (single.lists B r)
       rest_once (suc q) b n h B e r =

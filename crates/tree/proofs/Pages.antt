@@ -22,7 +22,8 @@ use Rattle.writes.specs.Writes.{block_of}
 use Rattle.writes.specs.Bits.{free_in, set_bits, map_bits}
 use Rattle.writes.proofs.Mending.{length_mended, sum_mended}
 use Rattle.writes.proofs.Edits.{length_block}
-use Rattle.writes.proofs.Bits.{Ranged, length_set_bits, set_bits_in, set_bits_out, length_map_bits, map_bits_in, mended_bit}
+use Rattle.writes.proofs.Bits.{Ranged, length_set_bits, set_bits_in, set_bits_out, length_map_bits, map_bits_in}
+use Rattle.writes.proofs.Bits.{mended_bit}
 use Rattle.writes.proofs.Bits.{block_bit, block_bytes_lem}
 use Rattle.tree.specs.OwnBlocks.{Own}
 use Rattle.tree.specs.Pages.{page_with, repair_page}

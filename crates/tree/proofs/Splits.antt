@@ -24,7 +24,8 @@ module _ (s : List ℕ) (x : ℕ) where
 
   -- slot i, what comes before it and what comes behind it
   pub slots_around : (i : ℕ) → i < slots
-      → slot_refs s x 0 slots ≡ slot_refs s x 0 i ++ (link Kind.entry (slot_word s x i) ++ slot_refs s x (suc i) (71 - i))
+      → slot_refs s x 0 slots ≡ slot_refs s x 0 i
+      ++ (link Kind.entry (slot_word s x i) ++ slot_refs s x (suc i) (71 - i))
   unfolding slot_refs
   slots_around i l =
       let e : i + suc (71 - i) ≡ slots = omega arith in

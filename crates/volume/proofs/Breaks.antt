@@ -40,7 +40,8 @@ use Rattle.volume.proofs.Checks.{not_good, some, among}
 module _ (s : List ℕ) (r : ℕ) where
   abbrev kinds : List ℕ
   kinds =
-      must (eqb (word_of s r 0) header_type) fault.block_type ∷ must (eqb (word_of s r 127) root_kind) fault.block_type ∷ []
+      must (eqb (word_of s r 0) header_type) fault.block_type ∷ must (eqb (word_of s r 127) root_kind) fault.block_type
+      ∷ []
 
   kind_test : Test fault.block_type (tests kinds) (RootKind s r)
   kind_test =
@@ -111,7 +112,8 @@ module _ (d : Disk) (s : List ℕ) where
 
   root_fault_lem : (v : ℕ) → RootBreaks s r v → (root_fault d s ≡ v) × (v ≢ 0)
   root_fault_lem v (root_7 a e) = (root_order ∙ fall (sum_test s r) _ (some e tt) a e, some e tt)
-  root_fault_lem v (root_8 a b e) = (root_order ∙ on (sum_test s r) _ a (fall (kind_test s r) _ (some e tt) b e), some e tt)
+  root_fault_lem v (root_8 a b e) =
+      (root_order ∙ on (sum_test s r) _ a (fall (kind_test s r) _ (some e tt) b e), some e tt)
   root_fault_lem v (root_4 a b c e) =
       (root_order ∙ on (sum_test s r) _ a (on (kind_test s r) _ b (fall (fixed_test s r) _ (some e tt) c e)), some e tt)
   root_fault_lem v (root_11 a b c n e) = (
@@ -214,7 +216,8 @@ module _ (d : Disk) (s : List ℕ) (k t i : ℕ) where
   abbrev Linked : Type 0
   Linked = w127 ∈ (soft_link ∷ directory_link ∷ file_link ∷ [])
 
-  type_test : Test fault.block_type (must (eqb (word_of s k 0) header_type) fault.block_type) (word_of s k 0 ≡ header_type)
+  type_test : Test fault.block_type (must (eqb (word_of s k 0) header_type) fault.block_type)
+      (word_of s k 0 ≡ header_type)
   type_test = word_test _ _ fault.block_type (search given depth 8) tt
 
   link_test : Test fault.link (tests links) (Linked → ⊥)
@@ -279,7 +282,8 @@ module _ (d : Disk) (s : List ℕ) (k t i : ℕ) where
       link' h true e = pick_true (directory s k) _ _ _ e refl ∙ be _ _ fault.wrong_ties (h.link e)
       link' h false e = pick_false (directory s k) _ _ _ e refl
 
-  slot_test : Test fault.wrong_slot (must (eqb (slot_of d (name_of s k)) i) fault.wrong_slot) (slot_of d (name_of s k) ≡ i)
+  slot_test : Test fault.wrong_slot (must (eqb (slot_of d (name_of s k)) i) fault.wrong_slot)
+      (slot_of d (name_of s k) ≡ i)
   slot_test = word_test _ _ fault.wrong_slot (search given depth 8) tt
 
   entry_order : entry_fault d s k t i ≡ first (must (eqb (sum_of s k) 0) fault.block_sum)
@@ -443,7 +447,8 @@ module _ (d : Disk) (s : List ℕ) (h : ℕ) where
       ap (first (must (leb (size_of s h) (file_limit d)) fault.file_layout))
       (tests_append (count_rules s h n) (empty_rules d s h n))
 
-  size_test : Test fault.file_layout (must (leb (size_of s h) (file_limit d)) fault.file_layout) (size_of s h ≤ file_limit d)
+  size_test : Test fault.file_layout (must (leb (size_of s h) (file_limit d)) fault.file_layout)
+      (size_of s h ≤ file_limit d)
   size_test =
       record {
         gives = search given depth 8;
@@ -498,7 +503,8 @@ module _ (d : Disk) (s : List ℕ) (h : ℕ) where
 
 module _ (s : List ℕ) (k h n : ℕ) where
   abbrev types : List ℕ
-  types = must (eqb (word_of s k 0) list_type) fault.block_type ∷ must (eqb (word_of s k 127) file_kind) fault.block_type ∷ []
+  types = must (eqb (word_of s k 0) list_type) fault.block_type
+      ∷ must (eqb (word_of s k 127) file_kind) fault.block_type ∷ []
 
   abbrev owns : List ℕ
   owns = must (eqb (word_of s k 1) k) fault.wrong_ties ∷ must (eqb (word_of s k 125) h) fault.wrong_ties ∷ []
@@ -596,7 +602,8 @@ module _ (d : Disk) (s : List ℕ) (k h n named : ℕ) where
       ∷ must (eqb (word_of s k 3) (held_of d z n)) fault.data_layout
       ∷ data_links d s k z n named
 
-  data_type_test : Test fault.block_type (must (eqb (word_of s k 0) data_type) fault.block_type) (word_of s k 0 ≡ data_type)
+  data_type_test : Test fault.block_type (must (eqb (word_of s k 0) data_type) fault.block_type)
+      (word_of s k 0 ≡ data_type)
   data_type_test = word_test _ _ fault.block_type (search given depth 8) tt
 
   data_order : tests (data_rules d s k h z n named) ≡ first (must (eqb (sum_of s k) 0) fault.block_sum)

@@ -23,7 +23,8 @@ use Rattle.answers.proofs.Tests.{then_stop}
 module _ (d : Disk) (s : List ℕ) (r f : ℕ) (e : r ≡ root_of d) (p : f ≡ tests (root_types s r)) where
   pub root_types_lem : (f ≡ 0 → ⊥) → f ≡ root_fault d s
   unfolding root_fault
-  root_types_lem q = rw (← e) (then_stop f (root_types s r) (root_words s r ++ (must (name_good s r) fault.bad_name ∷ [])) p q)
+  root_types_lem q = rw (← e)
+      (then_stop f (root_types s r) (root_words s r ++ (must (name_good s r) fault.bad_name ∷ [])) p q)
 
   module _ (z : f ≡ 0) (g : ℕ) (h : g ≡ tests (root_words s r)) where
     pub root_words_lem : (g ≡ 0 → ⊥) → g ≡ root_fault d s
@@ -69,7 +70,8 @@ zero_done s k f n i h = let e : n - i ≡ 0 = omega arith in rw e
 module _ (d : Disk) (s : List ℕ) (r w : ℕ) (e : r ≡ root_of d) (h : w ≡ word_of s r 78) where
   pub map_invalid : (w ≡ 0xFFFFFFFF → ⊥) → fault.bitmap_words ≡ map_fault d s
   unfolding map_fault
-  map_invalid q = rw (← e) (stop fault.bitmap_words _ _ tt (must_ne fault.bitmap_words w (word_of s r 78) 0xFFFFFFFF h q))
+  map_invalid q = rw (← e)
+      (stop fault.bitmap_words _ _ tt (must_ne fault.bitmap_words w (word_of s r 78) 0xFFFFFFFF h q))
 
   module _ (v : w ≡ 0xFFFFFFFF) (t : Bool) (u : t ≡ all_zero s r 80 25) where
     pub map_good : t ≡ true → 0 ≡ map_fault d s
@@ -168,7 +170,8 @@ module _ (d : Disk) (s : List ℕ) (k h z n named f : ℕ) (p : f ≡ tests (dat
   pub data_words_lem : (f ≡ 0 → ⊥) → f ≡ tests (data_rules d s k h z n named)
   data_words_lem q = then_stop f (data_words d s k h z n) (data_links d s k z n named) p q
 
-  pub data_links_lem : (v : ℕ) → f ≡ 0 → v ≡ tests (data_links d s k z n named) → v ≡ tests (data_rules d s k h z n named)
+  pub data_links_lem : (v : ℕ) → f ≡ 0 → v ≡ tests (data_links d s k z n named)
+      → v ≡ tests (data_rules d s k h z n named)
   data_links_lem v q e = then_go v f (data_words d s k h z n) (data_links d s k z n named) p q e
 
 module _ (d : Disk) (s : List ℕ) (k h z n last : ℕ) (t : Bool) (q : t ≡ is_old d) where

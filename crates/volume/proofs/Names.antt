@@ -192,7 +192,8 @@ module _ (s : List ℕ) (f t : ℕ) (p : f < t) (q : t ≤ length s) where
   unfolding hash_from
   hash_step d h = rw (add-one, slice-cons f t s 0 p q)
 
-  pub allowed_step : (get_or s f 0 ≡ 47 → ⊥) → (get_or s f 0 ≡ 58 → ⊥) → allowed (slice (f + 1) t s) ≡ allowed (slice f t s)
+  pub allowed_step : (get_or s f 0 ≡ 47 → ⊥) → (get_or s f 0 ≡ 58 → ⊥)
+      → allowed (slice (f + 1) t s) ≡ allowed (slice f t s)
   unfolding allowed pick
   allowed_step m n = rw (add-one, slice-cons f t s 0 p q, ne_eqb _ _ m, ne_eqb _ _ n)
 
@@ -210,7 +211,8 @@ module _ (s : List ℕ) (f t : ℕ) (p : f < t) (q : t ≤ length s) where
     unfolding same pick
     same_step e = rw (add-one, add-one, slice-cons f t s 0 p q, slice-cons f' t' s' 0 p' q', eq-eqb _ _ e)
 
-    pub same_bad : (fold_of d (get_or s f 0) ≡ fold_of d (get_or s' f' 0) → ⊥) → false ≡ same d (slice f t s) (slice f' t' s')
+    pub same_bad : (fold_of d (get_or s f 0) ≡ fold_of d (get_or s' f' 0) → ⊥)
+        → false ≡ same d (slice f t s) (slice f' t' s')
     unfolding same pick
     same_bad e = rw (slice-cons f t s 0 p q, slice-cons f' t' s' 0 p' q', ne_eqb _ _ e)
 

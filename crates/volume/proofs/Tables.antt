@@ -20,7 +20,8 @@ first_is f x i more = go (eqb x (f i)) refl
     go true q t = (eqb→eq x (f i) (rw q tt), t)
     go false q t = absurd t
 
-entry_from : (f : ℕ → ℕ) (xs : List ℕ) (i k n : ℕ) → n ≡ i + k → T (follows f i xs) → k < length xs → get_or xs k 0 ≡ f n
+entry_from : (f : ℕ → ℕ) (xs : List ℕ) (i k n : ℕ) → n ≡ i + k → T (follows f i xs) → k < length xs
+    → get_or xs k 0 ≡ f n
 entry_from f [] i k n e t h = absurd (omega arith)
 entry_from f (x ∷ xs) i zero n e t h = (first_is f x i _ t).0 ∙ ap f (omega arith)
 entry_from f (x ∷ xs) i (suc k) n e t h =

@@ -33,7 +33,8 @@ pub data RootBreaks (s : List ℕ) (r v : ℕ) : Type 0 where
   root_7 : sum_of s r ≢ 0 → v ≡ fault.block_sum → RootBreaks s r v
   root_8 : sum_of s r ≡ 0 → (RootKind s r → ⊥) → v ≡ fault.block_type → RootBreaks s r v
   root_4 : sum_of s r ≡ 0 → RootKind s r → (RootFixed s r → ⊥) → v ≡ fault.root_words → RootBreaks s r v
-  root_11 : sum_of s r ≡ 0 → RootKind s r → RootFixed s r → name_good s r ≡ false → v ≡ fault.bad_name → RootBreaks s r v
+  root_11 : sum_of s r ≡ 0 → RootKind s r → RootFixed s r → name_good s r ≡ false → v ≡ fault.bad_name
+      → RootBreaks s r v
 
 -- ---- the root's words beside the bitmap key, w78 or w80 to w104: 16
 

@@ -1,6 +1,7 @@
 -- A disk has a number of blocks and a kind, the last byte of its boot tag. All its other numbers follow from these
 -- two (docs/FORMAT.md, "What is built"): nothing above this file knows them as numbers, but `Numerals`.
-use Rattle.std.specs.Prelude.{ℕ, ◌+◌, ◌-◌, ◌*◌, ◌/◌, ◌%◌, ◌≤◌, ◌≡◌, ◌≢◌, ◌⊎◌, Bool, false, List, [], ◌∷◌, eqb, ltb, length}
+use Rattle.std.specs.Prelude.{ℕ, ◌+◌, ◌-◌, ◌*◌, ◌/◌, ◌%◌, ◌≤◌, ◌≡◌, ◌≢◌, ◌⊎◌, Bool, false, List, [], ◌∷◌, eqb, ltb}
+use Rattle.std.specs.Prelude.{length}
 use Rattle.answers.specs.Members.{◌∈◌, has}
 use Rattle.answers.specs.Tests.{pick}
 use Rattle.words.specs.Word.{four, word_at}

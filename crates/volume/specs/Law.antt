@@ -1,7 +1,8 @@
 -- The law of a volume: one field for each rule of docs/FORMAT.md, "Blocks of a volume". It mentions no walk. What is
 -- reached, and that each block is owned once, is said of `references` by crate `reach`. `Tree` is all of the law but
 -- w78 and the bits; `Volume` is `Tree`, w78 and the bits.
-use Rattle.std.specs.Prelude.{ℕ, zero, suc, ◌-◌, ◌*◌, ◌≤◌, ◌<◌, ◌≡◌, ◌≢◌, ◌⊎◌, ◌↔◌, Bool, true, false, List, [], ◌∷◌, ◌++◌, map, length}
+use Rattle.std.specs.Prelude.{ℕ, zero, suc, ◌-◌, ◌*◌, ◌≤◌, ◌<◌, ◌≡◌, ◌≢◌, ◌⊎◌, ◌↔◌, Bool, true, false, List, [], ◌∷◌}
+use Rattle.std.specs.Prelude.{◌++◌, map, length}
 use Rattle.words.specs.Word.{word_at}
 use Rattle.reach.specs.References.{At, ◌∈◌, Reached, Owned}
 use Rattle.volume.specs.declared.disk.Disk.{Disk}

@@ -64,4 +64,5 @@ abbrev pub name_of : List ℕ → ℕ → List ℕ
 name_of s k = slice (name_from k) (name_from k + name_length s k) s
 
 unfoldable pub name_good : List ℕ → ℕ → Bool
-name_good s k = pick (leb 1 (name_length s k)) (pick (leb (name_length s k) longest) (allowed (name_of s k)) false) false
+name_good s k = pick (leb 1 (name_length s k))
+    (pick (leb (name_length s k) longest) (allowed (name_of s k)) false) false

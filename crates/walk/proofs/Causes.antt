@@ -24,7 +24,8 @@ use Rattle.volume.specs.Law.{chain_key, Hangs, KeyCount, EntryKind}
 use Rattle.volume.specs.Breaks.{Link, DataTies, root_7, root_8, root_4, root_11, map_16, bitmap_7, entry_7, entry_8}
 use Rattle.volume.specs.Breaks.{entry_9, entry_10, entry_11, entry_12, header_14, ListBreaks, list_7, list_8, list_10}
 use Rattle.volume.specs.Breaks.{list_14, DataBreaks, data_7, data_8, data_15}
-use Rattle.volume.proofs.Given.{root_refusals, entry_refusals, header_refusals, list_refusals, data_refusals, root_number}
+use Rattle.volume.proofs.Given.{root_refusals, entry_refusals, header_refusals, list_refusals, data_refusals}
+use Rattle.volume.proofs.Given.{root_number}
 use Rattle.volume.proofs.Given.{entry_number, header_number, list_number, data_number}
 use Rattle.walk.specs.Nodes.{Node, root, bitmap, entry, list, datum, key_of, bare, chained, slot_nodes, before}
 use Rattle.walk.specs.Nodes.{key_nodes, list_link, key_block_nodes, contents, leads_to, key_fault, fault_of, nothing}

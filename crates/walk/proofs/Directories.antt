@@ -106,7 +106,8 @@ module _ (d : Disk) (s : List ℕ) where
             names = names';
           }
         where
-          names' : (i j k l : ℕ) → Hangs s t i k → Hangs s t j l → folded d (name_of s k) ≡ folded d (name_of s l) → k ≡ l
+          names' : (i j k l : ℕ) → Hangs s t i k → Hangs s t j l → folded d (name_of s k) ≡ folded d (name_of s l)
+              → k ≡ l
           names' i j k l g g' e =
               let q =
               sym (entry_sound j l g').slot ∙ slot_same d (name_of s l) (name_of s k) (sym e)

@@ -48,7 +48,8 @@ module _ (s : List ℕ) (t : ℕ) where
       go (inl m) later = (i, omega arith, in_linked (slot_word s t i) (λ k. entry k t i 0) x m)
       go (inr m) later = let r = later m in let b = r.1 in (r.0, omega arith, r.2)
 
-  pub slot_in : (i n j : ℕ) → i ≤ j → j < i + n → slot_word s t j ≢ 0 → entry (slot_word s t j) t j 0 ∈ slot_nodes s t i n
+  pub slot_in : (i n j : ℕ) → i ≤ j → j < i + n → slot_word s t j ≢ 0
+      → entry (slot_word s t j) t j 0 ∈ slot_nodes s t i n
   unfolding slot_nodes
   slot_in i zero j l h w = absurd (omega arith)
   slot_in i (suc n) j l h w = go (dec_lt i j) (slot_in (suc i) n j)
@@ -58,7 +59,8 @@ module _ (s : List ℕ) (t : ℕ) where
 
       go : Dec (i < j) → (suc i ≤ j → j < suc i + n → slot_word s t j ≢ 0 → x ∈ slot_nodes s t (suc i) n)
           → x ∈ (chained (slot_word s t i) t i 0 ++ slot_nodes s t (suc i) n)
-      go (yes q) later = in_right x (chained (slot_word s t i) t i 0) (slot_nodes s t (suc i) n) (later q (omega arith) w)
+      go (yes q) later = in_right x (chained (slot_word s t i) t i 0) (slot_nodes s t (suc i) n)
+          (later q (omega arith) w)
       go (no q) later =
           let e : j ≡ i = omega arith in
           in_left x (chained (slot_word s t i) t i 0) (slot_nodes s t (suc i) n)

@@ -180,9 +180,11 @@ module _ (d : Disk) (s : List ℕ) where
 
   -- and one that does not fail passes
   pub not_passes : (seen : List Node) (n : Node) → ((v : ℕ) → Fails d s seen n v → ⊥) → Judged (graph d s) seen n 0
-  not_passes seen n f = key (key_fault d (key_of d n)) refl (among (key_of d n) (map (key_of d) seen)) (fault_of d s n) refl
+  not_passes seen n f =
+      key (key_fault d (key_of d n)) refl (among (key_of d n) (map (key_of d) seen)) (fault_of d s n) refl
     where
-      key : (a : ℕ) → key_fault d (key_of d n) ≡ a → Dec (key_of d n ∈ map (key_of d) seen) → (b : ℕ) → fault_of d s n ≡ b
+      key : (a : ℕ) → key_fault d (key_of d n) ≡ a → Dec (key_of d n ∈ map (key_of d) seen) → (b : ℕ)
+          → fault_of d s n ≡ b
           → Judged (graph d s) seen n 0
       key (suc a) p m b q =
           let w = out_key (key_of d n) (suc a) (λ z. omega arith) p in absurd (f (suc a) (outside w.0 w.1))

@@ -170,7 +170,8 @@ module _ (d : Disk) (s : List ℕ) where
                 ∙ sym (append_assoc t.keys (keys_down s b 0 n) (keys_from s (blocks_of d s h - (m + n)) rest))
 
     nodes_stood : (x : Node) → x ∈ key_block_nodes d s h b m c → Stood x
-    nodes_stood x a = go (in_either x (key_nodes s h b m c 0 n) (list_link (word_of s b 126) h (m + n) (before s b c n)) a)
+    nodes_stood x a = go (in_either x (key_nodes s h b m c 0 n)
+        (list_link (word_of s b 126) h (m + n) (before s b c n)) a)
       where
         go : (x ∈ key_nodes s h b m c 0 n) ⊎ (x ∈ list_link (word_of s b 126) h (m + n) (before s b c n)) → Stood x
         go (inl a) = keys_stood 0 n (omega arith) x a

@@ -1,6 +1,7 @@
 -- Laws of relocation: what becomes of each byte and of each target; twice is once by the sums, and by nothing is
 -- nothing. Assumes nothing.
-use Rattle.std.proofs.Common.{◌≡◌, ℕ, ◌+◌, ◌%◌, ◌^◌, ◌<◌, ◌≤◌, List, [], ◌∷◌, length, get_or, sym, refl, ap, ◌∙◌, inl, inr, ⊎_elim, arith}
+use Rattle.std.proofs.Common.{◌≡◌, ℕ, ◌+◌, ◌%◌, ◌^◌, ◌<◌, ◌≤◌, List, [], ◌∷◌, length, get_or, sym, refl, ap, ◌∙◌, inl}
+use Rattle.std.proofs.Common.{inr, ⊎_elim, arith}
 use Rattle.words.specs.Word.{Bytes, word_at, add_at}
 use Rattle.words.specs.Shift.{Target, shift_all}
 use Rattle.words.proofs.Words.{Far, Off, length_add_at, add_at_off, add_at_apart, add_at_comm, add_at_same}
@@ -71,7 +72,8 @@ pub shift_all_mod : (m : List ℕ) (ts : List Target) (f g : ℕ → ℕ) → ((
 unfolding shift_all
 shift_all_mod m [] f g h = refl
 shift_all_mod m (t ∷ ts) f g h =
-    rw (add_at_mod m t.loaded_at (f t.key) (g t.key) (h t.key)) (shift_all_mod (add_at m t.loaded_at (g t.key)) ts f g h)
+    rw (add_at_mod m t.loaded_at (f t.key) (g t.key) (h t.key))
+    (shift_all_mod (add_at m t.loaded_at (g t.key)) ts f g h)
 
 -- a load at the old bases and a move by the differences is a load at the new ones
 pub shift_all_moved : (m : List ℕ) (ts : List Target) (old d new : ℕ → ℕ)
@@ -90,7 +92,8 @@ shift_all_far : (m : List ℕ) (ts : List Target) (f : ℕ → ℕ) (t : ℕ) �
 unfolding shift_all
 shift_all_far m [] f t a = refl
 shift_all_far m (u ∷ us) f t a =
-    shift_all_far (add_at m u.loaded_at (f u.key)) us f t a.1 ∙ add_at_apart m u.loaded_at (f u.key) t (⊎_elim inr inl a.0)
+    shift_all_far (add_at m u.loaded_at (f u.key)) us f t a.1
+    ∙ add_at_apart m u.loaded_at (f u.key) t (⊎_elim inr inl a.0)
 
 added_from : (m n : List ℕ) (ts : List Target) (f : ℕ → ℕ) (t d : ℕ) → FarAll t ts → Added (add_at m t d) n ts f
     → Added m n ts f
@@ -119,4 +122,5 @@ pub shift_all_agree : (m : List ℕ) (t : ℕ) (ts : List Target) (f g : ℕ →
     → Keyed t ts → shift_all m ts f ≡ shift_all m ts g
 unfolding shift_all
 shift_all_agree m t [] f g h k = refl
-shift_all_agree m t (u ∷ us) f g h k = rw (h u.key k.0) (shift_all_agree (add_at m u.loaded_at (g u.key)) t us f g h k.1)
+shift_all_agree m t (u ∷ us) f g h k =
+    rw (h u.key k.0) (shift_all_agree (add_at m u.loaded_at (g u.key)) t us f g h k.1)

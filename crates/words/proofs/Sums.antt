@@ -1,5 +1,6 @@
 -- Laws of a block's sum: what it depends on, and what a store does to it. Assumes nothing.
-use Rattle.std.proofs.Common.{◌≡◌, ℕ, zero, suc, ◌+◌, ◌*◌, ◌%◌, ◌^◌, ◌<◌, ◌≤◌, ◌⊎◌, List, length, get_or, refl, ap, ap₂, inl, inr, ⊎_elim, arith}
+use Rattle.std.proofs.Common.{◌≡◌, ℕ, zero, suc, ◌+◌, ◌*◌, ◌%◌, ◌^◌, ◌<◌, ◌≤◌, ◌⊎◌, List, length, get_or, refl, ap, ap₂}
+use Rattle.std.proofs.Common.{inl, inr, ⊎_elim, arith}
 use native.Mathlib.Decide.{dec_lt}
 use Rattle.words.specs.Word.{word_at, set_word}
 use Rattle.words.specs.Sum.{block_words, total, sum_at}

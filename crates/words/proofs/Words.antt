@@ -1,5 +1,7 @@
 -- Laws of words: read, stored and added to. Assumes nothing.
-use Rattle.std.proofs.Common.{◌≡◌, ℕ, zero, suc, ◌+◌, ◌-◌, ◌/◌, ◌%◌, ◌^◌, ◌<◌, ◌≤◌, ◌≢◌, ◌⊎◌, List, length, get_or, set, sym, refl, ap, ◌∙◌, inl, inr, ⊎_elim, add-zero, mod-eq_of_lt, div-add-mod', arith, length-set, get_or-set_other, get_or-set_same, ext_get_or}
+use Rattle.std.proofs.Common.{◌≡◌, ℕ, zero, suc, ◌+◌, ◌-◌, ◌/◌, ◌%◌, ◌^◌, ◌<◌, ◌≤◌, ◌≢◌, ◌⊎◌, List, length, get_or, set}
+use Rattle.std.proofs.Common.{sym, refl, ap, ◌∙◌, inl, inr, ⊎_elim, add-zero, mod-eq_of_lt, div-add-mod', arith}
+use Rattle.std.proofs.Common.{length-set, get_or-set_other, get_or-set_same, ext_get_or}
 use native.Mathlib.Decide.{dec_lt}
 use lib.Seq.{set-get_or, set_comm}
 use Rattle.words.specs.Word.{Bytes, four, word_at, set_word, add_at}

@@ -1,5 +1,6 @@
 -- A slice set to 0 from its front on. Assumes nothing.
-use Rattle.std.proofs.Common.{◌≡◌, ℕ, ◌≤◌, List, ◌++◌, length, drop, replicate, ap, ◌∙◌, append-nil, arith, drop_of_length-le}
+use Rattle.std.proofs.Common.{◌≡◌, ℕ, ◌≤◌, List, ◌++◌, length, drop, replicate, ap, ◌∙◌, append-nil, arith}
+use Rattle.std.proofs.Common.{drop_of_length-le}
 
 pub wiped : (a r : List ℕ) (n : ℕ) → n ≡ length a → r ≡ replicate n 0 ++ drop n a → r ≡ replicate (length a) 0
 wiped a r n e h =

@@ -22,7 +22,8 @@ words_at s at (suc n) = word_at s at ∷ words_at s (at + 4) n
 -- the bytes with w stored at `at`
 unfoldable pub set_word : List ℕ → ℕ → ℕ → List ℕ
 set_word s at w =
-    set (slice_set (slice_set (slice_set s at (w / 16777216 % 256)) (at + 1) (w / 65536 % 256)) (at + 2) (w / 256 % 256)) (at + 3)
+    set (slice_set (slice_set (slice_set s at (w / 16777216 % 256)) (at + 1) (w / 65536 % 256)) (at + 2)
+    (w / 256 % 256)) (at + 3)
     (w % 256)
 
 -- the bytes with d added, modulo 2^32, to the word at `at`

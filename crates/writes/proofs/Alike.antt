@@ -71,7 +71,8 @@ module _ (But : ℕ → Type 0) (s t : List ℕ) (k : ℕ) (a : Alike But s t k)
             ≡ pick (leb 1 (name_length s k)) (pick (leb (name_length s k) longest) (allowed (name_of s k)) false) false
         go (yes h) = rw (alike_name h, alike_length) refl
         go (no h) =
-            let l : longest < name_length s k = omega arith in rw (alike_length, lt-leb (name_length s k) longest l) refl
+            let l : longest < name_length s k = omega arith in
+            rw (alike_length, lt-leb (name_length s k) longest l) refl
 
 -- a good name is short
 pub good_short : (s : List ℕ) (k : ℕ) → name_good s k ≡ true → name_length s k ≤ longest

@@ -101,7 +101,8 @@ module _ (page : List ℕ) (k v : ℕ) (whole : length page ≡ block_bytes) (by
 
       go : Dec (bit_word j ≡ bit_word k)
           → eqb
-          (word_at (set_word page (4 * bit_word k) (with_bit (word_at page (4 * bit_word k)) (bit_number k) v)) (4 * bit_word j)
+          (word_at (set_word page (4 * bit_word k) (with_bit (word_at page (4 * bit_word k)) (bit_number k) v))
+          (4 * bit_word j)
           / 2 ^ bit_number j % 2) 1
           ≡ eqb (word_at page (4 * bit_word j) / 2 ^ bit_number j % 2) 1
       go (yes e) =
@@ -138,7 +139,8 @@ bytes_set_word s at w b =
 
 pub bytes_set_bit : (page : List ℕ) (k v : ℕ) → Bytes page → Bytes (set_bit page k v)
 unfolding set_bit
-bytes_set_bit page k v b = bytes_set_word page (4 * bit_word k) (with_bit (word_at page (4 * bit_word k)) (bit_number k) v) b
+bytes_set_bit page k v b =
+    bytes_set_word page (4 * bit_word k) (with_bit (word_at page (4 * bit_word k)) (bit_number k) v) b
 
 -- blocks that have a bit
 abbrev pub Ranged : List ℕ → Type 0

@@ -27,7 +27,8 @@ off_word i j n = go (dec_lt i (4 * j)) (dec_lt i (4 * j + 4))
 
 module _ (s : List ℕ) (k : ℕ) (inside : Holds s k) where
   pub length_block : length (block_of s k) ≡ block_bytes
-  length_block = length-take-le block_bytes (drop (k * block_bytes) s) (rw (length-drop (k * block_bytes) s) (omega arith))
+  length_block = length-take-le block_bytes (drop (k * block_bytes) s)
+      (rw (length-drop (k * block_bytes) s) (omega arith))
 
   pub block_byte : (i : ℕ) → i < block_bytes → get_or (block_of s k) i 0 ≡ get_or s (k * block_bytes + i) 0
   block_byte i l = get_or-take block_bytes (drop (k * block_bytes) s) i 0 l ∙ get_or-drop (k * block_bytes) s i 0
@@ -99,7 +100,8 @@ block_put_same s k b h w =
     ext_get_or 0 (block_of (put s k b) k) b (e ∙ sym w)
     (λ i m. let q : i < block_bytes = omega (arith, m, e) in block_byte (put s k b) k g i q ∙ put_in s k b h w i q)
 
-pub block_same : (s t : List ℕ) (k : ℕ) → Holds s k → length t ≡ length s → SameBlock s t k → block_of t k ≡ block_of s k
+pub block_same : (s t : List ℕ) (k : ℕ) → Holds s k → length t ≡ length s → SameBlock s t k
+    → block_of t k ≡ block_of s k
 block_same s t k h l a =
     let g : Holds t k = omega (arith, h, l) in
     let e = length_block t k g in

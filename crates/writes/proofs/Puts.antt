@@ -8,7 +8,8 @@ use mathlib.Core.List.{List, ◌++◌}
 use native.Mathlib.Omega.{arith}
 use native.Mathlib.Decide.{dec_lt}
 use lib.ListN.{length, get_or, take, drop, get_or-append}
-use lib.Seq.{paste, length-paste, length-take-le, length_paste_head, get_or-append-add, get_or-take, get_or-drop, ext_get_or}
+use lib.Seq.{paste, length-paste, length-take-le, length_paste_head, get_or-append-add, get_or-take, get_or-drop}
+use lib.Seq.{ext_get_or}
 use Rattle.words.specs.Word.{word_at}
 use Rattle.words.specs.Sum.{sum_at, total}
 use Rattle.volume.specs.Blocks.{block_bytes, Holds, word_of, sum_of}
@@ -53,7 +54,8 @@ module _ (s : List ℕ) (k : ℕ) (b : List ℕ) (inside : Holds s k) (whole : l
   unfolding put
   put_in i h = paste_in s (k * block_bytes) b block_bytes inside (omega arith) i h
 
-  pub put_out : (i : ℕ) → (i < k * block_bytes) ⊎ (k * block_bytes + block_bytes ≤ i) → get_or (put s k b) i 0 ≡ get_or s i 0
+  pub put_out : (i : ℕ) → (i < k * block_bytes) ⊎ (k * block_bytes + block_bytes ≤ i)
+      → get_or (put s k b) i 0 ≡ get_or s i 0
   unfolding put
   put_out i (inl h) = paste_below s (k * block_bytes) b block_bytes inside (omega arith) i h
   put_out i (inr h) =

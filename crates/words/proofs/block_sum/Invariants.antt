@@ -5,7 +5,8 @@ use Rattle.words.proofs.block_sum.Given as goal
 
 abbrev pub invariant-loop-i : goal.invariant-loop-i
 invariant-loop-i l =
-    (l.i ≤ block_turns) × (l.low ≡ turns (low_at l.bytes) l.at l.i) × (l.odd ≡ turns (odd_at l.bytes) l.at l.i) × (l.low ≤ l.i * (8 * 2 ^ 32))
+    (l.i ≤ block_turns) × (l.low ≡ turns (low_at l.bytes) l.at l.i) × (l.odd ≡ turns (odd_at l.bytes) l.at l.i)
+    × (l.low ≤ l.i * (8 * 2 ^ 32))
     × (l.odd ≤ l.i * (8 * most_odd))
 
 abbrev pub decreases-loop-i : goal.decreases-loop-i

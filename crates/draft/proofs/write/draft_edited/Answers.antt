@@ -11,7 +11,8 @@ returns c =
       entry = c.draft.ensures.entry;
       block =
           (rw c.draft.ensures.block at c.edit_block.ensures)
-          ∙ put_edited c.args.blocks.now (carried c.args.image.now (writes_in c.args.order.now c.args.blocks.now c.args.n))
+          ∙ put_edited c.args.blocks.now
+          (carried c.args.image.now (writes_in c.args.order.now c.args.blocks.now c.args.n))
           c.args.n c.args.key c.args.j c.args.v room.whole
           (holds_after c.args.image.now c.args.order.now c.args.blocks.now c.args.n c.args.key room)
           c.requires.1;

@@ -26,7 +26,8 @@ loop-i-preserved c =
     let f : Inside s c.args.order.now (c.loop-i.i - 1 + 1) = λ j l. c.requires.before j (omega arith) in
     let h : Holds c.args.blocks.now (c.loop-i.i - 1) = omega arith in
     let g = rw e at
-    (fetched_below s c.args.order.now c.args.blocks.now (c.loop-i.i - 1) c.args.key f h c.requires.key c.if-order-i.false)
+    (fetched_below s c.args.order.now c.args.blocks.now
+    (c.loop-i.i - 1) c.args.key f h c.requires.key c.if-order-i.false)
     in
     (omega arith, c.loop-i.invariant.1, c.loop-i.invariant.2 ∙ g)
 
@@ -36,4 +37,5 @@ returns c =
     let e : c.loop-i.i ≡ 0 = omega arith in
     (rw c.loop-i.invariant.1 at c.copy_block.ensures)
     ∙ ap (put c.args.blocks.now c.args.n)
-    (sym ((rw e at c.loop-i.invariant.2) ∙ fetched_image c.args.image.now c.args.order.now c.args.blocks.now c.args.key))
+    (sym ((rw e at c.loop-i.invariant.2)
+    ∙ fetched_image c.args.image.now c.args.order.now c.args.blocks.now c.args.key))
