@@ -9,9 +9,13 @@ pub fn root() -> PathBuf {
     Path::new(env!("CARGO_MANIFEST_DIR")).parent().expect("a repository").to_path_buf()
 }
 
-/// The pages by their paths from the top.
+/// A page of docs/ that tells what was, and so names what is there no more.
+const OF_THE_PAST: &str = "PORT.md";
+
+/// The pages by their paths from the top, but those of the past.
 pub fn pages() -> Vec<String> {
-    let docs = names_in(&root().join("docs")).into_iter().filter(|name| name.ends_with(".md"));
+    let is_page = |name: &String| name.ends_with(".md") && name != OF_THE_PAST;
+    let docs = names_in(&root().join("docs")).into_iter().filter(is_page);
     let mut pages: Vec<_> = docs.map(|name| format!("docs/{name}")).collect();
     let others = ["README.md", "CONTRIBUTING.md", "CHANGELOG.md", "samples/README.md", "speed/README.md"];
     pages.extend(others.map(String::from));
