@@ -229,6 +229,9 @@ module _ (s : List ℕ) (t : ℕ) where
   unfolding same
   same_done d s' t' = rw (slice_empty, slice_empty)
 
+-- one byte more that is looked at
+pub ruleset allowing = (allowed_step, allowed_slash, allowed_colon)
+
 -- names of different lengths differ
 pub same_long : (d : Disk) (xs ys : List ℕ) → (length xs ≡ length ys → ⊥) → false ≡ same d xs ys
 unfolding same pick

@@ -91,6 +91,7 @@ pub fn slot(disk: Disk, bytes: &[u8], at: usize, len: usize) -> u32
 }
 
 // Whether `len` bytes at `at` have no '/' and no ':'.
+#[tactic(auto, using(crate::proofs::Names::allowing))]
 pub fn is_allowed(bytes: &[u8], at: usize, len: usize) -> bool
     requires { at + len ≤ length bytes.now }
     ensures { result ≡ allowed (slice at (at + len) bytes.now) }
