@@ -1,6 +1,5 @@
--- The numbers of an array that is a constant of code. A definition cannot name the constant. It can name the lowered
--- code (MIR) of an expression in a contract of a crate below, and a proof can name that of its own function; there a
--- statement stores the constant.
+-- The numbers of an array that is a constant of code, read off lowered code (MIR), where a statement stores the
+-- constant. A definition can name the constant itself, so nothing needs this any more.
 use Rattle.std.specs.Prelude.{ℕ, ◌-◌, ◌^◌, List, [], ◌∷◌}
 use mir.Val.{bits}
 use mir.Syntax.{Opd, copy, int, int_neg, int_big, float, opd_true, opd_false, opd_unit, ptr_const, size_of, align_of}
