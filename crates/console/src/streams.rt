@@ -4,6 +4,7 @@ ghost use Rattle.console.specs.Counts.{IsPrefixLen, clamp_len};
 
 use std::env::{Env, FillError};
 use std::io::{Print, Read};
+use words::least;
 
 // 4,096 zeros. The `ensures` gives only the length, so that no proof computes the list.
 pub fn buffer() -> [u8; 4096]
@@ -31,14 +32,6 @@ fn clamp(got: isize, most: usize) -> usize
     } else {
         0
     }
-}
-
-fn least(a: usize, b: usize) -> usize
-    ensures a_bound { result ≤ a }
-    ensures b_bound { result ≤ b }
-    ensures value { result ≡ min a b }
-{
-    if a < b { a } else { b }
 }
 
 // Puts argument i, the program's name at 0, at the start of buf, and answers how long it is: 0 where there is none, or
