@@ -2,13 +2,12 @@
 use Prim.Native.Nat.{ℕ, zero, suc, ◌+◌, ◌-◌, ◌≤◌, ◌<◌}
 use mathlib.Core.Path.{◌≡◌, refl, sym, ap, ◌∙◌}
 use mathlib.Core.Bool.{Bool, true, false, ◌&&◌}
-use mathlib.Core.List.{List, [], ◌∷◌, ◌++◌}
-use native.Mathlib.Nat.{zero-add}
+use mathlib.Core.List.{List, [], ◌∷◌}
 use native.Mathlib.Numerals.{add-one}
 use native.Mathlib.Omega.{arith}
 use lib.Dec.{T, eqb, leb}
-use lib.ListN.{length, get_or, take, drop, set, length-set, length-drop, drop_of_length-le}
-use lib.Seq.{take_all, drop-cons, drop-drop, paste-suc}
+use lib.ListN.{length, get_or, take, drop, length-drop, drop_of_length-le}
+use lib.Seq.{drop-cons, drop-drop}
 use borrow.Author.Tests.{eq-eqb, ne_eqb, leb-true, le-leb}
 use Rattle.answers.specs.Tests.{pick}
 use Rattle.answers.specs.Lines.{newline, line, rest, after, line_of, BeginsLine, EndsLine, copied, PutsLine}
@@ -38,9 +37,9 @@ module _ (text : List ℕ) (at i : ℕ) (e : Ending text at i) where
       one : length (line (drop i text)) ≡ suc (length (line (drop (i + 1) text)))
       one = rw (add-one i, drop-cons text i 0 h, ne_eqb (get_or text i 0) newline n)
 
-  pub ending_last : length text ≤ i → EndsLine text at i
+  pub ending_last : length text ≤ i → EndsLine text at (length text)
   unfolding line
-  ending_last h = record { within = e.within; place = omega (arith, none) }
+  ending_last h = record { within = omega arith; place = omega (arith, none, e.within, e.same) }
     where
       none : length (line (drop i text)) ≡ 0
       none = rw (drop_of_length-le text {i = i} h)
@@ -88,35 +87,35 @@ after_none (suc n) = after_none n
 
 -- ---- where a line begins, a line at a time
 
--- line n of the text is line `left` of what comes from byte `at` on
-pub record Counted (text : List ℕ) (n at left : ℕ) : Type 0 where
+-- after k lines: what is line n of the text is line n - k of what comes from byte `at` on
+pub record Counted (text : List ℕ) (n at k : ℕ) : Type 0 where
   pub within : at ≤ length text
-  pub same : after left (drop at text) ≡ after n text
+  pub same : after (n - k) (drop at text) ≡ after n text
 
-pub counted_start : (text : List ℕ) (n : ℕ) → Counted text n 0 n
-counted_start text n = record { within = omega arith; same = refl }
+pub counted_start : (text : List ℕ) (n : ℕ) → Counted text n 0 0
+counted_start text n = let e : n - 0 ≡ n = omega arith in record { within = omega arith; same = rw e }
 
-module _ (text : List ℕ) (n at left : ℕ) (c : Counted text n at left) where
-  pub counted_all : left ≤ 0 → BeginsLine text n at
+module _ (text : List ℕ) (n at k : ℕ) (c : Counted text n at k) where
+  pub counted_all : n ≤ k → BeginsLine text n at
   unfolding after
-  counted_all h = let e : left ≡ 0 = omega arith in record { within = c.within; same = rw e at c.same }
+  counted_all h = let e : n - k ≡ 0 = omega arith in record { within = c.within; same = rw e at c.same }
 
   -- the line there ends at byte `end`
-  module _ (end : ℕ) (some : 0 < left) (e : EndsLine text at end) where
+  module _ (end : ℕ) (some : k < n) (e : EndsLine text at end) where
     abbrev here : List ℕ
     here = drop at text
 
     length_here : length here ≡ length text - at
     length_here = length-drop at text
 
-    one_less : after left here ≡ after (left - 1) (rest here)
+    one_less : after (n - k) here ≡ after (n - (k + 1)) (rest here)
     unfolding after
-    one_less = let e : left ≡ suc (left - 1) = omega arith in ap (λ (k : ℕ). after k here) e
+    one_less = let e : n - k ≡ suc (n - (k + 1)) = omega arith in ap (λ (j : ℕ). after j here) e
 
     -- at a newline: the next begins after it
-    pub counted_on : (end ≡ length text → ⊥) → Counted text n (end + 1) (left - 1)
+    pub counted_on : (end ≡ length text → ⊥) → Counted text n (end + 1) (k + 1)
     counted_on h =
-        record { within = omega (arith, h); same = ap (after (left - 1)) (sym next) ∙ sym one_less ∙ c.same }
+        record { within = omega (arith, h); same = ap (after (n - (k + 1))) (sym next) ∙ sym one_less ∙ c.same }
       where
         less : length (line here) < length here
         less = omega (arith, length_here, h)
@@ -125,7 +124,7 @@ module _ (text : List ℕ) (n at left : ℕ) (c : Counted text n at left) where
         place = omega arith
 
         next : rest here ≡ drop (end + 1) text
-        next = rest_drop here less ∙ drop-drop (suc (length (line here))) at text ∙ ap (λ (k : ℕ). drop k text) place
+        next = rest_drop here less ∙ drop-drop (suc (length (line here))) at text ∙ ap (λ (j : ℕ). drop j text) place
 
     -- at the end of the text: there is no other
     pub counted_out : end ≡ length text → BeginsLine text n end
@@ -135,46 +134,7 @@ module _ (text : List ℕ) (n at left : ℕ) (c : Counted text n at left) where
         over = rest_none here (omega (arith, length_here))
 
         none : after n text ≡ []
-        none = sym c.same ∙ one_less ∙ ap (after (left - 1)) over ∙ after_none (left - 1)
-
--- ---- a copy of s to an output that was d, a byte at a time
-
--- the first i bytes are copied
-pub record Copying (s d output : List ℕ) (i : ℕ) : Type 0 where
-  pub within : i ≤ length s
-  pub room : i ≤ length d
-  pub same : length output ≡ length d
-  pub so_far : output ≡ take i s ++ drop i d
-
-pub copying_start : (s d : List ℕ) → Copying s d d 0
-copying_start s d = record { within = omega arith; room = omega arith; same = refl; so_far = refl }
-
-module _ (s d output : List ℕ) (i : ℕ) (c : Copying s d output i) where
-  pub copying_on : i < length s → (i ≡ length output → ⊥) → Copying s d (set output i (get_or s i 0)) (i + 1)
-  copying_on h k =
-      record { within = omega arith; room = omega arith; same = size; so_far = rw (c.so_far, add-one i) one }
-    where
-      size : length (set output i (get_or s i 0)) ≡ length d
-      size = length-set output i (get_or s i 0) ∙ c.same
-
-      one : set (take i s ++ drop i d) i (get_or s i 0) ≡ take (suc i) s ++ drop (suc i) d
-      one = simp zero-add at (paste-suc d 0 s i 0 (omega arith) h)
-
-  -- all of the output is written
-  pub copying_full : i ≡ length output → output ≡ copied s d
-  copying_full e =
-      let none : drop i d ≡ [] = drop_of_length-le d {i = i} (omega arith) in
-      let more : drop (length s) d ≡ [] = drop_of_length-le d {i = length s} (omega arith) in
-      let all : i ≡ length d = omega arith in
-      rw (c.so_far, none, more, all)
-
-  -- all of s is copied
-  pub copying_all : length s ≤ i → output ≡ copied s d
-  copying_all h =
-      let whole : take i s ≡ s = take_all i s h in
-      let fits : take (length d) s ≡ s = take_all (length d) s (omega arith) in
-      let all : i ≡ length s = omega arith in
-      rw (c.so_far, whole, fits, all)
+        none = sym c.same ∙ one_less ∙ ap (after (n - (k + 1))) over ∙ after_none (n - (k + 1))
 
 -- ---- a line found and copied
 

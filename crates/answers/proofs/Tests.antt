@@ -6,9 +6,11 @@ use mathlib.Core.List.{List, [], ◌∷◌, ◌++◌}
 use native.Mathlib.Omega.{arith}
 use lib.Dec.{T, leb, ltb, eqb, lt→ltb}
 use borrow.Author.Tests.{eq-eqb, ne_eqb, le-leb, lt-leb, lt-ltb, le-ltb}
+use Rattle.std.specs.Prelude.{Result, Ok, Err, IsErrAnd}
+use Rattle.answers.specs.declared.Fault.{Fault}
+use Rattle.std.proofs.lemmas.Result.{err_from_is_err_and}
 use Rattle.answers.specs.declared.Refusal.{Refusal}
-use Rattle.answers.specs.declared.Tested.{Tested}
-use Rattle.answers.specs.declared.Tested.TheVariants.{Passed, Failed}
+use Rattle.answers.specs.Refusals.{number_of, told}
 use Rattle.answers.specs.Tests.{pick, must, never, first, tests}
 use Rattle.answers.proofs.Clashes.{impossible}
 
@@ -49,10 +51,27 @@ unfolding never
 never_passes true v e = impossible cc
 never_passes false v e = refl
 
-pub pick_passed : (b : Bool) (r : Refusal) (h : Tested) → pick b (Failed r) h ≡ Passed → (b ≡ false) × (h ≡ Passed)
+pub pick_passed : (b : Bool) (r : Refusal) (h : Result Unit Refusal) → pick b (Err r) h ≡ Ok tt
+    → (b ≡ false) × (h ≡ Ok tt)
 unfolding pick
 pick_passed true r h q = impossible cc
 pick_passed false r h q = (refl, q)
+
+-- ---- the tests of a callee, which a `?` hands on
+
+pub told_ok : (s : Result Unit Fault) {u : Unit {0}} → s ≡ Ok u → told s ≡ 0
+told_ok s e = rw e
+
+-- no fault has the number 0
+numbered : (v : Fault) → number_of v ≡ 0 → ⊥
+numbered v e = grind arith
+
+pub told_err : (s : Result Unit Fault) {v : Fault} → s ≡ Err v → told s ≡ 0 → ⊥
+told_err s e z = numbered _ (rw e at z)
+
+-- r is returned
+pub handed_on : (r s : Result Unit Fault) {v : Fault} → IsErrAnd r (λ e. e ≡ v) → s ≡ Err v → told r ≡ told s
+handed_on r s h e = let p = err_from_is_err_and r h in rw (p.1, p.2, e)
 
 -- ---- a test at a time, as code makes them
 

@@ -11,5 +11,3 @@ pub mod Numbers
 pub mod Members
 -- lines of a text
 pub mod Lines
--- numbers of a constant of code
-pub mod Constants

@@ -3,124 +3,175 @@
 
 pub mod sentences;
 
-// The refusal's number, and the place that it is about: a key, a byte, a component or an entry.
-#[derive(Clone, Copy)]
+ghost use Rattle.std.specs.Prelude.{◌≡◌};
+ghost use Rattle.answers.specs.Refusals.{number_of, refused_at};
+
+// Why a call refuses.
+#[derive(Clone, Copy, Debug, PartialEq, Eq)]
+pub enum Fault {
+    // The image is not as long as its disk.
+    ImageLength,
+
+    // The claim area is too short.
+    ClaimArea,
+
+    // The boot tag is another.
+    BootTag,
+
+    // A fixed word of the root.
+    RootWords,
+
+    // A key outside the volume.
+    BadKey,
+
+    // A block that is claimed already; in a lookup, a chain that is too long.
+    ClaimedTwice,
+
+    // The words of a block do not add up to 0.
+    BlockSum,
+
+    // The types of a block.
+    BlockType,
+
+    // An entry that is a link.
+    Link,
+
+    // Own key, parent, or w126 of a directory.
+    WrongTies,
+
+    // A name that may not be one.
+    BadName,
+
+    // An entry in another slot than its name's.
+    WrongSlot,
+
+    // A name that an earlier entry of the directory has.
+    DoubleName,
+
+    // Size, count or links of a file.
+    FileLayout,
+
+    // The words of a data block, or its key.
+    DataLayout,
+
+    // The root's words beside the bitmap key.
+    BitmapWords,
+
+    // A bit of the bitmap.
+    WrongBit,
+
+    // The form of a path.
+    PathForm,
+
+    // No entry has the name.
+    NotFound,
+
+    // A file used as a directory, or a directory that is read.
+    WrongKind,
+
+    // A program file that is empty or not made of words.
+    FileLength,
+
+    // A word that is needed after the end.
+    EarlyEnd,
+
+    // A word of the header.
+    HeaderWord,
+
+    // A library is named.
+    Library,
+
+    // A hunk's size.
+    HunkSize,
+
+    // A block type that may not stand there.
+    MisplacedBlock,
+
+    // A body that is longer than its hunk.
+    BodyLength,
+
+    // The type of a symbol.
+    SymbolType,
+
+    // A hunk number or an offset.
+    BadTarget,
+
+    // A word after the last hunk.
+    TrailingWords,
+
+    // A list of bases.
+    BadBase,
+
+    // Memory, table or work area.
+    ShortRoom,
+
+    // A target too near an earlier one of its hunk.
+    NearTargets,
+
+    // A hunk that asks for chip and fast memory at once.
+    BothMemories,
+}
+
+impl From<Fault> for u32 {
+    ghost from_gives = { λ f n. n ≡ number_of f };
+
+    // The number that it has for every caller, C's too.
+    fn from(fault: Fault) -> u32 {
+        match fault {
+            Fault::ImageLength => 1,
+            Fault::ClaimArea => 2,
+            Fault::BootTag => 3,
+            Fault::RootWords => 4,
+            Fault::BadKey => 5,
+            Fault::ClaimedTwice => 6,
+            Fault::BlockSum => 7,
+            Fault::BlockType => 8,
+            Fault::Link => 9,
+            Fault::WrongTies => 10,
+            Fault::BadName => 11,
+            Fault::WrongSlot => 12,
+            Fault::DoubleName => 13,
+            Fault::FileLayout => 14,
+            Fault::DataLayout => 15,
+            Fault::BitmapWords => 16,
+            Fault::WrongBit => 17,
+            Fault::PathForm => 18,
+            Fault::NotFound => 19,
+            Fault::WrongKind => 20,
+            Fault::FileLength => 30,
+            Fault::EarlyEnd => 31,
+            Fault::HeaderWord => 32,
+            Fault::Library => 33,
+            Fault::HunkSize => 34,
+            Fault::MisplacedBlock => 35,
+            Fault::BodyLength => 36,
+            Fault::SymbolType => 37,
+            Fault::BadTarget => 38,
+            Fault::TrailingWords => 39,
+            Fault::BadBase => 40,
+            Fault::ShortRoom => 41,
+            Fault::NearTargets => 42,
+            Fault::BothMemories => 43,
+        }
+    }
+}
+
+impl Fault {
+    // The refusal that says it of a place.
+    pub fn at(self, place: usize) -> Refusal
+        ensures { result ≡ refused_at self place }
+    {
+        Refusal {
+            number: u32::from(self),
+            place,
+        }
+    }
+}
+
+// A refusal's number, and the place that it is about: a key, a byte, a component or an entry. It has the number and not
+// the fault, since C is handed it and the theorems speak of it.
+#[derive(Clone, Copy, Debug, PartialEq, Eq)]
 pub struct Refusal {
     pub number: u32,
     pub place: usize,
-}
-
-// The outcome of tests that give no value.
-#[derive(Drop)]
-pub enum Tested {
-    Passed,
-    Failed(Refusal),
-}
-
-// The numbers of refusals, by name.
-#[derive(Drop)]
-pub struct Fault;
-
-impl Fault {
-    // The image is not as long as its disk.
-    pub const IMAGE_LENGTH: u32 = 1;
-
-    // The claim area is too short.
-    pub const CLAIM_AREA: u32 = 2;
-
-    // The boot tag is another.
-    pub const BOOT_TAG: u32 = 3;
-
-    // A fixed word of the root.
-    pub const ROOT_WORDS: u32 = 4;
-
-    // A key outside the volume.
-    pub const BAD_KEY: u32 = 5;
-
-    // A block that is claimed already; in a lookup, a chain that is too long.
-    pub const CLAIMED_TWICE: u32 = 6;
-
-    // The words of a block do not add up to 0.
-    pub const BLOCK_SUM: u32 = 7;
-
-    // The types of a block.
-    pub const BLOCK_TYPE: u32 = 8;
-
-    // An entry that is a link.
-    pub const LINK: u32 = 9;
-
-    // Own key, parent, or w126 of a directory.
-    pub const WRONG_TIES: u32 = 10;
-
-    // A name that may not be one.
-    pub const BAD_NAME: u32 = 11;
-
-    // An entry in another slot than its name's.
-    pub const WRONG_SLOT: u32 = 12;
-
-    // A name that an earlier entry of the directory has.
-    pub const DOUBLE_NAME: u32 = 13;
-
-    // Size, count or links of a file.
-    pub const FILE_LAYOUT: u32 = 14;
-
-    // The words of a data block, or its key.
-    pub const DATA_LAYOUT: u32 = 15;
-
-    // The root's words beside the bitmap key.
-    pub const BITMAP_WORDS: u32 = 16;
-
-    // A bit of the bitmap.
-    pub const WRONG_BIT: u32 = 17;
-
-    // The form of a path.
-    pub const PATH_FORM: u32 = 18;
-
-    // No entry has the name.
-    pub const NOT_FOUND: u32 = 19;
-
-    // A file used as a directory, or a directory that is read.
-    pub const WRONG_KIND: u32 = 20;
-
-    // A program file that is empty or not made of words.
-    pub const FILE_LENGTH: u32 = 30;
-
-    // A word that is needed after the end.
-    pub const EARLY_END: u32 = 31;
-
-    // A word of the header.
-    pub const HEADER_WORD: u32 = 32;
-
-    // A library is named.
-    pub const LIBRARY: u32 = 33;
-
-    // A hunk's size.
-    pub const HUNK_SIZE: u32 = 34;
-
-    // A block type that may not stand there.
-    pub const MISPLACED_BLOCK: u32 = 35;
-
-    // A body that is longer than its hunk.
-    pub const BODY_LENGTH: u32 = 36;
-
-    // The type of a symbol.
-    pub const SYMBOL_TYPE: u32 = 37;
-
-    // A hunk number or an offset.
-    pub const BAD_TARGET: u32 = 38;
-
-    // A word after the last hunk.
-    pub const TRAILING_WORDS: u32 = 39;
-
-    // A list of bases.
-    pub const BAD_BASE: u32 = 40;
-
-    // Memory, table or work area.
-    pub const SHORT_ROOM: u32 = 41;
-
-    // A target too near an earlier one of its hunk.
-    pub const NEAR_TARGETS: u32 = 42;
-
-    // A hunk that asks for chip and fast memory at once.
-    pub const BOTH_MEMORIES: u32 = 43;
 }

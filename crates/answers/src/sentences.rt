@@ -61,29 +61,25 @@ fn line_end(text: &[u8], at: usize) -> usize
     requires { at ≤ length text.now }
     ensures { EndsLine text.now at result }
 {
-    let mut i = at;
-    while i < text.len() {
+    for i in at..text.len() {
         if text[i] == b'\n' {
             return i;
         }
-        i += 1;
     }
-    i
+    text.len()
 }
 
 // Where line `number` begins, or else the end of the text.
 fn line_start(text: &[u8], number: u32) -> usize
     ensures { BeginsLine text.now number result }
 {
-    let mut at: usize = 0;
-    let mut left = number;
-    while 0 < left {
+    let mut at = 0;
+    for _ in 0..number {
         let end = line_end(text, at);
         if end == text.len() {
             return end;
         }
         at = end + 1;
-        left -= 1;
     }
     at
 }
@@ -92,14 +88,8 @@ fn line_start(text: &[u8], number: u32) -> usize
 fn copy(from: &[u8], output: &mut [u8])
     ensures { output.new ≡ copied from.now output.old }
 {
-    let mut i = 0;
-    while i < from.len() {
-        if i == output.len() {
-            return;
-        }
-        output[i] = from[i];
-        i += 1;
-    }
+    let n = from.len().min(output.len());
+    words::copy(&from[..n], &mut output[..n]);
 }
 
 // Copies line `number` of a text to the output, as far as it fits, and gives the length of the whole line. It is 0 if

@@ -4,4 +4,3 @@ pub mod Turns
 pub mod Sums
 pub mod Lanes
 pub mod Shifts
-pub mod Zeros

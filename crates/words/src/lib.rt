@@ -1,5 +1,4 @@
-// Big-endian 32-bit words of a slice of bytes: read, store, add, and the sum of a block's words; bytes set to 0; and
-// the smaller of two numbers.
+// Big-endian 32-bit words of a slice of bytes: read, store, add, and the sum of a block's words; and a copy of items.
 #![tactic(auto)]
 
 ghost use Rattle.std.specs.Prelude.{◌≡◌, ◌+◌, ◌*◌, ◌/◌, ◌%◌, ◌^◌, ◌<◌, ◌≤◌, min, ◌++◌, length, drop, replicate};
@@ -14,7 +13,7 @@ pub const BLOCK_WORDS: usize = 128;
 pub fn join(a: u8, b: u8, c: u8, d: u8) -> u32
     ensures { result ≡ four a b c d }
 {
-    ((a as u32 * 256 + b as u32) * 256 + c as u32) * 256 + d as u32
+    u32::from_be_bytes([a, b, c, d])
 }
 
 // The word whose first byte stands at `at`.
@@ -30,10 +29,11 @@ pub fn put_word(bytes: &mut [u8], at: usize, w: u32)
     requires { at + 4 ≤ length bytes.old }
     ensures { bytes.new ≡ set_word bytes.old at w }
 {
-    bytes[at] = (w / 16777216 % 256) as u8;
-    bytes[at + 1] = (w / 65536 % 256) as u8;
-    bytes[at + 2] = (w / 256 % 256) as u8;
-    bytes[at + 3] = (w % 256) as u8;
+    let [a, b, c, d] = w.to_be_bytes();
+    bytes[at] = a;
+    bytes[at + 1] = b;
+    bytes[at + 2] = c;
+    bytes[at + 3] = d;
 }
 
 // Adds d to the word at `at`, modulo 2^32.
@@ -42,7 +42,7 @@ pub fn add_at(bytes: &mut [u8], at: usize, d: u32)
     ensures { bytes.new ≡ add_at bytes.old at d }
 {
     let w = word(bytes, at);
-    put_word(bytes, at, std::num::wrapping_add_u32(w, d));
+    put_word(bytes, at, w.wrapping_add(d));
 }
 
 // ---- the sum of a block
@@ -66,7 +66,7 @@ struct Turn {
 fn join_low(a: u8, b: u8, c: u8, d: u8) -> u32
     ensures { result ≡ low_four a b c d }
 {
-    a as u32 + 256 * b as u32 + 65536 * c as u32 + 16777216 * d as u32
+    u32::from_le_bytes([a, b, c, d])
 }
 
 // The four bytes at `at` as a number, the first the lowest. The second promise follows from the first; it is here for
@@ -139,12 +139,10 @@ pub fn block_sum(bytes: &[u8], at: usize) -> u32
 {
     let mut low: u64 = 0;
     let mut odd: u32 = 0;
-    let mut i: usize = 0;
-    while i < BLOCK_TURNS {
+    for i in 0..BLOCK_TURNS {
         let turn = eight_words(bytes, at + 4 * i);
         low += turn.low;
         odd += turn.odd;
-        i += 1;
     }
     // `low` has 64 bits so that no addition wraps, and 32 of them matter. The compiler adds up no more than these if it
     // sees that by a cast to 32 bits: this one, or the one at the end of `even_bytes`. So the casts must stay. With
@@ -153,29 +151,13 @@ pub fn block_sum(bytes: &[u8], at: usize) -> u32
     high_first(even, odd)
 }
 
-// Sets the first n bytes to 0.
-pub fn clear(bytes: &mut [u8], n: usize)
-    requires { n ≤ length bytes.old }
-    ensures { bytes.new ≡ replicate n 0 ++ drop n bytes.old }
+// Copies items over those of a slice of the same length. A loop, and not std's `copy_from_slice`, which needs memmove:
+// the header names what the archive needs, and memmove is not among it.
+pub fn copy<T: Copy>(from: &[T], to: &mut [T])
+    requires { length from.now ≡ length to.old }
+    ensures { to.new ≡ from.now }
 {
-    let mut i = 0;
-    while i < n {
-        bytes[i] = 0;
-        i += 1;
+    for i in 0..from.len() {
+        to[i] = from[i];
     }
-}
-
-// Sets every byte to 0.
-pub fn wipe(bytes: &mut [u8])
-    ensures { bytes.new ≡ replicate (length bytes.old) 0 }
-{
-    let n = bytes.len();
-    clear(bytes, n);
-}
-
-// The smaller of two numbers.
-pub fn least(a: usize, b: usize) -> usize
-    ensures { result ≡ min a b }
-{
-    if a <= b { a } else { b }
 }

@@ -1,5 +1,5 @@
 -- `words::put_word` meets its contract: each store leaves the length. Assumes nothing.
-use Rattle.std.proofs.Common.{refl, arith, length-set}
+use Rattle.std.proofs.Common.{arith, length-set}
 use Rattle.words.specs.Word.{set_word}
 use Rattle.words.proofs.put_word.Goals as goal
 
@@ -14,4 +14,4 @@ bounds-bytes-at-4 c = simp length-set (omega arith)
 
 pub returns : goal.returns
 unfolding set_word
-returns c = refl
+returns c = rw c.to_be_bytes.ensures
