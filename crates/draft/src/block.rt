@@ -9,7 +9,7 @@ ghost use Rattle.writes.specs.Bits.{bit_of, with_bit, set_bit};
 
 use volume::bitmap::Bit;
 use volume::block::Block;
-use words::{add_at, block_sum, put_word, word};
+use words::{add_at, block_sum, copy, put_word, word};
 
 // Block i of one area becomes block k of the other.
 pub fn copy_block(from: &[u8], i: usize, to: &mut [u8], k: usize)
@@ -18,11 +18,10 @@ pub fn copy_block(from: &[u8], i: usize, to: &mut [u8], k: usize)
 {
     let source = i * Block::BYTES;
     let target = k * Block::BYTES;
-    let mut n: usize = 0;
-    while n < Block::BYTES {
-        to[target + n] = from[source + n];
-        n += 1;
-    }
+    copy(
+        &from[source..source + Block::BYTES],
+        &mut to[target..target + Block::BYTES],
+    );
 }
 
 // Mends the sum of a block in its word j.

@@ -26,9 +26,7 @@ fn fetch(image: &[u8], order: &[u32], blocks: &mut [u8], n: usize, key: u32)
         ≡ put blocks.old n
         (block_of (carried image.now (writes_in order.now blocks.old n)) key) }
 {
-    let mut i = n;
-    while 0 < i {
-        i -= 1;
+    for i in (0..n).rev() {
         if order[i] == key {
             copy_within(blocks, i, n);
             return;

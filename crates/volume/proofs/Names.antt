@@ -1,5 +1,5 @@
 -- Laws of names: folding, slots, and the loops over a name's bytes. Assumes nothing.
-use Prim.Native.Nat.{ℕ, suc, ◌+◌, ◌-◌, ◌*◌, ◌%◌, ◌<◌, ◌≤◌}
+use Prim.Native.Nat.{ℕ, zero, suc, ◌+◌, ◌-◌, ◌*◌, ◌%◌, ◌<◌, ◌≤◌}
 use mathlib.Core.Path.{◌≡◌, refl, ap, sym, ◌∙◌}
 use mathlib.Core.Logic.{◌⊎◌, inl, inr}
 use mathlib.Core.Bool.{Bool, true, false}
@@ -8,16 +8,17 @@ use native.Mathlib.Omega.{arith}
 use native.Mathlib.Numerals.{add-one}
 use native.Mathlib.Decide.{dec_le, dec_lt}
 use lib.Dec.{eqb, leb}
-use lib.ListN.{length, get_or}
-use lib.Seq.{slice, slice-cons, slice_empty, length-slice}
+use lib.ListN.{length, get_or, drop, drop_of_length-le}
+use lib.Seq.{drop-cons}
 use borrow.Author.Tests.{eqb-true, eq-eqb, ne_eqb, le-leb, lt-leb, leb-true}
+use Rattle.std.specs.Char.{to_ascii_uppercase}
 use Rattle.volume.specs.declared.disk.Disk.{Disk}
 use Rattle.answers.specs.Tests.{pick}
 use Rattle.answers.proofs.Clashes.{impossible}
-use Rattle.volume.specs.Blocks.{Holds, slots}
+use Rattle.volume.specs.Blocks.{slots}
 use Rattle.volume.specs.Disks.{folds_accents}
 use Rattle.volume.specs.Names.{fold_plain, accented, fold_international, fold_of, folded, hash_from, slot_of, allowed}
-use Rattle.volume.specs.Names.{same, longest, name_length, name_from, name_of, name_good}
+use Rattle.volume.specs.Names.{same, longest, name_length, name_of, name_good}
 
 -- ---- the bytes that each folding moves
 
@@ -33,6 +34,10 @@ module _ (b : ℕ) where
   fold_mid : 97 ≤ b → b ≤ 122 → fold_plain b ≡ b - 32
   unfolding fold_plain pick
   fold_mid g h = rw (le-leb 97 b g, le-leb b 122 h)
+
+pub capital : (b : ℕ) → to_ascii_uppercase b ≡ fold_plain b
+unfolding fold_plain pick
+capital b = grind arith
 
 module _ (b : ℕ) where
   accented_not : b < 0xE0 → accented b ≡ false
@@ -184,52 +189,36 @@ map_same d (x ∷ xs) (y ∷ ys) e =
     let q : folded d xs ≡ folded d ys = cc in
     rw (eq-eqb _ _ p) (map_same d xs ys q)
 
--- ---- a range of bytes, the first of which is taken off
+-- ---- what is left of a name, the first byte of which is taken off
 
-module _ (s : List ℕ) (f t : ℕ) (p : f < t) (q : t ≤ length s) where
+module _ (s : List ℕ) (i : ℕ) (p : i < length s) where
   pub hash_step : (d : Disk) (h : ℕ)
-      → hash_from d ((13 * h + fold_of d (get_or s f 0)) % 2048) (slice (f + 1) t s) ≡ hash_from d h (slice f t s)
+      → hash_from d ((13 * h + fold_of d (get_or s i 0)) % 2048) (drop (i + 1) s) ≡ hash_from d h (drop i s)
   unfolding hash_from
-  hash_step d h = rw (add-one, slice-cons f t s 0 p q)
+  hash_step d h = rw (add-one, drop-cons s i 0 p)
 
-  pub allowed_step : (get_or s f 0 ≡ 47 → ⊥) → (get_or s f 0 ≡ 58 → ⊥)
-      → allowed (slice (f + 1) t s) ≡ allowed (slice f t s)
+  pub allowed_step : (get_or s i 0 ≡ 47 → ⊥) → (get_or s i 0 ≡ 58 → ⊥) → allowed (drop (i + 1) s) ≡ allowed (drop i s)
   unfolding allowed pick
-  allowed_step m n = rw (add-one, slice-cons f t s 0 p q, ne_eqb _ _ m, ne_eqb _ _ n)
+  allowed_step m n = rw (add-one, drop-cons s i 0 p, ne_eqb _ _ m, ne_eqb _ _ n)
 
-  pub allowed_slash : get_or s f 0 ≡ 47 → false ≡ allowed (slice f t s)
+  pub allowed_slash : get_or s i 0 ≡ 47 → false ≡ allowed (drop i s)
   unfolding allowed pick
-  allowed_slash m = rw (slice-cons f t s 0 p q, eq-eqb _ _ m)
+  allowed_slash m = rw (drop-cons s i 0 p, eq-eqb _ _ m)
 
-  pub allowed_colon : (get_or s f 0 ≡ 47 → ⊥) → get_or s f 0 ≡ 58 → false ≡ allowed (slice f t s)
+  pub allowed_colon : (get_or s i 0 ≡ 47 → ⊥) → get_or s i 0 ≡ 58 → false ≡ allowed (drop i s)
   unfolding allowed pick
-  allowed_colon m n = rw (slice-cons f t s 0 p q, ne_eqb _ _ m, eq-eqb _ _ n)
+  allowed_colon m n = rw (drop-cons s i 0 p, ne_eqb _ _ m, eq-eqb _ _ n)
 
-  module _ (d : Disk) (s' : List ℕ) (f' t' : ℕ) (p' : f' < t') (q' : t' ≤ length s') where
-    pub same_step : fold_of d (get_or s f 0) ≡ fold_of d (get_or s' f' 0)
-        → same d (slice (f + 1) t s) (slice (f' + 1) t' s') ≡ same d (slice f t s) (slice f' t' s')
-    unfolding same pick
-    same_step e = rw (add-one, add-one, slice-cons f t s 0 p q, slice-cons f' t' s' 0 p' q', eq-eqb _ _ e)
-
-    pub same_bad : (fold_of d (get_or s f 0) ≡ fold_of d (get_or s' f' 0) → ⊥)
-        → false ≡ same d (slice f t s) (slice f' t' s')
-    unfolding same pick
-    same_bad e = rw (slice-cons f t s 0 p q, slice-cons f' t' s' 0 p' q', ne_eqb _ _ e)
-
-module _ (s : List ℕ) (t : ℕ) where
-  pub hash_done : (d : Disk) (h : ℕ) → hash_from d h (slice t t s) ≡ h
+module _ (s : List ℕ) (i : ℕ) (p : length s ≤ i) where
+  pub hash_done : (d : Disk) (h : ℕ) → hash_from d h (drop i s) ≡ h
   unfolding hash_from
-  hash_done d h = rw slice_empty
+  hash_done d h = rw (drop_of_length-le s p)
 
-  pub allowed_done : allowed (slice t t s) ≡ true
+  pub allowed_done : true ≡ allowed (drop i s)
   unfolding allowed
-  allowed_done = rw slice_empty
+  allowed_done = rw (drop_of_length-le s p)
 
-  pub same_done : (d : Disk) (s' : List ℕ) (t' : ℕ) → same d (slice t t s) (slice t' t' s') ≡ true
-  unfolding same
-  same_done d s' t' = rw (slice_empty, slice_empty)
-
--- one byte more that is looked at
+-- a byte of a name that is looked at
 pub ruleset allowing = (allowed_step, allowed_slash, allowed_colon)
 
 -- names of different lengths differ
@@ -245,18 +234,14 @@ same_long d (x ∷ xs) (y ∷ ys) h = both (eqb (fold_of d x) (fold_of d y)) (sa
     both false e = refl
 
 module _ (s : List ℕ) (k n : ℕ) (h : n ≡ name_length s k) where
-  pub name_none : n < 1 → false ≡ name_good s k
+  pub name_not : (n < 1) ⊎ ((1 ≤ n) × (longest < n)) → false ≡ name_good s k
   unfolding name_good pick
-  name_none q = rw (← h, lt-leb 1 n q)
+  name_not (inl q) = rw (← h, lt-leb 1 n q)
+  name_not (inr q) = rw (← h, le-leb 1 n q.0, lt-leb n longest q.1)
 
-  pub name_long : 1 ≤ n → longest < n → false ≡ name_good s k
+  pub name_is : (r : Bool) → 1 ≤ n → n ≤ longest → r ≡ allowed (name_of s k) → r ≡ name_good s k
   unfolding name_good pick
-  name_long p q = rw (← h, le-leb 1 n p, lt-leb n longest q)
-
-  pub name_is : (f : ℕ) (r : Bool) → 1 ≤ n → n ≤ longest → f ≡ name_from k → r ≡ allowed (slice f (f + n) s)
-      → r ≡ name_good s k
-  unfolding name_good pick
-  name_is f r p q g e = rw (← h, ← g, le-leb 1 n p, le-leb n longest q) e
+  name_is r p q e = rw (le-leb 1 _ (rw h at p), le-leb _ longest (rw h at q)) e
 
 pub name_short : (s : List ℕ) (k : ℕ) (r : Bool) → r ≡ name_good s k → r ≡ true → name_length s k ≤ longest
 unfolding name_good pick
@@ -270,26 +255,33 @@ name_short s k r e q = go (leb 1 n) (leb n longest) (allowed (name_of s k)) refl
     go true false c p q = impossible cc
     go false b c p q = impossible cc
 
--- a block's name, of n bytes, and another: of different lengths, or of one
-module _ (d : Disk) (s : List ℕ) (k n : ℕ) (i : Holds s k) (p : name_length s k ≤ longest) (h : n ≡ name_length s k)
-    (t : List ℕ) (at len : ℕ) (q : at + len ≤ length t) where
-  pub named_long : (n ≡ len → ⊥) → false ≡ same d (name_of s k) (slice at (at + len) t)
-  named_long e =
-      same_long d (name_of s k) (slice at (at + len) t)
-      (λ l. e (omega (
-        arith,
-        sym (length-slice (name_from k) (name_from k + name_length s k) s (omega arith)) ∙ l
-            ∙ length-slice at (at + len) t q,
-      )))
-
-  pub named_is : (f : ℕ) (r : Bool) → n ≡ len → f ≡ name_from k → r ≡ same d (slice f (f + n) s) (slice at (at + n) t)
-      → r ≡ same d (name_of s k) (slice at (at + len) t)
-  named_is f r e g u = rw (← h, ← g, ← e) u
-
--- the slot of a part, from the hash that its loop ends with
-pub slot_is : (d : Disk) (s : List ℕ) (at n h : ℕ) → at + n ≤ length s → h ≡ hash_from d n (slice at (at + n) s)
-    → h % slots ≡ slot_of d (slice at (at + n) s)
+-- the slot, from the hash that the loop over a name ends with
+pub slot_is : (d : Disk) (s : List ℕ) (i h : ℕ) → length s ≤ i → hash_from d h (drop i s) ≡ hash_from d (length s) s
+    → h % slots ≡ slot_of d s
 unfolding slot_of
-slot_is d s at n h q e =
-    let k : at + n - at ≡ n = omega arith in
-    rw (length-slice at (at + n) s q, k, e)
+slot_is d s i h p e = rw (sym (hash_done s i p d h) ∙ e)
+
+-- ---- two names of one length, compared byte by byte
+
+module _ (d : Disk) where
+  pub same_pairs : (xs ys : List ℕ) → length xs ≡ length ys
+      → ((k : ℕ) → k < length xs → fold_of d (get_or xs k 0) ≡ fold_of d (get_or ys k 0)) → true ≡ same d xs ys
+  unfolding same pick
+  same_pairs [] [] e h = refl
+  same_pairs [] (y ∷ ys) e h = impossible cc
+  same_pairs (x ∷ xs) [] e h = impossible cc
+  same_pairs (x ∷ xs) (y ∷ ys) e h =
+      rw (eq-eqb _ _ (h 0 (omega arith))) (same_pairs xs ys (omega arith) (λ k p. h (suc k) (omega arith)))
+
+  pub same_but : (xs ys : List ℕ) (k : ℕ) → k < length xs → k < length ys
+      → (fold_of d (get_or xs k 0) ≡ fold_of d (get_or ys k 0) → ⊥) → false ≡ same d xs ys
+  unfolding same pick
+  same_but [] ys k p q h = absurd (omega arith)
+  same_but (x ∷ xs) [] k p q h = absurd (omega arith)
+  same_but (x ∷ xs) (y ∷ ys) zero p q h = rw (ne_eqb _ _ h)
+  same_but (x ∷ xs) (y ∷ ys) (suc k) p q h =
+      both (eqb (fold_of d x) (fold_of d y)) (same_but xs ys k (omega arith) (omega arith) h)
+    where
+      both : {r : Bool} (t : Bool) → false ≡ r → false ≡ pick t r false
+      both true e = e
+      both false e = refl

@@ -1,7 +1,7 @@
 -- Sums that are known by a bitmap block. Assumes nothing.
-use Prim.Native.Nat.{ℕ, zero, suc, ◌+◌, ◌≤◌, ◌<◌}
+use Rattle.std.specs.Prelude.{Option, Some, None}
+use Prim.Native.Nat.{ℕ, ◌+◌, ◌≤◌, ◌<◌}
 use mathlib.Core.Path.{◌≡◌, refl, sym, ◌∙◌}
-use mathlib.Core.Logic.{◌≢◌}
 use mathlib.Core.Bool.{Bool, true, false, not}
 use mathlib.Core.List.{List}
 use native.Mathlib.Omega.{arith}
@@ -16,7 +16,7 @@ use Rattle.volume.specs.Disks.{Sized, first_key, in_range, image_bytes}
 use Rattle.volume.specs.Blocks.{Holds, sum_of}
 use Rattle.volume.specs.Bitmap.{is_free}
 use Rattle.volume.proofs.Sizes.{range_is}
-use Rattle.volume.specs.Sums.{breaks_sum, Summed, SumsKnown, Testable}
+use Rattle.volume.specs.Sums.{breaks_sum, SumsKnown, Testable}
 
 -- as code tests it: f is whether the block is free, w its sum
 module _ (s : List ℕ) (map k : ℕ) (f : Bool) (e : f ≡ is_free s map k) where
@@ -38,34 +38,26 @@ keeps_sum s map k e h = go (eqb (sum_of s k) 0) refl (rw h at e)
     go false p q = impossible cc
 
 module _ (d : Disk) (s : List ℕ) where
-  -- a bitmap block by which all sums are right is one that says so, and one that says anything is such a block
-  pub says : (map : ℕ) → Summed d s map → SumsKnown d s map
-  says zero m = tt
-  says (suc n) m = m
-
-  said : (map : ℕ) → map ≢ 0 → SumsKnown d s map → Summed d s map
-  said zero z m = absurd (z refl)
-  said (suc n) z m = m
-
   -- block k may be tested
-  pub testable : (map k : ℕ) → Sized d → length s ≡ image_bytes d → SumsKnown d s map → first_key ≤ k → k < d.blocks
-      → Testable d s map k
+  pub testable : (map : Option ℕ) (k : ℕ) → Sized d → length s ≡ image_bytes d → SumsKnown d s map → first_key ≤ k
+      → k < d.blocks → Testable d s map k
   testable map k y e m l h =
       record { sized = y; image = e; summed = m; low = l; high = h; holds = omega arith }
 
   -- so may one whose key is in range, with nothing known of sums
   pub range_testable : (k : ℕ) (t : Bool) → Sized d → length s ≡ image_bytes d → t ≡ in_range d k → t ≡ true
-      → Testable d s 0 k
-  range_testable k t y l e h = let r = range_is d k (sym e ∙ h) in testable 0 k y l tt r.0 r.1
+      → Testable d s None k
+  range_testable k t y l e h = let r = range_is d k (sym e ∙ h) in testable None k y l tt r.0 r.1
 
-  -- a bitmap block that says anything lies in the image
-  pub map_holds : (map k : ℕ) → Testable d s map k → map ≢ 0 → Holds s map
-  map_holds map k v z = omega (arith, v.image, (said map z v.summed).inside)
+  -- a bitmap block by which sums are known lies in the image
+  pub map_holds : (map k : ℕ) → Testable d s (Some map) k → Holds s map
+  map_holds map k v = omega (arith, v.image, v.summed.inside)
 
   -- the sum of a block that is in use
-  pub sum_known : (map k : ℕ) (f : Bool) → Testable d s map k → map ≢ 0 → f ≡ is_free s map k → f ≡ false
+  pub sum_known : (map k : ℕ) (f : Bool) → Testable d s (Some map) k → f ≡ is_free s map k → not f ≡ true
       → 0 ≡ sum_of s k
-  sum_known map k f v z e h = sym ((said map z v.summed).sums k v.low v.high (rw (← e) h))
+  sum_known map k true v e h = impossible cc
+  sum_known map k false v e h = sym (v.summed.sums k v.low v.high (sym e))
 
   pub sum_said : (k : ℕ) (t : Bool) → (t ≡ true → 0 ≡ sum_of s k) → t ≡ true → 0 ≡ sum_of s k
   sum_said k t f e = f e
@@ -90,5 +82,5 @@ module _ (d : Disk) (s : List ℕ) where
         go j l q (yes p) = v.done j l p
         go j l q (no p) = let g : j ≡ k = omega arith in rw g (keeps_sum s map k (sym f ∙ e))
 
-    pub sums_end : (k : ℕ) → SumsInv k → d.blocks ≤ k → map < d.blocks → SumsKnown d s map
-    sums_end k v h i = says map (record { inside = i; sums = λ j l q. v.done j l (omega arith) })
+    pub sums_end : (k : ℕ) → SumsInv k → d.blocks ≤ k → map < d.blocks → SumsKnown d s (Some map)
+    sums_end k v h i = record { inside = i; sums = λ j l q. v.done j l (omega arith) }

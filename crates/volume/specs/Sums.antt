@@ -1,6 +1,6 @@
 -- What may be known of sums before blocks are met: that all blocks which the bitmap has in use add up to 0. The law
 -- does not speak of it; it saves adding up a block where the walk meets it.
-use Rattle.std.specs.Prelude.{ℕ, zero, suc, ◌≤◌, ◌<◌, ◌≡◌, Bool, false, not, List, eqb, length}
+use Rattle.std.specs.Prelude.{ℕ, ◌≤◌, ◌<◌, ◌≡◌, Bool, false, not, List, Option, Some, None, eqb, length}
 use Rattle.answers.specs.Tests.{pick}
 use Rattle.volume.specs.declared.disk.Disk.{Disk}
 use Rattle.volume.specs.Disks.{Sized, first_key, image_bytes}
@@ -16,13 +16,13 @@ pub record Summed (d : Disk) (s : List ℕ) (map : ℕ) : Type 0 where
   pub inside : map < d.blocks
   pub sums : (k : ℕ) → first_key ≤ k → k < d.blocks → is_free s map k ≡ false → sum_of s k ≡ 0
 
--- what `map` says of sums: nothing where it is 0, a key that no reference may hold
-abbrev pub SumsKnown : Disk → List ℕ → ℕ → Type 0
-SumsKnown d s zero = Unit
-SumsKnown d s (suc n) = Summed d s (suc n)
+-- what is known of sums by a bitmap block, if there is one by which they are known
+abbrev pub SumsKnown : Disk → List ℕ → Option ℕ → Type 0
+SumsKnown d s None = Unit
+SumsKnown d s (Some map) = Summed d s map
 
 -- block k of a disk's image may be tested, with what `map` says of its sum
-pub record Testable (d : Disk) (s : List ℕ) (map k : ℕ) : Type 0 where
+pub record Testable (d : Disk) (s : List ℕ) (map : Option ℕ) (k : ℕ) : Type 0 where
   pub sized : Sized d
   pub image : length s ≡ image_bytes d
   pub summed : SumsKnown d s map

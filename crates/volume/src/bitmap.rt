@@ -8,7 +8,7 @@ use crate::block::word_of;
 use crate::disk::Disk;
 
 // A word of the bitmap block, and the number of a bit in it, counted from the lowest.
-#[derive(Drop)]
+#[derive(Clone, Copy, Debug, PartialEq, Eq)]
 pub struct Bit {
     pub word: usize,
     pub number: u32,

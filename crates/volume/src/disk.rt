@@ -9,7 +9,8 @@ ghost use Rattle.volume.specs.Files.{data_blocks, held_of};
 use crate::block::Block;
 
 // The number of its blocks, and the last byte of its boot tag.
-#[derive(Clone, Copy)]
+// The kind is a byte and no enum, since every function of a disk answers for each byte, its tag with it.
+#[derive(Clone, Copy, Debug, PartialEq, Eq)]
 pub struct Disk {
     pub blocks: u32,
     pub kind: u8,
@@ -80,7 +81,7 @@ impl Disk {
     // 1,760 KB; there are no further sizes.
     pub const HIGH_DENSITY: u32 = 3520;
 
-    // What a call names in place of a size, to take either.
+    // What a call names in place of a size, to take either: a number, since C names it.
     pub const ANY_SIZE: u32 = 0;
 
     // The two boot blocks have no key.

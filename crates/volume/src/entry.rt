@@ -1,5 +1,6 @@
 // The tests of an entry, a directory or a file header.
 ghost use Rattle.std.specs.Prelude.{◌≡◌};
+ghost use Rattle.answers.specs.Refusals.{told};
 ghost use Rattle.answers.specs.Tests.{tests};
 ghost use Rattle.volume.specs.Blocks.{Holds, directory};
 ghost use Rattle.volume.specs.Sums.{Testable};
@@ -20,81 +21,82 @@ pub fn is_directory(image: &[u8], key: u32) -> bool
 }
 
 // Sum and types.
-fn types_fault(disk: Disk, image: &[u8], map: u32, key: u32) -> u32
+fn types_fault(disk: Disk, image: &[u8], map: Option<u32>, key: u32) -> Result<(), Fault>
     requires { Testable disk image.now map key }
-    ensures { result ≡ tests (entry_types image.now key) }
+    ensures { told result ≡ tests (entry_types image.now key) }
 {
     if known_sum(disk, image, map, key) != 0 {
-        return Fault::BLOCK_SUM;
+        return Err(Fault::BlockSum);
     }
     if word_of(image, key, Block::TYPE) != Block::HEADER_TYPE {
-        return Fault::BLOCK_TYPE;
+        return Err(Fault::BlockType);
     }
     let kind = word_of(image, key, Block::KIND);
     if kind == Block::SOFT_LINK {
-        return Fault::LINK;
+        return Err(Fault::Link);
     }
     if kind == Block::DIRECTORY_LINK {
-        return Fault::LINK;
+        return Err(Fault::Link);
     }
     if kind == Block::FILE_LINK {
-        return Fault::LINK;
+        return Err(Fault::Link);
     }
     if kind == Block::DIRECTORY {
-        return 0;
+        return Ok(());
     }
     if kind != Block::FILE {
-        return Fault::BLOCK_TYPE;
+        return Err(Fault::BlockType);
     }
-    0
+    Ok(())
 }
 
 // Its own key, its directory's, and a directory's w126.
-fn words_fault(image: &[u8], key: u32, directory: u32) -> u32
+fn words_fault(image: &[u8], key: u32, directory: u32) -> Result<(), Fault>
     requires { Holds image.now key }
-    ensures { result ≡ tests (entry_words image.now key directory) }
+    ensures { told result ≡ tests (entry_words image.now key directory) }
 {
     if word_of(image, key, Block::OWN_KEY) != key {
-        return Fault::WRONG_TIES;
+        return Err(Fault::WrongTies);
     }
     if word_of(image, key, Block::PARENT) != directory {
-        return Fault::WRONG_TIES;
+        return Err(Fault::WrongTies);
     }
     if word_of(image, key, Block::KIND) != Block::DIRECTORY {
-        return 0;
+        return Ok(());
     }
     if word_of(image, key, Block::LIST) != 0 {
-        return Fault::WRONG_TIES;
+        return Err(Fault::WrongTies);
     }
-    0
+    Ok(())
 }
 
 // Its name and slot.
-fn name_fault(disk: Disk, image: &[u8], key: u32, slot: u32) -> u32
+fn name_fault(disk: Disk, image: &[u8], key: u32, slot: u32) -> Result<(), Fault>
     requires { Holds image.now key }
-    ensures { result ≡ tests (entry_name disk image.now key slot) }
+    ensures { told result ≡ tests (entry_name disk image.now key slot) }
 {
-    if name_good(image, key) {
-        if slot_of(disk, image, key) != slot {
-            return Fault::WRONG_SLOT;
-        }
-        return 0;
+    if !name_good(image, key) {
+        return Err(Fault::BadName);
     }
-    Fault::BAD_NAME
+    if slot_of(disk, image, key) != slot {
+        return Err(Fault::WrongSlot);
+    }
+    Ok(())
 }
 
 // An entry on the chain of a slot of a directory; `map` has what is known of sums.
-pub fn entry_fault(disk: Disk, image: &[u8], map: u32, key: u32, directory: u32, slot: u32) -> u32
+pub fn entry_fault(
+    disk: Disk,
+    image: &[u8],
+    map: Option<u32>,
+    key: u32,
+    directory: u32,
+    slot: u32,
+) -> Result<(), Fault>
     requires { Testable disk image.now map key }
-    ensures { result ≡ entry_fault disk image.now key directory slot }
+    ensures { told result ≡ entry_fault disk image.now key directory slot }
 {
-    let f = types_fault(disk, image, map, key);
-    if f != 0 {
-        return f;
-    }
-    let g = words_fault(image, key, directory);
-    if g != 0 {
-        return g;
-    }
+    types_fault(disk, image, map, key)?;
+    words_fault(image, key, directory)?;
     name_fault(disk, image, key, slot)
 }

@@ -1,5 +1,6 @@
 // Files: how many blocks a size takes, and the tests of headers, list blocks and data blocks.
 ghost use Rattle.std.specs.Prelude.{◌≡◌, ◌≤◌, ◌<◌};
+ghost use Rattle.answers.specs.Refusals.{told};
 ghost use Rattle.answers.specs.Tests.{tests};
 ghost use Rattle.volume.specs.Disks.{Sized, most_blocks, file_limit};
 ghost use Rattle.volume.specs.Blocks.{slots, Holds, word_of, key_word};
@@ -19,7 +20,7 @@ const SLOTS: u32 = Block::SLOTS as u32;
 pub fn keys_here(n: u32) -> u32
     ensures { result ≡ keys_here n }
 {
-    if n <= SLOTS { n } else { SLOTS }
+    n.min(SLOTS)
 }
 
 // The list blocks of a file of n data blocks.
@@ -48,92 +49,99 @@ pub fn key_of(image: &[u8], key: u32, i: usize) -> u32
 }
 
 // A block that lists keys, n of them still to come.
-fn count_fault(image: &[u8], key: u32, n: u32) -> u32
+fn count_fault(image: &[u8], key: u32, n: u32) -> Result<(), Fault>
     requires { Holds image.now key }
-    ensures { result ≡ tests (count_rules image.now key n) }
+    ensures { told result ≡ tests (count_rules image.now key n) }
 {
     if word_of(image, key, Block::COUNT) != keys_here(n) {
-        return Fault::FILE_LAYOUT;
+        return Err(Fault::FileLayout);
     }
     let more = word_of(image, key, Block::LIST);
     if n <= SLOTS {
         if more != 0 {
-            return Fault::FILE_LAYOUT;
+            return Err(Fault::FileLayout);
         }
-        return 0;
+        return Ok(());
     }
     if more == 0 {
-        return Fault::FILE_LAYOUT;
+        return Err(Fault::FileLayout);
     }
-    0
+    Ok(())
 }
 
 // An empty file of the old file system names no first data block.
-fn empty_fault(disk: Disk, image: &[u8], key: u32, n: u32) -> u32
+fn empty_fault(disk: Disk, image: &[u8], key: u32, n: u32) -> Result<(), Fault>
     requires { Holds image.now key }
-    ensures { result ≡ tests (empty_rules disk image.now key n) }
+    ensures { told result ≡ tests (empty_rules disk image.now key n) }
 {
     if disk.is_old() {
         if n != 0 {
-            return 0;
+            return Ok(());
         }
         if word_of(image, key, Block::FIRST_DATA) != 0 {
-            return Fault::FILE_LAYOUT;
+            return Err(Fault::FileLayout);
         }
-        return 0;
+        return Ok(());
     }
-    0
+    Ok(())
 }
 
 // A file's own tests, of its header.
-pub fn file_fault(disk: Disk, image: &[u8], key: u32) -> u32
+pub fn file_fault(disk: Disk, image: &[u8], key: u32) -> Result<(), Fault>
     requires { Sized disk × Holds image.now key }
-    ensures { result ≡ file_fault disk image.now key }
+    ensures { told result ≡ file_fault disk image.now key }
 {
     let size = word_of(image, key, Block::SIZE);
     if disk.file_limit() < size {
-        return Fault::FILE_LAYOUT;
+        return Err(Fault::FileLayout);
     }
     let n = disk.data_blocks(size);
-    let f = count_fault(image, key, n);
-    if f != 0 {
-        return f;
-    }
+    count_fault(image, key, n)?;
     empty_fault(disk, image, key, n)
 }
 
 // Sum, types, own key and header of a list block.
-fn list_words_fault(disk: Disk, image: &[u8], map: u32, key: u32, header: u32) -> u32
+fn list_words_fault(
+    disk: Disk,
+    image: &[u8],
+    map: Option<u32>,
+    key: u32,
+    header: u32,
+) -> Result<(), Fault>
     requires { Testable disk image.now map key }
-    ensures { result ≡ tests (list_words image.now key header) }
+    ensures { told result ≡ tests (list_words image.now key header) }
 {
     if known_sum(disk, image, map, key) != 0 {
-        return Fault::BLOCK_SUM;
+        return Err(Fault::BlockSum);
     }
     if word_of(image, key, Block::TYPE) != Block::LIST_TYPE {
-        return Fault::BLOCK_TYPE;
+        return Err(Fault::BlockType);
     }
     if word_of(image, key, Block::KIND) != Block::FILE {
-        return Fault::BLOCK_TYPE;
+        return Err(Fault::BlockType);
     }
     if word_of(image, key, Block::OWN_KEY) != key {
-        return Fault::WRONG_TIES;
+        return Err(Fault::WrongTies);
     }
     if word_of(image, key, Block::PARENT) != header {
-        return Fault::WRONG_TIES;
+        return Err(Fault::WrongTies);
     }
-    0
+    Ok(())
 }
 
 // A list block of a file, n keys still to come; `map` has what is known of sums.
-pub fn list_fault(disk: Disk, image: &[u8], map: u32, key: u32, header: u32, n: u32) -> u32
+pub fn list_fault(
+    disk: Disk,
+    image: &[u8],
+    map: Option<u32>,
+    key: u32,
+    header: u32,
+    n: u32,
+) -> Result<(), Fault>
     requires { Testable disk image.now map key }
-    ensures { result ≡ list_fault image.now key header n }
+    ensures { told result ≡ list_fault image.now key header n }
 {
-    let f = list_words_fault(disk, image, map, key, header);
-    if f != 0 {
-        return f;
-    }
+    list_words_fault(disk, image, map, key, header)?;
     count_fault(image, key, n)
 }
 
@@ -141,68 +149,72 @@ pub fn list_fault(disk: Disk, image: &[u8], map: u32, key: u32, header: u32, n: 
 fn data_words_fault(
     disk: Disk,
     image: &[u8],
-    map: u32,
+    map: Option<u32>,
     key: u32,
     header: u32,
     size: u32,
     n: u32,
-) -> u32
+) -> Result<(), Fault>
     requires { Testable disk image.now map key × ((1 ≤ n) × (n ≤ most_blocks)) }
-    ensures { result ≡ tests (data_words disk image.now key header size n) }
+    ensures { told result ≡ tests (data_words disk image.now key header size n) }
 {
     if known_sum(disk, image, map, key) != 0 {
-        return Fault::BLOCK_SUM;
+        return Err(Fault::BlockSum);
     }
     if word_of(image, key, Block::TYPE) != Block::DATA_TYPE {
-        return Fault::BLOCK_TYPE;
+        return Err(Fault::BlockType);
     }
     if word_of(image, key, Block::HEADER) != header {
-        return Fault::DATA_LAYOUT;
+        return Err(Fault::DataLayout);
     }
     if word_of(image, key, Block::NUMBER) != n {
-        return Fault::DATA_LAYOUT;
+        return Err(Fault::DataLayout);
     }
     if word_of(image, key, Block::HELD) != disk.held(size, n) {
-        return Fault::DATA_LAYOUT;
+        return Err(Fault::DataLayout);
     }
-    0
+    Ok(())
 }
 
 // The key that the block before data block n names, and what data block n names.
-fn data_links_fault(disk: Disk, image: &[u8], key: u32, size: u32, n: u32, named: u32) -> u32
+fn data_links_fault(
+    disk: Disk,
+    image: &[u8],
+    key: u32,
+    size: u32,
+    n: u32,
+    named: u32,
+) -> Result<(), Fault>
     requires { Sized disk × (size ≤ file_limit disk) × Holds image.now key }
-    ensures { result ≡ tests (data_links disk image.now key size n named) }
+    ensures { told result ≡ tests (data_links disk image.now key size n named) }
 {
     if named != key {
-        return Fault::DATA_LAYOUT;
+        return Err(Fault::DataLayout);
     }
     if n != disk.data_blocks(size) {
-        return 0;
+        return Ok(());
     }
     if word_of(image, key, Block::FOLLOWING) != 0 {
-        return Fault::DATA_LAYOUT;
+        return Err(Fault::DataLayout);
     }
-    0
+    Ok(())
 }
 
 // The words of data block n of a file of `size` bytes; `named` is the key that the block before it names.
 fn data_rules_fault(
     disk: Disk,
     image: &[u8],
-    map: u32,
+    map: Option<u32>,
     key: u32,
     header: u32,
     size: u32,
     n: u32,
     named: u32,
-) -> u32
+) -> Result<(), Fault>
     requires { Testable disk image.now map key × (size ≤ file_limit disk) × (1 ≤ n) × (n ≤ most_blocks) }
-    ensures { result ≡ tests (data_rules disk image.now key header size n named) }
+    ensures { told result ≡ tests (data_rules disk image.now key header size n named) }
 {
-    let f = data_words_fault(disk, image, map, key, header, size, n);
-    if f != 0 {
-        return f;
-    }
+    data_words_fault(disk, image, map, key, header, size, n)?;
     data_links_fault(disk, image, key, size, n, named)
 }
 
@@ -211,21 +223,21 @@ fn data_rules_fault(
 pub fn data_fault(
     disk: Disk,
     image: &[u8],
-    map: u32,
+    map: Option<u32>,
     key: u32,
     header: u32,
     size: u32,
     n: u32,
     last: u32,
-) -> u32
+) -> Result<(), Fault>
     requires { Testable disk image.now map key × (size ≤ file_limit disk) × Holds image.now last × (1 ≤ n)
         × (n ≤ most_blocks) }
-    ensures { result ≡ data_fault disk image.now key header size n (word_of image.now last 4) }
+    ensures { told result ≡ data_fault disk image.now key header size n (word_of image.now last 4) }
 {
     let has_words = disk.is_old();
     if has_words {
         let named = word_of(image, last, Block::FOLLOWING);
         return data_rules_fault(disk, image, map, key, header, size, n, named);
     }
-    0
+    Ok(())
 }

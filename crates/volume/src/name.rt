@@ -1,9 +1,8 @@
 // Names: folding, slots, and what a name may be.
-ghost use Rattle.std.specs.Prelude.{◌≡◌, ◌+◌, ◌*◌, ◌<◌, ◌≤◌, eqb, length};
-ghost use Rattle.std.proofs.Math.Seq.{slice};
+ghost use Rattle.std.specs.Prelude.{◌≡◌, ◌<◌, ◌≤◌, eqb, length};
 ghost use Rattle.volume.specs.Blocks.{Holds};
 ghost use Rattle.volume.specs.Names.{fold_plain, fold_international, fold_of, slot_of, same, allowed, longest};
-ghost use Rattle.volume.specs.Names.{name_length, name_from, name_of, name_good};
+ghost use Rattle.volume.specs.Names.{name_length, name_of, name_good};
 
 use crate::block::Block;
 use crate::disk::Disk;
@@ -11,16 +10,11 @@ use crate::disk::Disk;
 pub const LONGEST: usize = 30;
 
 // a-z become A-Z.
+#[tactic(auto, using(crate::proofs::Names::capital))]
 fn fold_plain(b: u8) -> u8
     ensures { result ≡ fold_plain b }
 {
-    if b'a' <= b {
-        if b <= b'z' {
-            return b - 32;
-        }
-        return b;
-    }
-    b
+    b.to_ascii_uppercase()
 }
 
 // Each byte as an international disk folds it: a-z and E0 to FE, but for F7, are 20 hex lower, and the others stay.
@@ -70,42 +64,27 @@ pub fn fold(disk: Disk, b: u8) -> u8
     fold_by_rule(disk, b)
 }
 
-fn wide(x: u8) -> usize
-    ensures { (result ≡ x) × (result < 256) }
+// The slot of a name.
+pub fn slot(disk: Disk, name: &[u8]) -> u32
+    requires { length name.now ≤ 255 }
+    ensures { result ≡ slot_of disk name.now }
 {
-    x as usize
-}
-
-// The slot of the name of `len` bytes at `at`.
-pub fn slot(disk: Disk, bytes: &[u8], at: usize, len: usize) -> u32
-    requires { (at + len ≤ length bytes.now) × (len ≤ 255) }
-    ensures { result ≡ slot_of disk (slice at (at + len) bytes.now) }
-{
-    let mut h = len;
-    let mut i: usize = 0;
-    while i < len {
-        h = (13 * h + wide(fold(disk, bytes[at + i]))) % 2048;
-        i += 1;
+    let mut h = name.len();
+    for &b in name {
+        h = (13 * h + usize::from(fold(disk, b))) % 2048;
     }
     (h % Block::SLOTS) as u32
 }
 
-// Whether `len` bytes at `at` have no '/' and no ':'.
+// Whether a name has no '/' and no ':'.
 #[tactic(auto, using(crate::proofs::Names::allowing))]
-pub fn is_allowed(bytes: &[u8], at: usize, len: usize) -> bool
-    requires { at + len ≤ length bytes.now }
-    ensures { result ≡ allowed (slice at (at + len) bytes.now) }
+pub fn is_allowed(name: &[u8]) -> bool
+    ensures { result ≡ allowed name.now }
 {
-    let mut i: usize = 0;
-    while i < len {
-        let b = bytes[at + i];
-        if b == b'/' {
+    for &b in name {
+        if b == b'/' || b == b':' {
             return false;
         }
-        if b == b':' {
-            return false;
-        }
-        i += 1;
     }
     true
 }
@@ -124,27 +103,19 @@ fn alike(disk: Disk, x: u8, y: u8) -> bool
     fold_by_rule(disk, x) == fold_by_rule(disk, y)
 }
 
-// Whether two names of one length are equal when folded.
-pub fn same_bytes(disk: Disk, xs: &[u8], a: usize, ys: &[u8], b: usize, len: usize) -> bool
-    requires { (a + len ≤ length xs.now) × (b + len ≤ length ys.now) }
-    ensures { result ≡ same disk (slice a (a + len) xs.now) (slice b (b + len) ys.now) }
+// Whether two names are equal when folded.
+pub fn same(disk: Disk, xs: &[u8], ys: &[u8]) -> bool
+    ensures { result ≡ same disk xs.now ys.now }
 {
-    let mut i: usize = 0;
-    while i < len {
-        if alike(disk, xs[a + i], ys[b + i]) {
-            i += 1;
-        } else {
+    if xs.len() != ys.len() {
+        return false;
+    }
+    for (&x, &y) in xs.iter().zip(ys) {
+        if !alike(disk, x, y) {
             return false;
         }
     }
     true
-}
-
-// The first byte of a block's name.
-fn name_from(key: u32) -> usize
-    ensures { result ≡ name_from key }
-{
-    key as usize * Block::BYTES + (Block::NAME + 1)
 }
 
 // The length byte of a block's name.
@@ -152,7 +123,16 @@ pub fn name_length(image: &[u8], key: u32) -> usize
     requires { Holds image.now key }
     ensures { (result ≡ name_length image.now key) × (result < 256) }
 {
-    wide(image[key as usize * Block::BYTES + Block::NAME])
+    usize::from(image[key as usize * Block::BYTES + Block::NAME])
+}
+
+// A block's name.
+pub fn name_of(image: &[u8], key: u32) -> &[u8]
+    requires { Holds image.now key × (name_length image.now key ≤ longest) }
+    ensures { result.now ≡ name_of image.now key }
+{
+    let from = key as usize * Block::BYTES + (Block::NAME + 1);
+    &image[from..from + name_length(image, key)]
 }
 
 // Whether a block has a name that is allowed.
@@ -161,13 +141,10 @@ pub fn name_good(image: &[u8], key: u32) -> bool
     ensures { result ≡ name_good image.now key }
 {
     let n = name_length(image, key);
-    if n < 1 {
+    if n < 1 || LONGEST < n {
         return false;
     }
-    if LONGEST < n {
-        return false;
-    }
-    is_allowed(image, name_from(key), n)
+    is_allowed(name_of(image, key))
 }
 
 // The slot of a block's name.
@@ -175,20 +152,15 @@ pub fn slot_of(disk: Disk, image: &[u8], key: u32) -> u32
     requires { Holds image.now key × (name_length image.now key ≤ longest) }
     ensures { result ≡ slot_of disk (name_of image.now key) }
 {
-    let n = name_length(image, key);
-    slot(disk, image, name_from(key), n)
+    slot(disk, name_of(image, key))
 }
 
-// Whether a block's name and `len` bytes at `at` are equal when folded.
-pub fn has_name(disk: Disk, image: &[u8], key: u32, bytes: &[u8], at: usize, len: usize) -> bool
-    requires { (Holds image.now key × (name_length image.now key ≤ longest)) × (at + len ≤ length bytes.now) }
-    ensures { result ≡ same disk (name_of image.now key) (slice at (at + len) bytes.now) }
+// Whether a block has a name, folded.
+pub fn has_name(disk: Disk, image: &[u8], key: u32, name: &[u8]) -> bool
+    requires { Holds image.now key × (name_length image.now key ≤ longest) }
+    ensures { result ≡ same disk (name_of image.now key) name.now }
 {
-    let n = name_length(image, key);
-    if n != len {
-        return false;
-    }
-    same_bytes(disk, image, name_from(key), bytes, at, n)
+    same(disk, name_of(image, key), name)
 }
 
 // Whether two blocks have names that are equal when folded.
@@ -197,5 +169,5 @@ pub fn same_names(disk: Disk, image: &[u8], a: u32, b: u32) -> bool
         × ((name_length image.now a ≤ longest) × (name_length image.now b ≤ longest)) }
     ensures { result ≡ same disk (name_of image.now a) (name_of image.now b) }
 {
-    has_name(disk, image, a, image, name_from(b), name_length(image, b))
+    same(disk, name_of(image, a), name_of(image, b))
 }

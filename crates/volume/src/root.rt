@@ -1,5 +1,6 @@
 // The tests of the root, and of the bitmap block that it names.
 ghost use Rattle.std.specs.Prelude.{◌≡◌};
+ghost use Rattle.answers.specs.Refusals.{told};
 ghost use Rattle.answers.specs.Tests.{tests};
 ghost use Rattle.volume.specs.Disks.{root_of};
 ghost use Rattle.volume.specs.Blocks.{Holds};
@@ -11,69 +12,64 @@ use crate::name::name_good;
 use answers::Fault;
 
 // Sum and types.
-fn types_fault(image: &[u8], root: u32) -> u32
+fn types_fault(image: &[u8], root: u32) -> Result<(), Fault>
     requires { Holds image.now root }
-    ensures { result ≡ tests (root_types image.now root) }
+    ensures { told result ≡ tests (root_types image.now root) }
 {
     if sum_of(image, root) != 0 {
-        return Fault::BLOCK_SUM;
+        return Err(Fault::BlockSum);
     }
     if word_of(image, root, Block::TYPE) != Block::HEADER_TYPE {
-        return Fault::BLOCK_TYPE;
+        return Err(Fault::BlockType);
     }
     if word_of(image, root, Block::KIND) != Block::ROOT_KIND {
-        return Fault::BLOCK_TYPE;
+        return Err(Fault::BlockType);
     }
-    0
+    Ok(())
 }
 
 // The words that are fixed.
-fn words_fault(image: &[u8], root: u32) -> u32
+fn words_fault(image: &[u8], root: u32) -> Result<(), Fault>
     requires { Holds image.now root }
-    ensures { result ≡ tests (root_words image.now root) }
+    ensures { told result ≡ tests (root_words image.now root) }
 {
     if word_of(image, root, Block::OWN_KEY) != 0 {
-        return Fault::ROOT_WORDS;
+        return Err(Fault::RootWords);
     }
     if word_of(image, root, Block::COUNT) != 0 {
-        return Fault::ROOT_WORDS;
+        return Err(Fault::RootWords);
     }
     if word_of(image, root, Block::TABLE) != Block::SLOTS as u32 {
-        return Fault::ROOT_WORDS;
+        return Err(Fault::RootWords);
     }
     if word_of(image, root, Block::FIRST_DATA) != 0 {
-        return Fault::ROOT_WORDS;
+        return Err(Fault::RootWords);
     }
     if word_of(image, root, Block::NEXT) != 0 {
-        return Fault::ROOT_WORDS;
+        return Err(Fault::RootWords);
     }
     if word_of(image, root, Block::PARENT) != 0 {
-        return Fault::ROOT_WORDS;
+        return Err(Fault::RootWords);
     }
     if word_of(image, root, Block::LIST) != 0 {
-        return Fault::ROOT_WORDS;
+        return Err(Fault::RootWords);
     }
-    0
+    Ok(())
 }
 
 // The root, up to its name.
-pub fn root_fault(disk: Disk, image: &[u8]) -> u32
+pub fn root_fault(disk: Disk, image: &[u8]) -> Result<(), Fault>
     requires { Holds image.now (root_of disk) }
-    ensures { result ≡ root_fault disk image.now }
+    ensures { told result ≡ root_fault disk image.now }
 {
     let root = disk.root();
-    let f = types_fault(image, root);
-    if f != 0 {
-        return f;
-    }
-    let g = words_fault(image, root);
-    if g != 0 {
-        return g;
-    }
+    types_fault(image, root)?;
+    words_fault(image, root)?;
     if name_good(image, root) {
-        return 0;
+        Ok(())
+    } else {
+        Err(Fault::BadName)
     }
-    Fault::BAD_NAME
 }
 
 // How many words after the bitmap's key are 0.
@@ -84,38 +80,37 @@ fn unused_zero(image: &[u8], root: u32) -> bool
     requires { Holds image.now root }
     ensures { result ≡ all_zero image.now root 80 25 }
 {
-    let mut i: usize = 0;
-    while i < UNUSED {
+    for i in 0..UNUSED {
         if word_of(image, root, Block::MAP_KEY + 1 + i) != 0 {
             return false;
         }
-        i += 1;
     }
     true
 }
 
 // The root's words about the bitmap, but its key.
-pub fn map_fault(disk: Disk, image: &[u8]) -> u32
+pub fn map_fault(disk: Disk, image: &[u8]) -> Result<(), Fault>
     requires { Holds image.now (root_of disk) }
-    ensures { result ≡ map_fault disk image.now }
+    ensures { told result ≡ map_fault disk image.now }
 {
     let root = disk.root();
     if word_of(image, root, Block::MAP_VALID) != 0xFFFFFFFF {
-        return Fault::BITMAP_WORDS;
+        return Err(Fault::BitmapWords);
     }
     if unused_zero(image, root) {
-        return 0;
+        Ok(())
+    } else {
+        Err(Fault::BitmapWords)
     }
-    Fault::BITMAP_WORDS
 }
 
 // The bitmap block.
-pub fn bitmap_fault(image: &[u8], key: u32) -> u32
+pub fn bitmap_fault(image: &[u8], key: u32) -> Result<(), Fault>
     requires { Holds image.now key }
-    ensures { result ≡ bitmap_fault image.now key }
+    ensures { told result ≡ bitmap_fault image.now key }
 {
     if sum_of(image, key) != 0 {
-        return Fault::BLOCK_SUM;
+        return Err(Fault::BlockSum);
     }
-    0
+    Ok(())
 }

@@ -9,9 +9,6 @@ use crate::bitmap::is_free;
 use crate::block::sum_of;
 use crate::disk::Disk;
 
-// What stands for the bitmap block where nothing is known of sums.
-pub const UNKNOWN: u32 = 0;
-
 // Whether a block is in use by a bitmap block, and does not add up to 0.
 fn breaks_sum(image: &[u8], bitmap: u32, key: u32) -> bool
     requires { (first_key ≤ key) × (key < most_blocks) × (Holds image.now bitmap) × (Holds image.now key) }
@@ -23,48 +20,45 @@ fn breaks_sum(image: &[u8], bitmap: u32, key: u32) -> bool
     sum_of(image, key) != 0
 }
 
-// A bitmap block's key, if all blocks that it has in use add up to 0; else `UNKNOWN`.
-fn summed_by(disk: Disk, image: &[u8], bitmap: u32) -> u32
+// A bitmap block's key, if all blocks that it has in use add up to 0.
+fn summed_by(disk: Disk, image: &[u8], bitmap: u32) -> Option<u32>
     requires { (Sized disk) × (length image.now ≡ image_bytes disk) × (bitmap < disk.blocks) }
     ensures { SumsKnown disk image.now result }
 {
-    let mut key = Disk::FIRST_KEY;
-    while key < disk.blocks {
+    for key in Disk::FIRST_KEY..disk.blocks {
         if breaks_sum(image, bitmap, key) {
-            return UNKNOWN;
+            return None;
         }
-        key += 1;
     }
-    bitmap
+    Some(bitmap)
 }
 
-// What is known of sums by a bitmap block. Data blocks of the Fast File System have no sum, so nothing is known there.
-pub fn known_sums(disk: Disk, image: &[u8], bitmap: u32) -> u32
+// The bitmap block by which all sums are known. Data blocks of the Fast File System have no sum, so none are known
+// there.
+pub fn known_sums(disk: Disk, image: &[u8], bitmap: u32) -> Option<u32>
     requires { (Sized disk) × (length image.now ≡ image_bytes disk) × (bitmap < disk.blocks) }
     ensures { SumsKnown disk image.now result }
 {
     if disk.is_old() {
-        return summed_by(disk, image, bitmap);
+        summed_by(disk, image, bitmap)
+    } else {
+        None
     }
-    UNKNOWN
 }
 
 // Whether a block is known to add up to 0, by the bitmap block `map`.
-fn is_summed(disk: Disk, image: &[u8], map: u32, key: u32) -> bool
+fn is_summed(disk: Disk, image: &[u8], map: Option<u32>, key: u32) -> bool
     requires { Testable disk image.now map key }
     ensures { result ≡ true → 0 ≡ sum_of image.now key }
 {
-    if map == UNKNOWN {
-        return false;
+    match map {
+        Some(bitmap) => !is_free(image, bitmap, key),
+        None => false,
     }
-    if is_free(image, map, key) {
-        return false;
-    }
-    true
 }
 
 // The sum of a block, added up only if it is not known by the bitmap block `map`.
-pub fn known_sum(disk: Disk, image: &[u8], map: u32, key: u32) -> u32
+pub fn known_sum(disk: Disk, image: &[u8], map: Option<u32>, key: u32) -> u32
     requires { Testable disk image.now map key }
     ensures { result ≡ sum_of image.now key }
 {

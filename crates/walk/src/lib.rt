@@ -6,7 +6,7 @@
 pub mod file;
 
 // What an audit counts of the blocks it has met.
-#[derive(Clone, Copy)]
+#[derive(Clone, Copy, Debug, Default, PartialEq, Eq)]
 pub struct Counts {
     pub directories: u32,
     pub files: u32,

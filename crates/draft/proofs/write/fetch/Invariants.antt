@@ -9,6 +9,3 @@ invariant-loop-i l =
     × (l.blocks ≡ l.initial.blocks)
     × (block_of (carried l.image (writes_in l.order l.initial.blocks l.n)) l.key
     ≡ block_of (carried l.image (writes_in l.order l.initial.blocks l.i)) l.key)
-
-abbrev pub decreases-loop-i : goal.decreases-loop-i
-decreases-loop-i l = l.i

@@ -10,8 +10,8 @@ slot_of-requires c = search (rules, name_short) depth 7
 pub returns-then-slot_of-slot : goal.returns-then-slot_of-slot
 returns-then-slot_of-slot c = search entry_strays depth 7
 
-pub returns-then-name_good : goal.returns-then-name_good
-returns-then-name_good c = search entry_hangs depth 7
+pub returns-then-not-name_good : goal.returns-then-not-name_good
+returns-then-not-name_good c = search entry_unnamed depth 7
 
 pub returns : goal.returns
-returns c = search entry_unnamed depth 7
+returns c = search entry_hangs depth 7

@@ -1,12 +1,13 @@
 -- `volume::name::name_good` meets its contract. Assumes nothing.
-use Rattle.volume.proofs.Names.{name_none, name_long, name_is}
+use Rattle.std.proofs.Common.{◌∙◌, ap}
+use Rattle.volume.specs.Names.{allowed}
+use Rattle.volume.proofs.Names.{name_not, name_is}
 use Rattle.volume.proofs.name.name_good.Goals as goal
 
 pub returns-then-n-lt1 : goal.returns-then-n-lt1
-returns-then-n-lt1 c = search name_none
-
-pub returns-then-n-gt-LONGEST : goal.returns-then-n-gt-LONGEST
-returns-then-n-gt-LONGEST c = search name_long
+returns-then-n-lt1 c = name_not _ _ _ c.name_length-n.ensures.0 c.then-n-lt1.either
 
 pub returns : goal.returns
-returns c = search name_is depth 7
+returns c =
+    name_is _ _ _ c.name_length-n.ensures.0 _ c.if-n-lt1.false c.if-n-gt-LONGEST.false
+    (c.is_allowed.ensures ∙ ap allowed c.name_of.ensures)

@@ -8,5 +8,5 @@ returns-then-word_of c = search map_invalid depth 7
 pub returns-then-unused_zero : goal.returns-then-unused_zero
 returns-then-unused_zero c = search map_good depth 7
 
-pub returns : goal.returns
-returns c = search map_rest depth 7
+pub returns-else-unused_zero : goal.returns-else-unused_zero
+returns-else-unused_zero c = search map_rest depth 7

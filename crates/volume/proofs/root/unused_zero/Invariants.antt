@@ -5,6 +5,3 @@ use Rattle.volume.proofs.root.unused_zero.Given as goal
 
 abbrev pub invariant-loop-i : goal.invariant-loop-i
 invariant-loop-i l = (l.i ≤ 25) × (all_zero l.image l.root (80 + l.i) (25 - l.i) ≡ all_zero l.image l.root 80 25)
-
-abbrev pub decreases-loop-i : goal.decreases-loop-i
-decreases-loop-i l = 25 - l.i

@@ -1,6 +1,6 @@
--- `walk::file::list_tests` meets its contract. Assumes nothing.
+-- `walk::file::KeyBlock::list_tests` meets its contract. Assumes nothing.
 use Rattle.walk.proofs.Loops.{done_within, list_is}
-use Rattle.walk.proofs.file.list_tests.Goals as goal
+use Rattle.walk.proofs.file.KeyBlock.list_tests.Goals as goal
 
 pub overflow_sub-data_blocks : goal.overflow_sub-data_blocks
 overflow_sub-data_blocks c = search done_within depth 7

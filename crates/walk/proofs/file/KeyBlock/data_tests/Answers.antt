@@ -1,7 +1,7 @@
--- `walk::file::data_tests` meets its contract. Assumes nothing.
+-- `walk::file::KeyBlock::data_tests` meets its contract. Assumes nothing.
 use Rattle.walk.proofs.Loops.{in_image, number_few, datum_is}
 use borrow.Author.Rules.{rules}
-use Rattle.walk.proofs.file.data_tests.Goals as goal
+use Rattle.walk.proofs.file.KeyBlock.data_tests.Goals as goal
 
 pub data_fault-requires : goal.data_fault-requires
 data_fault-requires c =
