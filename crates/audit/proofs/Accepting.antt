@@ -1,5 +1,6 @@
 -- What an accepted audit says: `accepted_exactly`, and `accepted_volume` of every kind; `accepted_claims`,
 -- `accepted_report`; and `audit_determined`. Assumes nothing.
+use Rattle.std.specs.Prelude.{Result, Ok, Err}
 use Prim.Native.Nat.{ℕ, zero, suc, ◌+◌, ◌-◌, ◌≤◌, ◌<◌}
 use mathlib.Core.Path.{◌≡◌, refl, sym, ap, ◌∙◌, subst}
 use mathlib.Core.Logic.{◌⊎◌, ◌↔◌, inl, inr}
@@ -23,10 +24,7 @@ use Rattle.walk.proofs.Passes.{key_passed}
 use Rattle.walk.proofs.Accepts.{passes_in_tree, accepted_lawful, node_reached, node_key}
 use Rattle.walk.proofs.Decides.{volume_decided}
 use Rattle.walk.proofs.Reports.{walked_report}
-use Rattle.audit.specs.declared.bitmap.Mapped.TheVariants.{Right}
 use Rattle.audit.specs.declared.audit.Report.{Report}
-use Rattle.audit.specs.declared.audit.Audited.{Audited}
-use Rattle.audit.specs.declared.audit.Audited.TheVariants.{Accepted, Refused}
 use Rattle.audit.specs.Bits.{bits_of}
 use Rattle.audit.specs.Audits.{numbers_of, report_of, claims_of, claim_after, audit_of, Audits}
 use Rattle.audit.specs.Verdicts.{free_from, Opened, Reported, Claimed}
@@ -39,11 +37,11 @@ zero_byte (suc n) zero = refl
 zero_byte (suc n) (suc k) = zero_byte n k
 
 -- any two outcomes allowed for one input coincide
-pub audit_determined : (d : Disk) (s : List ℕ) (n : ℕ) (r r' : Audited) (c c' : List ℕ) → Audits d s n r c
+pub audit_determined : (d : Disk) (s : List ℕ) (n : ℕ) (r r' : Result Report Refusal) (c c' : List ℕ) → Audits d s n r c
     → Audits d s n r' c' → (numbers_of r ≡ numbers_of r') × (r ≡ r') × (c ≡ c')
 audit_determined d s n r r' c c' a b =
     let e : r ≡ r' = a.answer ∙ sym b.answer in
-    (ap numbers_of e, e, a.claim ∙ ap (λ (x : Audited). claim_after d s x n) e ∙ sym b.claim)
+    (ap numbers_of e, e, a.claim ∙ ap (λ (x : Result Report Refusal). claim_after d s x n) e ∙ sym b.claim)
 
 module _ (d : Disk) (s : List ℕ) where
   module _ (c : List ℕ) (m : Counts) (e : walk_of d s ≡ done c m) where
@@ -66,7 +64,7 @@ module _ (d : Disk) (s : List ℕ) where
         go (inl h) = absurd (omega (arith, (used_inside k h.1).0))
         go (inr h) = h.0
 
-    free_blocks : (f : ℕ) → bits_of d s (bitmap_key_of d s) c ≡ Right f
+    free_blocks : (f : ℕ) → bits_of d s (bitmap_key_of d s) c ≡ Ok f
         → free c ≡ first_key + free_from s (bitmap_key_of d s) first_key (bit_span d)
     free_blocks f b =
         count_free s (bitmap_key_of d s) c (bit_span d) (omega (arith, (walked_report d s c m e).size, enough))
@@ -76,18 +74,18 @@ module _ (d : Disk) (s : List ℕ) where
   -- ---- an image is accepted if and only if it is a volume as the law says
 
   module _ (n : ℕ) where
-    pub accepted_exactly : claim_bytes d ≤ n → ((r : Report) × (audit_of d s n ≡ Accepted r)) ↔ Volume d s
+    pub accepted_exactly : claim_bytes d ≤ n → ((r : Report) × (audit_of d s n ≡ Ok r)) ↔ Volume d s
     accepted_exactly l = (there, back)
       where
-        there : (r : Report) × (audit_of d s n ≡ Accepted r) → Volume d s
+        there : (r : Report) × (audit_of d s n ≡ Ok r) → Volume d s
         there (r, e) =
-            let z = (answers_exactly d s n (Accepted r)).0 e in
+            let z = (answers_exactly d s n (Ok r)).0 e in
             let b =
             (bits_right d s z.claims z.counts (walked_report d s z.claims z.counts z.walks)
             z.free).0 z.maps in
             (volume_decided d s).1 (subst Through (sym z.walks) tt, z.opened.long, z.opened.tag, b.0)
 
-        back : Volume d s → (r : Report) × (audit_of d s n ≡ Accepted r)
+        back : Volume d s → (r : Report) × (audit_of d s n ≡ Ok r)
         back v =
             let p = (volume_decided d s).0 v in
             let t = through d s p.0 in
@@ -95,18 +93,19 @@ module _ (d : Disk) (s : List ℕ) where
             let m = (bits_right d s t.0 t.1 (walked_report d s t.0 t.1 t.2) f).1 (p.3, refl) in
             let o : Opened d s n = record { long = p.1; room = l; tag = p.2 } in (
               report_of t.1 f,
-              (answers_exactly d s n (Accepted (report_of t.1 f))).1
+              (answers_exactly d s n (Ok (report_of t.1 f))).1
                   (record { opened = o; claims = t.0; counts = t.1; free = f; walks = t.2; maps = m; told = refl }),
             )
 
     -- ---- what it leaves
 
-    module _ (r : Audited) (claim' : List ℕ) (a : Audits d s n r claim') where
-      pub accepted_claims : (p : Report) → r ≡ Accepted p → Claimed d s n claim'
+    module _ (r : Result Report Refusal) (claim' : List ℕ) (a : Audits d s n r claim') where
+      pub accepted_claims : (p : Report) → r ≡ Ok p → Claimed d s n claim'
       accepted_claims p q =
-          let z = (answers_exactly d s n (Accepted p)).0 (sym a.answer ∙ q) in
+          let z = (answers_exactly d s n (Ok p)).0 (sym a.answer ∙ q) in
           let e : claim' ≡ z.claims ++ zeros =
-          a.claim ∙ ap (λ (x : Audited). claim_after d s x n) q ∙ ap (λ (o : Outcome Counts). claims_of o ++ zeros)
+          a.claim ∙ ap (λ (x : Result Report Refusal). claim_after d s x n) q
+          ∙ ap (λ (o : Outcome Counts). claims_of o ++ zeros)
           z.walks in
           subst (Claimed d s n) (sym e) (claimed z.claims z.counts z.walks z.opened.room)
         where
@@ -139,18 +138,18 @@ module _ (d : Disk) (s : List ℕ) where
                     λ h. u (used_inside c m e k h).1,
                   )
 
-      pub refused_claims : (x : Refusal) → r ≡ Refused x → claim' ≡ replicate n 0
-      refused_claims x q = a.claim ∙ ap (λ (y : Audited). claim_after d s y n) q
+      pub refused_claims : (x : Refusal) → r ≡ Err x → claim' ≡ replicate n 0
+      refused_claims x q = a.claim ∙ ap (λ (y : Result Report Refusal). claim_after d s y n) q
 
     -- ---- what it reports
 
-    pub accepted_report : (p : Report) → audit_of d s n ≡ Accepted p → Reported d s p
+    pub accepted_report : (p : Report) → audit_of d s n ≡ Ok p → Reported d s p
     accepted_report p q =
-        let z = (answers_exactly d s n (Accepted p)).0 q in
+        let z = (answers_exactly d s n (Ok p)).0 q in
         subst (Reported d s) (sym z.told) (reported z.claims z.counts z.walks z.free z.maps)
       where
         reported : (c : List ℕ) (m : Counts) → walk_of d s ≡ done c m → (f : ℕ)
-            → bits_of d s (bitmap_key_of d s) c ≡ Right f → Reported d s (report_of m f)
+            → bits_of d s (bitmap_key_of d s) c ≡ Ok f → Reported d s (report_of m f)
         reported c m e f b =
             let w = walked_report d s c m e in
             let x = (bits_right d s c m w f).0 b in
@@ -170,7 +169,7 @@ module _ (d : Disk) (s : List ℕ) where
 
 -- An audit that names b accepts if and only if the image is a volume of a disk that exists and is named.
 pub accepted_volume : (b : ℕ) (s : List ℕ) (n : ℕ) → claim_bytes (disk_of b s) ≤ n
-    → ((r : Report) × (audit_of (disk_of b s) s n ≡ Accepted r)) ↔ IsVolume b s
+    → ((r : Report) × (audit_of (disk_of b s) s n ≡ Ok r)) ↔ IsVolume b s
 accepted_volume b s n l =
     let a = accepted_exactly (disk_of b s) s n l in
     let v = volume_is b s in

@@ -1,4 +1,5 @@
 -- An audit's answer taken apart, test by test: each answer is given exactly then (`answers_exactly`). Assumes nothing.
+use Rattle.std.specs.Prelude.{Result, Ok, Err}
 use Prim.Native.Nat.{ℕ}
 use mathlib.Core.Path.{◌≡◌, refl, sym, ap, ap₂, ◌∙◌, subst}
 use mathlib.Core.Logic.{◌↔◌}
@@ -8,11 +9,12 @@ use lib.Dec.{eqb, ltb}
 use lib.ListN.{length}
 use borrow.Author.Tests.{ltb-true, ltb-false, eqb-true, eqb-false, lt-ltb, le-ltb, eq-eqb, ne_eqb}
 use Rattle.answers.specs.Numbers as fault
+use Rattle.answers.specs.declared.Refusal.{Refusal}
 use Rattle.answers.specs.Tests.{pick}
 use Rattle.words.specs.Word.{word_at}
 use Rattle.reach.specs.Walk.{Outcome, done, refused, Accepted as Through}
 use Rattle.volume.specs.declared.disk.Disk.{Disk}
-use Rattle.volume.specs.Disks.{image_bytes, claim_bytes, tag_of}
+use Rattle.volume.specs.Disks.{first_key, bit_span, image_bytes, claim_bytes, tag_of}
 use Rattle.volume.specs.Law.{bitmap_key_of}
 use Rattle.walk.specs.declared.Counts.{Counts}
 use Rattle.walk.specs.Nodes.{walk_of}
@@ -20,15 +22,11 @@ use Rattle.walk.proofs.Decides.{tree_decided}
 use Rattle.walk.proofs.Reports.{walked_report}
 use Rattle.walk.proofs.Refuses.{refused_first}
 use Rattle.walk.proofs.Causes.{refused_cause}
-use Rattle.audit.specs.declared.bitmap.Mapped.{Mapped}
-use Rattle.audit.specs.declared.bitmap.Mapped.TheVariants.{Right, Wrong}
 use Rattle.audit.specs.declared.audit.Report.{Report}
-use Rattle.audit.specs.declared.audit.Audited.{Audited}
-use Rattle.audit.specs.declared.audit.Audited.TheVariants.{Accepted, Refused}
 use Rattle.audit.specs.Bits.{bits_of}
 use Rattle.audit.specs.Audits.{refuse, report_of, mapped, walked, audit_of}
 use Rattle.audit.specs.Verdicts.{Opened, Test, size, area, tag, walk, bits, test_of, Says}
-use Rattle.audit.proofs.Bitmaps.{bits_wrong}
+use Rattle.audit.proofs.Bitmaps.{wrong_number, bits_wrong}
 use Rattle.audit.proofs.Numbers.{Numbered, numbered, walk_number, by_walk}
 
 -- a walk that is through has claims and counts
@@ -47,12 +45,12 @@ module _ (d : Disk) (s : List ℕ) (n : ℕ) where
     pub counts : Counts
     pub free : ℕ
     pub walks : walk_of d s ≡ done claims counts
-    pub maps : bits_of d s (bitmap_key_of d s) claims ≡ Right free
+    pub maps : bits_of d s (bitmap_key_of d s) claims ≡ Ok free
     pub told : p ≡ report_of counts free
 
-  abbrev pub Answers : Audited → Type 0
-  Answers (Accepted p) = Passed p
-  Answers (Refused x) = Says d s n x.number x.place (test_of x.number)
+  abbrev pub Answers : Result Report Refusal → Type 0
+  Answers (Ok p) = Passed p
+  Answers (Err x) = Says d s n x.number x.place (test_of x.number)
 
   -- ---- what the answer says
 
@@ -60,12 +58,15 @@ module _ (d : Disk) (s : List ℕ) (n : ℕ) where
   unfolding pick
   walked_says o = go (walk_of d s) refl
     where
-      says : (c : List ℕ) (m : Counts) → walk_of d s ≡ done c m → (b : Mapped) → bits_of d s (bitmap_key_of d s) c ≡ b
+      says : (c : List ℕ) (m : Counts) → walk_of d s ≡ done c m → (b : Result ℕ Refusal)
+          → bits_of d s (bitmap_key_of d s) c ≡ b
           → Answers (mapped m b)
-      says c m e (Right f) b = record { opened = o; claims = c; counts = m; free = f; walks = e; maps = b; told = refl }
-      says c m e (Wrong k) b =
+      says c m e (Ok f) b = record { opened = o; claims = c; counts = m; free = f; walks = e; maps = b; told = refl }
+      says c m e (Err x) b =
           let t = (tree_decided d s).1 (subst Through (sym e) tt, o.long, o.tag) in
-          (o.room, t.0, t.1, (bits_wrong d s c m (walked_report d s c m e) k).0 b)
+          let q = wrong_number s (bitmap_key_of d s) c first_key 0 (bit_span d) x b in
+          let w = (bits_wrong d s c m (walked_report d s c m e) x.place).0 (b ∙ ap Err q) in
+          subst (λ (y : Refusal). Answers (Err y)) (sym q) (o.room, t.0, t.1, w)
 
       go : (u : Outcome Counts) → walk_of d s ≡ u → Answers (walked d s u)
       go (done c m) e = says c m e (bits_of d s (bitmap_key_of d s) c) refl
@@ -115,11 +116,11 @@ module _ (d : Disk) (s : List ℕ) (n : ℕ) where
       ∙ ap (mapped t.1) ((bits_wrong d s t.0 t.1 (walked_report d s t.0 t.1 t.2) k).1 w)
       ∙ ap (λ (u : ℕ). refuse u k) (sym e)
 
-  back : (r : Audited) → Answers r → audit_of d s n ≡ r
-  back (Accepted p) h =
+  back : (r : Result Report Refusal) → Answers r → audit_of d s n ≡ r
+  back (Ok p) h =
       opens h.opened (done h.claims h.counts) h.walks ∙ ap (mapped h.counts) h.maps
-      ∙ ap Accepted (sym h.told)
-  back (Refused x) h = refuses x.number x.place (test_of x.number) (numbered x.number) h
+      ∙ ap Ok (sym h.told)
+  back (Err x) h = refuses x.number x.place (test_of x.number) (numbered x.number) h
 
-  pub answers_exactly : (r : Audited) → (audit_of d s n ≡ r) ↔ Answers r
+  pub answers_exactly : (r : Result Report Refusal) → (audit_of d s n ≡ r) ↔ Answers r
   answers_exactly r = ((λ e. subst Answers e answers), back r)

@@ -1,7 +1,8 @@
 -- The bitmap against the claims: the bits of a range are right, or there is a lowest that is wrong (`bits_say`); the
 -- same said of what is reached (`bits_right`, `bits_wrong`); and how many are free (`count_free`). Assumes nothing.
+use Rattle.std.specs.Prelude.{Result, Ok, Err}
 use Prim.Native.Nat.{ℕ, zero, suc, ◌+◌, ◌≤◌, ◌<◌}
-use mathlib.Core.Path.{◌≡◌, refl, sym, ap, ◌∙◌, subst}
+use mathlib.Core.Path.{◌≡◌, refl, sym, ap, ap₂, ◌∙◌, subst}
 use mathlib.Core.Logic.{◌⊎◌, ◌↔◌, inl, inr}
 use mathlib.Core.Bool.{Bool, true, false}
 use mathlib.Core.List.{List, [], ◌∷◌}
@@ -10,6 +11,9 @@ use native.Mathlib.Decide.{dec_lt}
 use native.Mathlib.Nat.{zero-add, add-zero}
 use lib.ListN.{length, get_or}
 use borrow.Author.Tests.{eqb-true, not-false}
+use Rattle.answers.specs.declared.Refusal.{Refusal}
+use Rattle.answers.specs.Numbers as fault
+use Rattle.answers.specs.Refusals.{refusal}
 use Rattle.answers.specs.Tests.{pick}
 use Rattle.answers.proofs.Clashes.{impossible}
 use Rattle.reach.specs.Walk.{free}
@@ -20,8 +24,6 @@ use Rattle.volume.specs.Bitmap.{is_free}
 use Rattle.walk.specs.declared.Counts.{Counts}
 use Rattle.volume.specs.Law.{bitmap_key_of, Used, BitRight}
 use Rattle.walk.specs.Reports.{Walked}
-use Rattle.audit.specs.declared.bitmap.Mapped.{Mapped}
-use Rattle.audit.specs.declared.bitmap.Mapped.TheVariants.{Right, Wrong}
 use Rattle.audit.specs.Bits.{bit_wrong, bits_from, bits_of}
 use Rattle.audit.specs.Verdicts.{free_from, FirstWrong}
 
@@ -46,9 +48,9 @@ module _ (s : List ℕ) (bitmap_key : ℕ) (cl : List ℕ) where
     pub wrong : wrong_at j ≡ true
     pub before : (i : ℕ) → k ≤ i → i < j → wrong_at i ≡ false
 
-  abbrev Say : ℕ → ℕ → ℕ → Mapped → Type 0
-  Say k f n (Right m) = AllRight k n × (m ≡ f + free_from s bitmap_key k n)
-  Say k f n (Wrong j) = Lowest k n j
+  abbrev Say : ℕ → ℕ → ℕ → Result ℕ Refusal → Type 0
+  Say k f n (Ok m) = AllRight k n × (m ≡ f + free_from s bitmap_key k n)
+  Say k f n (Err x) = (x.number ≡ fault.wrong_bit) × Lowest k n x.place
 
   bits_say : (k f n : ℕ) → Say k f n (bits_from s bitmap_key cl k f n)
   unfolding bits_from free_from pick
@@ -66,19 +68,24 @@ module _ (s : List ℕ) (bitmap_key : ℕ) (cl : List ℕ) where
           at (yes q) = h j q u
           at (no q) = let z : j ≡ k = omega arith in rw z e
 
-      go : (b : Bool) → wrong_at k ≡ b → (r : Mapped) → Say (suc k) (pick (is_free s bitmap_key k) (f + 1) f) n r
-          → Say k f (suc n) (pick b (Wrong k) r)
-      go true e r h =
-          record { low = omega arith; high = omega arith; wrong = e; before = λ i l u. absurd (omega arith) }
-      go false e (Right m) h = (
+      go : (b : Bool) → wrong_at k ≡ b → (r : Result ℕ Refusal)
+          → Say (suc k) (pick (is_free s bitmap_key k) (f + 1) f) n r
+          → Say k f (suc n) (pick b (Err (refusal fault.wrong_bit k)) r)
+      go true e r h = (
+        refl,
+        record { low = omega arith; high = omega arith; wrong = e; before = λ i l u. absurd (omega arith) },
+      )
+      go false e (Ok m) h = (
         (λ j l u. upto (suc k + n) e h.0 j l (omega arith)),
         h.1
             ∙ step_count (is_free s bitmap_key k) f (free_from s bitmap_key (suc k) n),
       )
-      go false e (Wrong j) h =
-          let a = h.low in
-          let b = h.high in
-          record { low = omega arith; high = omega arith; wrong = h.wrong; before = upto j e h.before }
+      go false e (Err x) h =
+          let a = h.1.low in
+          let b = h.1.high in (
+            h.0,
+            record { low = omega arith; high = omega arith; wrong = h.1.wrong; before = upto x.place e h.1.before },
+          )
 
   clash : {A : Type 0} (j : ℕ) → wrong_at j ≡ true → wrong_at j ≡ false → A
   clash j a b = impossible cc
@@ -93,21 +100,24 @@ module _ (s : List ℕ) (bitmap_key : ℕ) (cl : List ℕ) where
 
   module _ (k f n : ℕ) where
     pub right_exactly : (m : ℕ)
-        → (bits_from s bitmap_key cl k f n ≡ Right m) ↔ (AllRight k n × (m ≡ f + free_from s bitmap_key k n))
+        → (bits_from s bitmap_key cl k f n ≡ Ok m) ↔ (AllRight k n × (m ≡ f + free_from s bitmap_key k n))
     right_exactly m =
         ((λ e. subst (Say k f n) e (bits_say k f n)), λ h. go h (bits_from s bitmap_key cl k f n) (bits_say k f n))
       where
-        go : AllRight k n × (m ≡ f + free_from s bitmap_key k n) → (r : Mapped) → Say k f n r → r ≡ Right m
-        go h (Right i) e = ap Right (e.1 ∙ sym h.1)
-        go h (Wrong j) e = clash j e.wrong (h.0 j e.low e.high)
+        go : AllRight k n × (m ≡ f + free_from s bitmap_key k n) → (r : Result ℕ Refusal) → Say k f n r → r ≡ Ok m
+        go h (Ok i) e = ap Ok (e.1 ∙ sym h.1)
+        go h (Err x) e = clash x.place e.1.wrong (h.0 x.place e.1.low e.1.high)
 
-    pub wrong_exactly : (j : ℕ) → (bits_from s bitmap_key cl k f n ≡ Wrong j) ↔ Lowest k n j
+    pub wrong_exactly : (j : ℕ) → (bits_from s bitmap_key cl k f n ≡ Err (refusal fault.wrong_bit j)) ↔ Lowest k n j
     wrong_exactly j =
-        ((λ e. subst (Say k f n) e (bits_say k f n)), λ h. go h (bits_from s bitmap_key cl k f n) (bits_say k f n))
+        ((λ e. (subst (Say k f n) e (bits_say k f n)).1), λ h. go h (bits_from s bitmap_key cl k f n) (bits_say k f n))
       where
-        go : Lowest k n j → (r : Mapped) → Say k f n r → r ≡ Wrong j
-        go h (Right i) e = clash j h.wrong (e.0 j h.low h.high)
-        go h (Wrong i) e = ap Wrong (lowest_one k n i j e h)
+        go : Lowest k n j → (r : Result ℕ Refusal) → Say k f n r → r ≡ Err (refusal fault.wrong_bit j)
+        go h (Ok i) e = clash j h.wrong (e.0 j h.low h.high)
+        go h (Err x) e = ap₂ (λ (v i : ℕ). Err (refusal v i)) e.0 (lowest_one k n x.place j e.1 h)
+
+    pub wrong_number : (x : Refusal) → bits_from s bitmap_key cl k f n ≡ Err x → x ≡ refusal fault.wrong_bit x.place
+    wrong_number x e = ap (λ (v : ℕ). refusal v x.place) (subst (Say k f n) e (bits_say k f n)).0
 
 -- ---- of a walk's claims
 
@@ -146,7 +156,7 @@ module _ (d : Disk) (s c : List ℕ) (n : Counts) (w : Walked d s c n) where
       (λ a b. clash s (bitmap_key_of d s) c k b a) (λ p q. q p)
 
   pub bits_right : (f : ℕ)
-      → (bits_of d s (bitmap_key_of d s) c ≡ Right f)
+      → (bits_of d s (bitmap_key_of d s) c ≡ Ok f)
       ↔ (((k : ℕ) → first_key ≤ k → k < d.blocks → BitRight d s k)
       × (f ≡ free_from s (bitmap_key_of d s) first_key (bit_span d)))
   bits_right f = (
@@ -156,7 +166,7 @@ module _ (d : Disk) (s c : List ℕ) (n : Counts) (w : Walked d s c n) where
         ((λ k l u. (bit k (omega arith)).0.1 (h.0 k l (omega arith))), h.1 ∙ sym (zero-add _))),
   )
 
-  pub bits_wrong : (k : ℕ) → (bits_of d s (bitmap_key_of d s) c ≡ Wrong k) ↔ FirstWrong d s k
+  pub bits_wrong : (k : ℕ) → (bits_of d s (bitmap_key_of d s) c ≡ Err (refusal fault.wrong_bit k)) ↔ FirstWrong d s k
   bits_wrong k = (
     (λ e. there ((wrong_exactly s (bitmap_key_of d s) c first_key 0 (bit_span d) k).0 e)),
     (λ h. (wrong_exactly s (bitmap_key_of d s) c first_key 0 (bit_span d) k).1 (back h)),

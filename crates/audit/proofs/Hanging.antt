@@ -1,4 +1,7 @@
 -- The walk through a directory: entries, chains and slots. Assumes nothing.
+use Rattle.std.specs.Prelude.{Option, Some, None, Result, Ok, Err}
+use Rattle.std.specs.Option.{MatchOption}
+use Rattle.answers.proofs.Clashes.{impossible}
 use Prim.Native.Nat.{ℕ, zero, suc, ◌+◌, ◌-◌, ◌*◌, ◌≤◌, ◌<◌}
 use mathlib.Core.Path.{◌≡◌, refl, sym, ◌∙◌}
 use mathlib.Core.Bool.{Bool, true, false}
@@ -10,7 +13,6 @@ use native.Mathlib.Decide.{dec_lt}
 use lib.ListN.{length}
 use Rattle.answers.specs.Numbers as fault
 use Rattle.answers.specs.declared.Refusal.{Refusal}
-use Rattle.answers.specs.Refusals.{refusal}
 use Rattle.answers.specs.Tests.{pick, never, first}
 use Rattle.answers.proofs.Tests.{first_zero}
 use Rattle.reach.specs.Walk.{free}
@@ -25,10 +27,7 @@ use Rattle.volume.proofs.Passes.{entry_passed}
 use Rattle.walk.specs.declared.Counts.{Counts}
 use Rattle.walk.specs.Nodes.{Node, entry, chained, slot_nodes, contents, leads_to, noted, with_entry, twin, hangs_fault}
 use Rattle.walk.specs.Nodes.{fault_of}
-use Rattle.audit.specs.declared.walked.Walked.{Walked}
-use Rattle.audit.specs.declared.walked.Walked.TheVariants.{Done, Stopped}
-use Rattle.audit.specs.Walks.{Claims, Met, Walks, Ready, Known, Chain, EntryWalked, UsedSlot}
-use Rattle.audit.proofs.Meeting.{met_tests}
+use Rattle.audit.specs.Walks.{Met, Walks, Ready, Known, Chain, EntryWalked, EmptyUpto, UsedSlot}
 use Rattle.audit.proofs.Walking.{not_both, walks_none, walks_stopped, walks_then, walks_part, met_free}
 use Rattle.audit.proofs.Walking.{met_range, met_passed, met_stops, met_goes, ready_met, ready_walked}
 
@@ -144,25 +143,21 @@ module _ (d : Disk) (s : List ℕ) (k t i p : ℕ) (f : ℕ) (e : f ≡ entry_fa
         unfolding hangs_fault first never pick
         hangs_file r h x = rw (sym e ∙ z, ← w, sym q ∙ y, sym g ∙ h) x
 
-pub met_entry : (d : Disk) (s cl cl' : List ℕ) (r f k t i p : ℕ) → Claims d cl k r cl' → r ≡ 0
-    → f ≡ hangs_fault d s k t i p → Met d s (entry k t i p) cl f cl'
-unfolding fault_of
-met_entry d s cl cl' r f k t i p h z e = met_tests d s (entry k t i p) cl cl' r f h z e
-
 -- ---- an entry
 
-module _ (d : Disk) (s : List ℕ) (k t i p : ℕ) (cl cl₁ : List ℕ) (f : ℕ) (m : Met d s (entry k t i p) cl f cl₁) where
-  pub entry_stops : (n : Counts) (cl'' : List ℕ) (r : Walked) → (f ≡ 0 → ⊥) → r ≡ Stopped (refusal f k)
-      → EntryWalked d s k t i p n cl r cl''
-  entry_stops n cl'' r h e =
+module _ (d : Disk) (s : List ℕ) (k t i p : ℕ) (cl cl₁ : List ℕ) (f : Result Unit Refusal)
+    (m : Met d s (entry k t i p) cl f cl₁) where
+  pub entry_stops : (n : Counts) (cl'' : List ℕ) (x : Refusal) → f ≡ Err x
+      → EntryWalked d s k t i p n cl (Err x) cl''
+  entry_stops n cl'' x h =
       record {
-        walks = met_stops d s (entry k t i p) cl cl₁ f m _ n cl'' r h e;
-        known = λ c q. not_both _ c (sym e ∙ q);
-        holds = λ c q. not_both _ c (sym e ∙ q);
-        less = λ c q. not_both _ c (sym e ∙ q);
+        walks = met_stops d s (entry k t i p) cl cl₁ f m _ n cl'' x h;
+        known = λ c q. not_both x c q;
+        holds = λ c q. not_both x c q;
+        less = λ c q. not_both x c q;
       }
 
-  module _ (z : f ≡ 0) where
+  module _ {u : Unit {0}} (z : f ≡ Ok u) where
     tested : hangs_fault d s k t i p ≡ 0
     unfolding fault_of
     tested = met_passed d s (entry k t i p) cl cl₁ f m z
@@ -204,7 +199,7 @@ module _ (d : Disk) (s : List ℕ) (k t i p : ℕ) (cl cl₁ : List ℕ) (f : �
       unfolding noted
       entry_ready r l = ready_met d s (entry k t i p) n cl cl₁ f r m z l c (q ∙ rw kind refl)
 
-      pub entry_goes : (r : Walked) (cl₂ : List ℕ) → length s ≡ image_bytes d
+      pub entry_goes : (r : Result Counts Refusal) (cl₂ : List ℕ) → length s ≡ image_bytes d
           → Walks d s (contents d s k b) [] c cl₁ r cl₂ → EntryWalked d s k t i p n cl r cl₂
       unfolding noted leads_to
       entry_goes r cl₂ l w =
@@ -216,15 +211,6 @@ module _ (d : Disk) (s : List ℕ) (k t i p : ℕ) (cl cl₁ : List ℕ) (f : �
             holds = λ x e. known_holds d s k l met_known;
             less = λ x e. omega (arith, w.less x e, entry_claims);
           }
-
--- what the code asks of it once it is walked
-module _ (d : Disk) (s : List ℕ) (k t i p : ℕ) (n : Counts) (cl : List ℕ) (r : Walked) (cl' : List ℕ)
-    (u : EntryWalked d s k t i p n cl r cl') (c : Counts) (e : r ≡ Done c) where
-  pub entry_holds : Holds s k
-  entry_holds = u.holds c e
-
-  pub entry_less : free cl' < free cl
-  entry_less = u.less c e
 
 -- ---- a chain
 
@@ -240,7 +226,7 @@ module _ (d : Disk) (s : List ℕ) (t i : ℕ) where
     -- the position on a chain stays small: each entry before it has claimed a block
     pub few : p + free cl ≤ free cl₀
     pub most : free cl₀ ≤ most_blocks
-    pub walked : Walks d s (chain_from (slot_word s t i) 0) (chain_from k p) n₀ cl₀ (Done n) cl
+    pub walked : Walks d s (chain_from (slot_word s t i) 0) (chain_from k p) n₀ cl₀ (Ok n) cl
 
   pub chain_start : (cl : List ℕ) (n : Counts) (k : ℕ) → Ready d s cl n → t < d.blocks → i < slots
       → k ≡ slot_word s t i → ChainInv n cl cl n k 0
@@ -257,20 +243,20 @@ module _ (d : Disk) (s : List ℕ) (t i : ℕ) where
       }
 
   module _ (n₀ : Counts) (cl₀ cl : List ℕ) (n : Counts) (k p : ℕ) (v : ChainInv n₀ cl₀ cl n k p) where
-    module _ (w : Walked) (cl' : List ℕ) (h : k ≡ 0 → ⊥) (u : EntryWalked d s k t i p n cl w cl') where
+    module _ (w : Result Counts Refusal) (cl' : List ℕ) (h : k ≡ 0 → ⊥) (u : EntryWalked d s k t i p n cl w cl') where
       chain_on : Walks d s (chain_from (slot_word s t i) 0) (chain_from (word_of s k 124) (p + 1)) n₀ cl₀ w cl'
       chain_on =
-          rw (append-nil _) at (walks_then d s _ _ (entry k t i p ∷ []) _ [] n₀ n cl₀ cl cl' (Done n) w v.walked
+          rw (append-nil _) at (walks_then d s _ _ (entry k t i p ∷ []) _ [] n₀ n cl₀ cl cl' (Ok n) w v.walked
           refl (is_link k h) u.walks)
         where
           is_link : (k : ℕ) → (k ≡ 0 → ⊥) → chain_from k p ≡ (entry k t i p ∷ []) ++ []
           is_link zero h = absurd (h refl)
           is_link (suc k) h = refl
 
-      pub chain_out : (x : Refusal) → w ≡ Stopped x → Walks d s (chain_from (slot_word s t i) 0) [] n₀ cl₀ w cl'
-      chain_out x e = walks_stopped d s _ _ [] n₀ cl₀ cl' w x chain_on e
+      pub chain_out : (x : Refusal) → w ≡ Err x → Walks d s (chain_from (slot_word s t i) 0) [] n₀ cl₀ (Err x) cl'
+      chain_out x e = rw e at (walks_stopped d s _ _ [] n₀ cl₀ cl' w x chain_on e)
 
-      pub chain_again : (c : Counts) (k' : ℕ) → w ≡ Done c → length cl' ≡ length cl → k' ≡ word_of s k 124
+      pub chain_again : (c : Counts) (k' : ℕ) → w ≡ Ok c → length cl' ≡ length cl → k' ≡ word_of s k 124
           → ChainInv n₀ cl₀ cl' c k' (p + 1)
       chain_again c k' e l f =
           record {
@@ -290,25 +276,47 @@ module _ (d : Disk) (s : List ℕ) (t i : ℕ) where
               go (yes y) = v.chain.earlier q y
               go (no y) = let g : q ≡ p = omega arith in rw (g, ← v.here) (u.known c e)
 
-    pub chain_end : k ≡ 0 → Walks d s (chain_from (slot_word s t i) 0) [] n₀ cl₀ (Done n) cl
+    pub chain_end : k ≡ 0 → Walks d s (chain_from (slot_word s t i) 0) [] n₀ cl₀ (Ok n) cl
     chain_end z = rw z at v.walked
 
 -- ---- the slots of a directory
 
--- empty ones: w is the word of slot j
+-- empty ones
 module _ (s : List ℕ) (t i : ℕ) where
-  pub used_start : i ≤ slots → UsedSlot s t i i
-  used_start h = record { from = le_refl i; upto = h; empty = refl }
+  empty_none : i ≤ slots → EmptyUpto s t i i
+  empty_none h = record { from = le_refl i; upto = h; empty = refl }
 
-  pub used_again : (j w : ℕ) → UsedSlot s t i j → j < slots → w ≡ slot_word s t j → w ≡ 0 → UsedSlot s t i (j + 1)
+  empty_more : (j : ℕ) → EmptyUpto s t i j → j < slots → slot_word s t j ≡ 0 → EmptyUpto s t i (suc j)
   unfolding slot_nodes
-  used_again j w u h e z =
+  empty_more j u h z =
       record {
         from = omega (arith, u.from);
         upto = omega arith;
-        empty =
-            let g : slots - j ≡ suc (slots - (j + 1)) = omega arith in
-            u.empty ∙ rw (g, add-one j, sym e ∙ z) refl;
+        empty = let g : slots - j ≡ suc (slots - suc j) = omega arith in u.empty ∙ rw (g, z) refl;
+      }
+
+  pub empty_upto : (j : ℕ) → i ≤ j → j ≤ slots → ((k : ℕ) → i ≤ k → k < j → slot_word s t k ≡ 0) → EmptyUpto s t i j
+  empty_upto zero l h f = let e : i ≡ 0 = omega arith in rw (← e) (empty_none (omega arith))
+  empty_upto (suc j) l h f =
+      go (dec_lt j i) (λ q. empty_upto j q (omega arith) (λ k a b. f k a (omega arith)))
+    where
+      go : Dec (j < i) → (i ≤ j → EmptyUpto s t i j) → EmptyUpto s t i (suc j)
+      go (yes q) g = let e : i ≡ suc j = omega arith in rw (← e) (empty_none (omega arith))
+      go (no q) g = empty_more j (g (omega arith)) (omega arith) (f j (omega arith) (omega arith))
+
+  -- as it is looked for
+  pub used_found : (r : Option ℕ) → i ≤ slots
+      → MatchOption r ((k : ℕ) → i ≤ k → k < slots → slot_word s t k ≡ 0)
+      (λ j. (i ≤ j) × (j < slots) × Unit {0} × ((k : ℕ) → i ≤ k → k < j → slot_word s t k ≡ 0)) → UsedSlot s t i r
+  used_found None l h =
+      record { found = λ j e. impossible cc; none = λ e. empty_upto slots l (omega arith) h }
+  used_found (Some j) l h =
+      record {
+        found =
+            λ k e.
+            let w : (j < slots) × EmptyUpto s t i j = (h.1, empty_upto j h.0 (omega (arith, h.1)) h.3) in
+            let p : j ≡ k = cc in rw p at w;
+        none = λ e. impossible cc;
       }
 
 module _ (d : Disk) (s : List ℕ) (t : ℕ) where
@@ -321,50 +329,62 @@ module _ (d : Disk) (s : List ℕ) (t : ℕ) where
     pub inside : t < d.blocks
     pub upto : i ≤ slots
     pub fewer : free cl ≤ free cl₀
-    pub walked : Walks d s (slot_nodes s t 0 slots) (slots_from i) n₀ cl₀ (Done n) cl
+    pub walked : Walks d s (slot_nodes s t 0 slots) (slots_from i) n₀ cl₀ (Ok n) cl
 
-  pub slots_start : (cl : List ℕ) (n : Counts) (j : ℕ) → Ready d s cl n → t < d.blocks → UsedSlot s t 0 j
-      → SlotsInv n cl cl n j
-  slots_start cl n j r l u =
+  pub slots_start : (cl : List ℕ) (n : Counts) → Ready d s cl n → t < d.blocks → SlotsInv n cl cl n 0
+  slots_start cl n r l =
       record {
         ready = r;
         long = refl;
         inside = l;
-        upto = u.upto;
+        upto = omega arith;
         fewer = le_refl _;
-        walked = rw (← u.empty) (walks_none d s (slot_nodes s t 0 slots) n cl);
+        walked = walks_none d s (slot_nodes s t 0 slots) n cl;
       }
 
   module _ (n₀ : Counts) (cl₀ cl : List ℕ) (n : Counts) (i : ℕ) (v : SlotsInv n₀ cl₀ cl n i) where
-    one_more : i < slots → slots_from i ≡ chained (slot_word s t i) t i 0 ++ slots_from (i + 1)
-    unfolding slot_nodes
-    one_more h =
-        let e : slots - i ≡ suc (slots - (i + 1)) = omega arith in
-        rw (e, add-one i) refl
+    pub slots_inside : t < d.blocks
+    slots_inside = v.inside
 
-    slots_on : (r : Walked) (cl' : List ℕ) → i < slots → Walks d s (chained (slot_word s t i) t i 0) [] n cl r cl'
-        → Walks d s (slot_nodes s t 0 slots) (slots_from (i + 1)) n₀ cl₀ r cl'
-    slots_on r cl' h w =
-        walks_then d s _ (slots_from i) (chained (slot_word s t i) t i 0) [] (slots_from (i + 1)) n₀ n cl₀ cl cl'
-        (Done n) r v.walked refl (one_more h) w
+    module _ (o : Option ℕ) (u : UsedSlot s t i o) where
+      module _ (j : ℕ) (e : o ≡ Some j) where
+        pub slot_used : j < slots
+        slot_used = (u.found j e).0
 
-    pub slots_out : (r : Walked) (x : Refusal) (cl' : List ℕ) → i < slots
-        → Walks d s (chained (slot_word s t i) t i 0) [] n cl r cl' → r ≡ Stopped x
-        → Walks d s (slot_nodes s t 0 slots) [] n₀ cl₀ r cl'
-    slots_out r x cl' h w e = walks_stopped d s _ _ [] n₀ cl₀ cl' r x (slots_on r cl' h w) e
+        pub slots_fewer : i ≤ j
+        slots_fewer = (u.found j e).1.from
 
-    pub slots_again : (cl' : List ℕ) (m : Counts) (k p j : ℕ) → i < slots → ChainInv d s t i n cl cl' m k p → k ≡ 0
-        → UsedSlot s t (i + 1) j → SlotsInv n₀ cl₀ cl' m j
-    slots_again cl' m k p j h c z u =
-        record {
-          ready = c.ready;
-          long = c.long ∙ v.long;
-          inside = v.inside;
-          upto = u.upto;
-          fewer = omega (arith, v.fewer, c.few);
-          walked = rw (← u.empty) (slots_on (Done m) cl' h (chain_end d s t i n cl cl' m k p c z));
-        }
+        one_more : slots_from j ≡ chained (slot_word s t j) t j 0 ++ slots_from (j + 1)
+        unfolding slot_nodes
+        one_more =
+            let l = slot_used in
+            let e : slots - j ≡ suc (slots - (j + 1)) = omega arith in
+            rw (e, add-one j) refl
 
-    pub slots_end : slots ≤ i → Walks d s (slot_nodes s t 0 slots) [] n₀ cl₀ (Done n) cl
-    unfolding slot_nodes
-    slots_end h = let e : slots - i ≡ 0 = omega arith in rw e at v.walked
+        slots_on : (r : Result Counts Refusal) (cl' : List ℕ)
+            → Walks d s (chained (slot_word s t j) t j 0) [] n cl r cl'
+            → Walks d s (slot_nodes s t 0 slots) (slots_from (j + 1)) n₀ cl₀ r cl'
+        slots_on r cl' w =
+            walks_then d s _ (slots_from j) (chained (slot_word s t j) t j 0) [] (slots_from (j + 1)) n₀ n cl₀ cl cl'
+            (Ok n) r (rw (u.found j e).1.empty at v.walked) refl one_more w
+
+        pub slots_out : (x : Refusal) (cl' : List ℕ) → Walks d s (chained (slot_word s t j) t j 0) [] n cl (Err x) cl'
+            → Walks d s (slot_nodes s t 0 slots) [] n₀ cl₀ (Err x) cl'
+        slots_out x cl' w = walks_stopped d s _ _ [] n₀ cl₀ cl' (Err x) x (slots_on (Err x) cl' w) refl
+
+        pub slots_again : (cl' : List ℕ) (m : Counts) (k p : ℕ) → ChainInv d s t j n cl cl' m k p → k ≡ 0
+            → SlotsInv n₀ cl₀ cl' m (j + 1)
+        slots_again cl' m k p c z =
+            let l = slot_used in
+            record {
+              ready = c.ready;
+              long = c.long ∙ v.long;
+              inside = v.inside;
+              upto = omega arith;
+              fewer = omega (arith, v.fewer, c.few);
+              walked = slots_on (Ok m) cl' (chain_end d s t j n cl cl' m k p c z);
+            }
+
+      pub slots_end : o ≡ None → Walks d s (slot_nodes s t 0 slots) [] n₀ cl₀ (Ok n) cl
+      unfolding slot_nodes
+      slots_end e = rw (u.none e).empty at v.walked

@@ -1,23 +1,41 @@
-// The claim area: a byte for each block, 1 where the walk has met it.
-ghost use Rattle.std.specs.Prelude.{◌≡◌, length};
-ghost use Rattle.volume.specs.Disks.{claim_bytes};
-ghost use Rattle.audit.specs.Walks.{Claims};
+// The claim area: a byte for each block, 1 where the walk has met it. A block that is met is claimed, and then tested.
+ghost use Rattle.std.specs.Prelude.{◌≡◌, ◌≤◌, ◌<◌, length};
+ghost use Rattle.answers.specs.Refusals.{told};
+ghost use Rattle.volume.specs.Disks.{first_key, claim_bytes};
+ghost use Rattle.audit.specs.Walks.{Claims, Meets};
 
-use answers::Fault;
+use answers::{Fault, Refusal};
 use volume::disk::Disk;
 
-// Claims a key: 0, or the number of what is wrong with it.
-pub(crate) fn claim_key(disk: Disk, claim: &mut [u8], key: u32) -> u32
+// Claims a key that lies in the volume and is not claimed yet.
+fn claim_key(disk: Disk, claim: &mut [u8], key: u32) -> Result<(), Fault>
     requires { length claim.old ≡ claim_bytes disk }
-    ensures { Claims disk claim.old key result claim.new }
+    ensures { Claims disk claim.old key (told result) claim.new }
 {
-    if disk.in_range(key) {
-        let at = key as usize;
-        if claim[at] != 0 {
-            return Fault::CLAIMED_TWICE;
-        }
-        claim[at] = 1;
-        return 0;
+    if !disk.in_range(key) {
+        return Err(Fault::BadKey);
     }
-    Fault::BAD_KEY
+    let at = key as usize;
+    if claim[at] != 0 {
+        return Err(Fault::ClaimedTwice);
+    }
+    claim[at] = 1;
+    Ok(())
+}
+
+// Meets a block: claims its key, and then makes its tests. What is wrong is said of the block. Callers give the tests
+// as a `move` closure: with references to what it captures, the walk takes more stack for each directory.
+pub(crate) fn meet<F: FnOnce() -> Result<(), Fault>>(
+    disk: Disk,
+    claim: &mut [u8],
+    key: u32,
+    tests: F,
+) -> Result<(), Refusal>
+    requires bytes { length claim.old ≡ claim_bytes disk }
+    requires may_test { (first_key ≤ key) → (key < disk.blocks) → F.IsAlwaysCallable tests }
+    ensures { Meets disk claim.old key (λ t. F.post tests t) result claim.new }
+{
+    claim_key(disk, claim, key)
+        .and_then(|()| tests())
+        .map_err(|fault| fault.at(key as usize))
 }

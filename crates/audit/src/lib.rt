@@ -7,4 +7,3 @@ mod claims;
 mod directories;
 mod files;
 mod top;
-mod walked;

@@ -1,5 +1,5 @@
 -- `audit::bitmap::check_bits` meets its contract. Assumes nothing.
-use native.Mathlib.Omega.{arith}
+use Rattle.std.proofs.Common.{rules}
 use Rattle.audit.proofs.Mapping.{bits_start, bits_few, bits_wrong, bits_again, bits_end}
 use Rattle.audit.proofs.bitmap.check_bits.Goals as goal
 
@@ -7,16 +7,13 @@ pub loop-key-init : goal.loop-key-init
 loop-key-init c = search bits_start depth 9
 
 pub returns-then-bit_wrong : goal.returns-then-bit_wrong
-returns-then-bit_wrong c = search bits_wrong depth 9
+returns-then-bit_wrong c = rw c.at.ensures (search bits_wrong depth 9)
 
-pub counted-free-requires : goal.counted-free-requires
-counted-free-requires c = search bits_few depth 9
-
-pub loop-key-smaller : goal.loop-key-smaller
-loop-key-smaller c = omega arith
+pub overflow_add-free : goal.overflow_add-free
+overflow_add-free c = rw c.from-free.ensures (search (bits_few, rules) depth 9)
 
 pub loop-key-preserved : goal.loop-key-preserved
-loop-key-preserved c = search bits_again depth 9
+loop-key-preserved c = rw c.from-free.ensures (search bits_again depth 9)
 
 pub returns : goal.returns
 returns c = search bits_end depth 9

@@ -14,13 +14,13 @@ decreases-walk_entry l = 2 * free l.claim.now
 
 abbrev pub invariant-walk_directory-chain : goal.invariant-walk_directory-chain
 invariant-walk_directory-chain l =
-    ChainInv l.disk l.image l.key l.slot l.initial.m l.initial.claim l.claim l.m l.entry l.position
+    ChainInv l.disk l.image l.key l.slot l.initial.n l.initial.claim l.claim l.n l.entry l.position
 
 abbrev pub decreases-walk_directory-chain : goal.decreases-walk_directory-chain
 decreases-walk_directory-chain l = free l.claim
 
 abbrev pub invariant-walk_directory-slots : goal.invariant-walk_directory-slots
-invariant-walk_directory-slots l = SlotsInv l.disk l.image l.key l.initial.m l.initial.claim l.claim l.m l.slot
+invariant-walk_directory-slots l = SlotsInv l.disk l.image l.key l.initial.n l.initial.claim l.claim l.n l.from
 
 abbrev pub decreases-walk_directory-slots : goal.decreases-walk_directory-slots
-decreases-walk_directory-slots l = slots - l.slot
+decreases-walk_directory-slots l = slots - l.from

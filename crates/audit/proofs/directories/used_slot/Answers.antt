@@ -1,13 +1,14 @@
 -- `audit::directories::used_slot` meets its contract. Assumes nothing.
-use native.Mathlib.Omega.{arith}
-use Rattle.audit.proofs.Hanging.{used_start, used_again}
+use Rattle.std.proofs.Common.{◌≡◌, rules, tests}
+use Rattle.std.proofs.lemmas.Iterator.{first_from_Range}
+use Rattle.volume.specs.Blocks.{slot_word}
+use Rattle.audit.proofs.Hanging.{used_found}
 use Rattle.audit.proofs.directories.used_slot.Goals as goal
 
-pub loop-i-init : goal.loop-i-init
-loop-i-init c = search used_start depth 7
-
-pub loop-i-smaller : goal.loop-i-smaller
-loop-i-smaller c = omega arith
-
-pub loop-i-preserved : goal.loop-i-preserved
-loop-i-preserved c = search used_again depth 7
+pub returns : goal.returns
+returns c =
+    let s = c.args.image.now in
+    let t = c.args.key in
+    used_found s t c.args.slot _ c.requires.1
+    (first_from_Range _ _ _ _ (λ k. Unit {0}) (λ k. slot_word s t k ≡ 0) c.find.ensures.ran (λ x q k. tt)
+    (λ x q k. search (rules, tests)))
