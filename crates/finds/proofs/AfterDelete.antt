@@ -3,6 +3,7 @@
 -- `cut_answers`). All of them leave a volume (`delete_lawful`): there each path at the entry's path or below it is 19
 -- (`delete_gone`), and every other answers as before, but for how many entries were compared (`delete_stays`). Assumes
 -- nothing.
+use Rattle.std.specs.Prelude.{Result, Ok, Err}
 use Prim.Native.Nat.{ℕ, ◌^◌, ◌≤◌, ◌<◌}
 use mathlib.Core.Path.{◌≡◌, refl, sym, ap, ◌∙◌}
 use mathlib.Core.Logic.{◌⊎◌, inl, inr, ◌↔◌}
@@ -12,7 +13,6 @@ use native.Mathlib.Omega.{arith}
 use lib.ListN.{length, take}
 use Rattle.answers.specs.Numbers as fault
 use Rattle.answers.specs.declared.Refusal.{Refusal}
-use Rattle.answers.specs.declared.Tested.TheVariants.{Passed}
 use Rattle.words.specs.Word.{Bytes}
 use Rattle.words.specs.Sum.{sum_at}
 use Rattle.words.proofs.Words.{word_at_lt}
@@ -30,8 +30,6 @@ use Rattle.lookup.proofs.Refusing.{file_exactly}
 use Rattle.lookup.proofs.OnTrees.{found_file}
 use Rattle.reading.specs.Bytes.{file_bytes, filled_by}
 use Rattle.reading.specs.Reads.{last_component, reads, read_of, bytes_of, output_after}
-use Rattle.reading.specs.declared.read.Reading.{Reading}
-use Rattle.reading.specs.declared.read.Reading.TheVariants.{Bytes as Copied, Refused}
 use Rattle.reading.proofs.OnTrees.{file_reaches, found_passes}
 use Rattle.writes.specs.Alike.{Alike, SameBlock}
 use Rattle.writes.proofs.Alike.{alike_word}
@@ -71,21 +69,21 @@ answers_trans d s t u a b =
     }
 
 -- answers that are alike are of one sort
-data Alikes (f g : Found) : Type 0 where
-  files : (y w n m : ℕ) → f ≡ found.File y w n → g ≡ found.File y w m → Alikes f g
-  directories : (y n m : ℕ) → f ≡ found.Directory y n → g ≡ found.Directory y m → Alikes f g
-  refusals : (r : Refusal) → f ≡ found.Refused r → g ≡ found.Refused r → Alikes f g
+data Alikes (f g : Result Found Refusal) : Type 0 where
+  files : (y w n m : ℕ) → f ≡ Ok (found.File y w n) → g ≡ Ok (found.File y w m) → Alikes f g
+  directories : (y n m : ℕ) → f ≡ Ok (found.Directory y n) → g ≡ Ok (found.Directory y m) → Alikes f g
+  refusals : (r : Refusal) → f ≡ Err r → g ≡ Err r → Alikes f g
 
-alikes : (f g : Found) → Like f g → Alikes f g
-alikes (found.Directory k n) (found.Directory l m) e = directories k n m refl (rw e refl)
-alikes (found.Directory k n) (found.File l z m) e = absurd e
-alikes (found.Directory k n) (found.Refused r) e = absurd e
-alikes (found.File k y n) (found.Directory l m) e = absurd e
-alikes (found.File k y n) (found.File l z m) e = files k y n m refl (rw (e.0, e.1) refl)
-alikes (found.File k y n) (found.Refused r) e = absurd e
-alikes (found.Refused r) (found.Directory l m) e = absurd e
-alikes (found.Refused r) (found.File l z m) e = absurd e
-alikes (found.Refused r) (found.Refused q) e = refusals r refl (rw e refl)
+alikes : (f g : Result Found Refusal) → Like f g → Alikes f g
+alikes (Ok (found.Directory k n)) (Ok (found.Directory l m)) e = directories k n m refl (rw e refl)
+alikes (Ok (found.Directory k n)) (Ok (found.File l z m)) e = absurd e
+alikes (Ok (found.Directory k n)) (Err r) e = absurd e
+alikes (Ok (found.File k y n)) (Ok (found.Directory l m)) e = absurd e
+alikes (Ok (found.File k y n)) (Ok (found.File l z m)) e = files k y n m refl (rw (e.0, e.1) refl)
+alikes (Ok (found.File k y n)) (Err r) e = absurd e
+alikes (Err r) (Ok (found.Directory l m)) e = absurd e
+alikes (Err r) (Ok (found.File l z m)) e = absurd e
+alikes (Err r) (Err q) e = refusals r refl (rw e refl)
 
 read_is : (d : Disk) (s path : List ℕ) (o n : ℕ) → read_of d s path o n ≡ reads d s path o n (find_of d s path)
 unfolding read_of
@@ -251,7 +249,7 @@ module _ (d : Disk) (z : Sized d) (s : List ℕ) (b : Bytes s) (v : Volume d s) 
 
   module _ (p : List ℕ) (leads : LeadsTo d s p k) (path : List ℕ) where
     -- At p and below it every path of a good form is 19, at the last component of p.
-    pub delete_gone : Under d p path → path_fault path ≡ Passed
+    pub delete_gone : Under d p path → path_fault path ≡ Ok tt
         → find_of d end path ≡ refuse fault.not_found (last_component p)
     delete_gone = path_gone d s end tree delete_lawful.tree k delete_lacks p leads q.entry path
 
@@ -259,12 +257,12 @@ module _ (d : Disk) (z : Sized d) (s : List ℕ) (b : Bytes s) (v : Volume d s) 
       finds_like : Like (find_of d s path) (find_of d end path)
       finds_like = path_stays d s end tree delete_lawful.tree k delete_lacks p leads path other
 
-      found_bytes : (y w c : ℕ) → find_of d end path ≡ found.File y w c → file_bytes d end y ≡ file_bytes d s y
+      found_bytes : (y w c : ℕ) → find_of d end path ≡ Ok (found.File y w c) → file_bytes d end y ≡ file_bytes d s y
       found_bytes y w c e =
           let h = (file_exactly d end path y w c).0 e in
           sym (delete_bytes y (found_file d end delete_lawful.tree path y w c e) (rw h.key at h.kind))
 
-      reads_like : (o n : ℕ) (f g : Found) → find_of d s path ≡ f → find_of d end path ≡ g → Alikes f g
+      reads_like : (o n : ℕ) (f g : Result Found Refusal) → find_of d s path ≡ f → find_of d end path ≡ g → Alikes f g
           → reads d end path o n g ≡ reads d s path o n f
       reads_like o n f g a c (files y w i m e h) =
           rw (
@@ -278,7 +276,7 @@ module _ (d : Disk) (z : Sized d) (s : List ℕ) (b : Bytes s) (v : Volume d s) 
       reads_like o n f g a c (directories y i m e h) = rw (e, h) refl
       reads_like o n f g a c (refusals r e h) = rw (e, h) refl
 
-      bytes_like : (f g : Found) → find_of d s path ≡ f → find_of d end path ≡ g → Alikes f g
+      bytes_like : (f g : Result Found Refusal) → find_of d s path ≡ f → find_of d end path ≡ g → Alikes f g
           → bytes_of d end g ≡ bytes_of d s f
       bytes_like f g a c (files y w i m e h) = rw (e, h) (found_bytes y w m (c ∙ h))
       bytes_like f g a c (directories y i m e h) = rw (e, h) refl
@@ -296,8 +294,8 @@ module _ (d : Disk) (z : Sized d) (s : List ℕ) (b : Bytes s) (v : Volume d s) 
               read_is d end path o n ∙ reads_like o n (find_of d s path) (find_of d end path) refl refl sorts
               ∙ sym (read_is d s path o n)
 
-          left' : (o : ℕ) (output : List ℕ) (r : Reading)
+          left' : (o : ℕ) (output : List ℕ) (r : Result ℕ Refusal)
               → output_after d end path o output r ≡ output_after d s path o output r
-          left' o output (Copied n) =
+          left' o output (Ok n) =
               ap (λ x. filled_by x o output) (bytes_like (find_of d s path) (find_of d end path) refl refl sorts)
-          left' o output (Refused r) = refl
+          left' o output (Err r) = refl

@@ -1,5 +1,6 @@
 -- What is in a directory of a tree, by w125 of the entries; and what a search for a name gives there: the entry that
 -- has the name, or the end (`gives`). Assumes nothing.
+use Rattle.std.specs.Prelude.{Ok, Some, None}
 use Prim.Native.Nat.{ℕ, ◌+◌, ◌<◌}
 use mathlib.Core.Path.{◌≡◌, refl, sym, ap, ◌∙◌, subst}
 use mathlib.Core.Logic.{◌≢◌, inl, inr}
@@ -18,18 +19,15 @@ use Rattle.volume.proofs.Names.{slot_same}
 use Rattle.walk.proofs.Chains.{chain_some}
 use Rattle.walk.proofs.Positions.{Holder}
 use Rattle.walk.proofs.Lawful.{held_by}
-use Rattle.lookup.specs.declared.chain.Step.{Step}
-use Rattle.lookup.specs.declared.chain.Step.TheVariants.{At, Ended}
-use Rattle.lookup.specs.Search.{position_key, search_of}
+use Rattle.lookup.specs.Search.{position_key, search_of, Step, hit}
 use Rattle.lookup.specs.Trails.{Lies}
 use Rattle.lookup.proofs.Chains.{slot_below, tests_pass}
 use Rattle.lookup.proofs.Positions.{Outcome, at, ended, faulty, outcome}
 use Rattle.lookup.proofs.OnTrees.{position_tests}
 use Rattle.lookup.proofs.Bridge.{reached_lies, names_holder}
-use Rattle.tree.specs.Pointers.{Pointed, Leaf}
+use Rattle.tree.specs.Pointers.{Leaf}
 use Rattle.tree.proofs.Carrying.{hung_reached}
 use Rattle.tree.proofs.SameTrees.{not_root}
-use Rattle.tree.proofs.Finding.{hangs_points}
 
 first_key_lem : (s : List ℕ) (head : ℕ) → chain_key s head 0 ≡ head
 unfolding chain_key
@@ -42,8 +40,8 @@ pub record In (d : Disk) (s : List ℕ) (x y : ℕ) : Type 0 where
 
 -- what a search gives: the entry of the directory that has the name, or the end
 pub data Gives (d : Disk) (s : List ℕ) (x : ℕ) (c : List ℕ) (r : Step) : Type 0 where
-  one : (y m : ℕ) → r ≡ At y m → In d s x y → folded d (name_of s y) ≡ folded d c → Gives d s x c r
-  no_one : r ≡ Ended → ((y : ℕ) → In d s x y → folded d (name_of s y) ≢ folded d c) → Gives d s x c r
+  one : (y m : ℕ) → r ≡ Ok (Some (hit y m)) → In d s x y → folded d (name_of s y) ≡ folded d c → Gives d s x c r
+  no_one : r ≡ Ok None → ((y : ℕ) → In d s x y → folded d (name_of s y) ≢ folded d c) → Gives d s x c r
 
 module _ (d : Disk) (s : List ℕ) (v : Tree d s) where
   pub hangs_in : (x i y : ℕ) → Holder d s x → Hangs s x i y → In d s x y
@@ -60,10 +58,6 @@ module _ (d : Disk) (s : List ℕ) (v : Tree d s) where
 
     parent_is : lies.parent ≡ word_of s y 125
     parent_is = sym ((held_by d s v lies.parent above).parent lies.slot y lies.hangs)
-
-    -- the word that points to it
-    pub reached_pointed : Pointed d s y
-    reached_pointed = hangs_points d s lies.parent lies.slot y above lies.hangs
 
   module _ (x y : ℕ) (h : In d s x y) where
     pub in_holder : Holder d s x

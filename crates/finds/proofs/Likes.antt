@@ -1,5 +1,7 @@
 -- Two trees, one with the entry k and one without it: every find that does not come to k answers alike, but for how
 -- many entries it compared (`find_like`). Assumes nothing.
+use Rattle.answers.specs.declared.Refusal.{Refusal}
+use Rattle.std.specs.Prelude.{Result, Ok, Err, Some, None}
 use Prim.Native.Nat.{ℕ, ◌+◌}
 use mathlib.Core.Path.{◌≡◌, refl, sym, ap, ◌∙◌, subst}
 use mathlib.Core.Logic.{◌≢◌, ◌⊎◌, inl, inr}
@@ -8,8 +10,6 @@ use mathlib.Core.List.{List, [], ◌∷◌}
 use lib.ListN.{length}
 use borrow.Author.Tests.{eq-eqb}
 use Rattle.answers.specs.Tests.{pick}
-use Rattle.answers.specs.declared.Tested.{Tested}
-use Rattle.answers.specs.declared.Tested.TheVariants.{Passed, Failed}
 use Rattle.reach.specs.References.{Reached, top}
 use Rattle.words.specs.Word.{word_at}
 use Rattle.volume.specs.declared.disk.Disk.{Disk}
@@ -21,9 +21,8 @@ use Rattle.volume.specs.References.{Kind, to, references}
 use Rattle.volume.specs.Law.{Tree}
 use Rattle.volume.proofs.Passes.{root_passes}
 use Rattle.walk.proofs.Positions.{Holder}
-use Rattle.lookup.specs.declared.chain.Step.TheVariants.{At, Ended}
 use Rattle.lookup.specs.Paths.{components, path_fault}
-use Rattle.lookup.specs.Search.{search_of}
+use Rattle.lookup.specs.Search.{search_of, hit}
 use Rattle.lookup.specs.Lookup.{file_at, stepped, lookup_from, from_root, and, find_of}
 use Rattle.finds.specs.Answers.{Like}
 use Rattle.finds.proofs.Holdings.{In, in_one, Gives, one, no_one, gives}
@@ -43,7 +42,8 @@ pub record Lacks (d : Disk) (s t : List ℕ) (k : ℕ) : Type 0 where
 -- the components cs from directory x on do not come to k
 abbrev pub Misses : Disk → List ℕ → ℕ → ℕ → List (List ℕ) → Type 0
 Misses d s k x [] = Unit {0}
-Misses d s k x (n ∷ cs) = (y m : ℕ) → search_of d s x n ≡ At y m → (y ≢ k) × (directory s y ≡ true → Misses d s k y cs)
+Misses d s k x (n ∷ cs) = (y m : ℕ) → search_of d s x n ≡ Ok (Some (hit y m)) → (y ≢ k)
+    × (directory s y ≡ true → Misses d s k y cs)
 
 -- on a tree the tests before the components pass, but for the path's form
 pub find_components : (d : Disk) (s : List ℕ) → Tree d s → (path : List ℕ)
@@ -80,22 +80,23 @@ module _ (d : Disk) (s t : List ℕ) (v : Tree d s) (u : Tree d t) (k : ℕ) (c 
     was_named y h e = ap (folded d) (sym (c.name y h.reached)) ∙ e
 
     pub search_stays : (y : ℕ) → y ≢ k → In d s x y → folded d (name_of s y) ≡ folded d n
-        → (m : ℕ) × (search_of d t x n ≡ At y m)
+        → (m : ℕ) × (search_of d t x n ≡ Ok (Some (hit y m)))
     search_stays y e h q = go (gives d t u x n o)
       where
-        go : Gives d t x n (search_of d t x n) → (m : ℕ) × (search_of d t x n ≡ At y m)
+        go : Gives d t x n (search_of d t x n) → (m : ℕ) × (search_of d t x n ≡ Ok (Some (hit y m)))
         go (one z m f g p) = (
           m,
-          subst (λ b. search_of d t x n ≡ At b m) (in_one d s v x z y (in_was x z g) h (was_named z g p ∙ sym q))
+          subst (λ b. search_of d t x n ≡ Ok (Some (hit b m)))
+              (in_one d s v x z y (in_was x z g) h (was_named z g p ∙ sym q))
               f,
         )
         go (no_one f g) = let w = in_stays x y e h in absurd (g y w (ap (folded d) (c.name y w.reached) ∙ q))
 
     -- the name of k is not found
-    pub search_gone : In d s x k → folded d (name_of s k) ≡ folded d n → search_of d t x n ≡ Ended
+    pub search_gone : In d s x k → folded d (name_of s k) ≡ folded d n → search_of d t x n ≡ Ok None
     search_gone h q = go (gives d t u x n o)
       where
-        go : Gives d t x n (search_of d t x n) → search_of d t x n ≡ Ended
+        go : Gives d t x n (search_of d t x n) → search_of d t x n ≡ Ok None
         go (one z m f g p) =
             absurd (c.gone (subst (λ b. Reached (references d t) (to Kind.entry b))
             (in_one d s v x z k (in_was x z g) h (was_named z g p ∙ sym q)) g.reached))
@@ -103,15 +104,15 @@ module _ (d : Disk) (s t : List ℕ) (v : Tree d s) (u : Tree d t) (k : ℕ) (c 
 
     -- both find the same entry, or neither finds any
     data Both : Type 0 where
-      same : (y l m : ℕ) → search_of d s x n ≡ At y l → search_of d t x n ≡ At y m
+      same : (y l m : ℕ) → search_of d s x n ≡ Ok (Some (hit y l)) → search_of d t x n ≡ Ok (Some (hit y m))
           → Reached (references d t) (to Kind.entry y) → Both
-      neither : search_of d s x n ≡ Ended → search_of d t x n ≡ Ended → Both
+      neither : search_of d s x n ≡ Ok None → search_of d t x n ≡ Ok None → Both
 
-    both : ((y m : ℕ) → search_of d s x n ≡ At y m → y ≢ k) → Both
+    both : ((y m : ℕ) → search_of d s x n ≡ Ok (Some (hit y m)) → y ≢ k) → Both
     both w = go (gives d s v x n (holder_was x o))
       where
         none : ((y : ℕ) → In d s x y → folded d (name_of s y) ≢ folded d n) → Gives d t x n (search_of d t x n)
-            → search_of d t x n ≡ Ended
+            → search_of d t x n ≡ Ok None
         none f (one y m e h q) = absurd (f y (in_was x y h) (was_named y h q))
         none f (no_one e g) = e
 
@@ -155,7 +156,7 @@ module _ (d : Disk) (s t : List ℕ) (v : Tree d s) (u : Tree d t) (k : ℕ) (c 
       → Like (find_of d s path) (find_of d t path)
   find_like path w = rw (find_components d s v path, find_components d t u path) (form (path_fault path))
     where
-      form : (f : Tested) → Like (and f (lookup_from d s (root_of d) 0 0 (components path)))
+      form : (f : Result Unit Refusal) → Like (and f (lookup_from d s (root_of d) 0 0 (components path)))
           (and f (lookup_from d t (root_of d) 0 0 (components path)))
-      form Passed = lookup_like (components path) (root_of d) 0 0 0 (inl refl) w
-      form (Failed r) = refl
+      form (Ok _) = lookup_like (components path) (root_of d) 0 0 0 (inl refl) w
+      form (Err r) = refl

@@ -1,4 +1,5 @@
 -- On an image with the same tree every find answers alike (`same_find`). Assumes nothing.
+use Rattle.std.specs.Prelude.{Ok, Err, Some, None}
 use Prim.Native.Nat.{ℕ, zero, suc, ◌+◌, ◌<◌}
 use mathlib.Core.Path.{◌≡◌, refl, sym, ap, ◌∙◌}
 use mathlib.Core.Logic.{◌≢◌, inl, inr}
@@ -18,9 +19,7 @@ use Rattle.volume.specs.Law.{after, chain_key, Hangs, Tree}
 use Rattle.volume.specs.Rules.{root_fault, entry_fault}
 use Rattle.volume.proofs.Passes.{root_passes}
 use Rattle.walk.proofs.Positions.{Holder}
-use Rattle.lookup.specs.declared.chain.Step.{Step}
-use Rattle.lookup.specs.declared.chain.Step.TheVariants.{At, Ended, Fault}
-use Rattle.lookup.specs.Search.{position_key, position_fault, visit, search_from, search_of}
+use Rattle.lookup.specs.Search.{position_key, position_fault, visit, search_from, search_of, Step, hit}
 use Rattle.lookup.specs.Lookup.{file_at, stepped, lookup_from, from_root, find_of}
 use Rattle.lookup.proofs.Chains.{slot_below}
 use Rattle.lookup.proofs.Positions.{first_equal_name}
@@ -122,12 +121,12 @@ module _ (d : Disk) (s t : List ℕ) (v : Tree d s) (u : Tree d t) (a : SameTree
     search_of_same = search_same _ 0
 
     -- what it finds hangs there, and so is reached
-    pub found_hangs : (k m : ℕ) → search_of d s x name ≡ At k m → Hangs s x (slot_of d name) k
+    pub found_hangs : (k m : ℕ) → search_of d s x name ≡ Ok (Some (hit k m)) → Hangs s x (slot_of d name) k
     found_hangs k m e =
         let w = (first_equal_name d s x name k m).0 e in
         record { slot = low; position = w.0; there = sym w.2; some = λ z. w.1.tests.some (sym w.2 ∙ z) }
 
-    found_reached : (k m : ℕ) → search_of d s x name ≡ At k m → Reached (references d s) (to Kind.entry k)
+    found_reached : (k m : ℕ) → search_of d s x name ≡ Ok (Some (hit k m)) → Reached (references d s) (to Kind.entry k)
     found_reached k m e = hung_reached d s x (slot_of d name) k o (found_hangs k m e)
 
   -- ---- all components
@@ -142,24 +141,24 @@ module _ (d : Disk) (s t : List ℕ) (v : Tree d s) (u : Tree d t) (a : SameTree
           → ((k m : ℕ) → Holder d s k → lookup_from d t k (i + 1) m cs ≡ lookup_from d s k (i + 1) m cs)
           → stepped t i n cs (λ k m. lookup_from d t k (i + 1) m cs) r
           ≡ stepped s i n cs (λ k m. lookup_from d s k (i + 1) m cs) r
-      go Ended e ih = refl
-      go (Fault r) e ih = refl
-      go (At k m) e ih = rw kinds (chosen (directory s k) refl)
+      go (Ok None) e ih = refl
+      go (Err r) e ih = refl
+      go (Ok (Some h)) e ih = rw kinds (chosen (directory s h.key) refl)
         where
-          reached : Reached (references d s) (to Kind.entry k)
-          reached = found_reached x o c k m e
+          reached : Reached (references d s) (to Kind.entry h.key)
+          reached = found_reached x o c h.key h.compared e
 
-          kinds : directory t k ≡ directory s k
-          kinds = rw (word_same k reached 127 (omega arith)) refl
+          kinds : directory t h.key ≡ directory s h.key
+          kinds = rw (word_same h.key reached 127 (omega arith)) refl
 
-          files : (cs : List (List ℕ)) → file_at t i (n + m) cs k ≡ file_at s i (n + m) cs k
-          files [] = rw (word_same k reached 81 (omega arith)) refl
+          files : (cs : List (List ℕ)) → file_at t i (n + h.compared) cs h.key ≡ file_at s i (n + h.compared) cs h.key
+          files [] = rw (word_same h.key reached 81 (omega arith)) refl
           files (c ∷ cs) = refl
 
-          chosen : (b : Bool) → directory s k ≡ b
-              → pick b (lookup_from d t k (i + 1) (n + m) cs) (file_at t i (n + m) cs k)
-              ≡ pick b (lookup_from d s k (i + 1) (n + m) cs) (file_at s i (n + m) cs k)
-          chosen true f = ih k (n + m) (inr (reached, f))
+          chosen : (b : Bool) → directory s h.key ≡ b
+              → pick b (lookup_from d t h.key (i + 1) (n + h.compared) cs) (file_at t i (n + h.compared) cs h.key)
+              ≡ pick b (lookup_from d s h.key (i + 1) (n + h.compared) cs) (file_at s i (n + h.compared) cs h.key)
+          chosen true f = ih h.key (n + h.compared) (inr (reached, f))
           chosen false f = files cs
 
   -- ---- the root, and the whole

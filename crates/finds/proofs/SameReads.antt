@@ -1,5 +1,7 @@
 -- On an image with the same tree every read answers alike and leaves the same bytes (`same_read`, `same_left`). Assumes
 -- nothing.
+use Rattle.answers.specs.declared.Refusal.{Refusal}
+use Rattle.std.specs.Prelude.{Result, Ok, Err}
 use Prim.Native.Nat.{ℕ, zero, suc, ◌-◌, ◌*◌}
 use mathlib.Core.Path.{◌≡◌, refl, sym, ap, ap₂, ◌∙◌}
 use mathlib.Core.Logic.{inl, inr}
@@ -21,8 +23,6 @@ use Rattle.lookup.specs.declared.find.Found.TheVariants as found
 use Rattle.lookup.specs.Lookup.{find_of}
 use Rattle.lookup.proofs.Refusing.{file_exactly}
 use Rattle.lookup.proofs.OnTrees.{found_file}
-use Rattle.reading.specs.declared.read.Reading.{Reading}
-use Rattle.reading.specs.declared.read.Reading.TheVariants.{Bytes, Refused}
 use Rattle.reading.specs.Bytes.{data_of, data_in, file_bytes}
 use Rattle.reading.specs.Reads.{reads, read_of, bytes_of, output_after}
 use Rattle.reading.proofs.Parts.{drop_take}
@@ -112,22 +112,23 @@ module _ (d : Disk) (s t : List ℕ) (v : Tree d s) (u : Tree d t) (a : SameTree
   -- ---- a read
 
   module _ (path : List ℕ) where
-    found_bytes : (k z c : ℕ) → find_of d s path ≡ found.File k z c → file_bytes d t k ≡ file_bytes d s k
+    found_bytes : (k z c : ℕ) → find_of d s path ≡ Ok (found.File k z c) → file_bytes d t k ≡ file_bytes d s k
     found_bytes k z c e =
         let h = (file_exactly d s path k z c).0 e in
         same_bytes k (found_file d s v path k z c e) (rw h.key at h.kind)
 
-    reads_same : (o n : ℕ) (r : Found) → find_of d s path ≡ r → reads d t path o n r ≡ reads d s path o n r
-    reads_same o n (found.File k z c) e =
+    reads_same : (o n : ℕ) (r : Result Found Refusal) → find_of d s path ≡ r
+        → reads d t path o n r ≡ reads d s path o n r
+    reads_same o n (Ok (found.File k z c)) e =
         let p = found_passes d t u path k z c (same_find d s t v u a path ∙ e) in
         rw (p, found_passes d s v path k z c e, found_bytes k z c e) refl
-    reads_same o n (found.Directory k c) e = refl
-    reads_same o n (found.Refused r) e = refl
+    reads_same o n (Ok (found.Directory k c)) e = refl
+    reads_same o n (Err r) e = refl
 
-    bytes_same : (r : Found) → find_of d s path ≡ r → bytes_of d t r ≡ bytes_of d s r
-    bytes_same (found.File k z c) e = found_bytes k z c e
-    bytes_same (found.Directory k c) e = refl
-    bytes_same (found.Refused r) e = refl
+    bytes_same : (r : Result Found Refusal) → find_of d s path ≡ r → bytes_of d t r ≡ bytes_of d s r
+    bytes_same (Ok (found.File k z c)) e = found_bytes k z c e
+    bytes_same (Ok (found.Directory k c)) e = refl
+    bytes_same (Err r) e = refl
 
     -- Every read answers alike.
     pub same_read : (o n : ℕ) → read_of d t path o n ≡ read_of d s path o n
@@ -135,7 +136,7 @@ module _ (d : Disk) (s t : List ℕ) (v : Tree d s) (u : Tree d t) (a : SameTree
     same_read o n = rw (same_find d s t v u a path) (reads_same o n (find_of d s path) refl)
 
     -- It leaves the same bytes.
-    pub same_left : (o : ℕ) (output : List ℕ) (r : Reading)
+    pub same_left : (o : ℕ) (output : List ℕ) (r : Result ℕ Refusal)
         → output_after d t path o output r ≡ output_after d s path o output r
-    same_left o output (Bytes n) = rw (same_find d s t v u a path, bytes_same (find_of d s path) refl) refl
-    same_left o output (Refused r) = refl
+    same_left o output (Ok n) = rw (same_find d s t v u a path, bytes_same (find_of d s path) refl) refl
+    same_left o output (Err r) = refl

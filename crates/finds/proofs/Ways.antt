@@ -1,6 +1,7 @@
 -- The way to an entry of a tree is one: a find comes to it if and only if the folded names are those of its path. So
 -- where the entry is gone, each path at its path or below it is 19 (`path_gone`), and each other answers alike, but for
 -- how many entries were compared (`path_stays`). Assumes nothing.
+use Rattle.std.specs.Prelude.{Ok, Some, None}
 use Prim.Native.Nat.{ℕ, ◌+◌, ◌-◌}
 use mathlib.Core.Path.{◌≡◌, refl, sym, ap, ap₂, ◌∙◌, subst}
 use mathlib.Core.Logic.{◌≢◌, ◌⊎◌, inl, inr}
@@ -11,7 +12,6 @@ use native.Mathlib.Omega.{arith}
 use lib.ListN.{length, length-append, length-map}
 use Rattle.answers.specs.Numbers as fault
 use Rattle.answers.specs.Tests.{pick}
-use Rattle.answers.specs.declared.Tested.TheVariants.{Passed}
 use Rattle.answers.proofs.Clashes.{impossible}
 use Rattle.reach.specs.References.{Reached}
 use Rattle.volume.specs.declared.disk.Disk.{Disk}
@@ -21,9 +21,9 @@ use Rattle.volume.specs.Names.{name_of, folded, slot_of}
 use Rattle.volume.specs.References.{Kind, to, references}
 use Rattle.volume.specs.Law.{Tree}
 use Rattle.walk.proofs.Positions.{Holder}
-use Rattle.lookup.specs.declared.chain.Step.TheVariants.{At, Ended}
 use Rattle.lookup.specs.Paths.{components, path_fault}
-use Rattle.lookup.specs.Search.{position_key, search_of}
+use Rattle.lookup.specs.declared.chain.Hit.{Hit}
+use Rattle.lookup.specs.Search.{position_key, search_of, hit}
 use Rattle.lookup.specs.Lookup.{refuse, lookup_from, and, find_of}
 use Rattle.lookup.specs.Trails.{First, Trail, stay, down}
 use Rattle.lookup.proofs.Chains.{slot_below}
@@ -157,7 +157,8 @@ module _ (d : Disk) (s : List ℕ) (v : Tree d s) where
             )
 
         go : Gives d s x c (search_of d s x c) → (y ≢ k) × (directory s y ≡ true → Misses d s k y cs)
-        go (one z l f h q) = there z (cc) h q
+        go (one z l f h q) =
+            let a : hit z l ≡ hit y m = cc in there z (ap (λ (b : Hit). b.key) a) h q
         go (no_one f h) = impossible cc
 
     misses : (cs done : List (List ℕ)) (x : ℕ) → Asked cs done x
@@ -167,12 +168,12 @@ module _ (d : Disk) (s : List ℕ) (v : Tree d s) where
 -- ---- a lookup, one component on
 
 lookup_on : (d : Disk) (t : List ℕ) (x y i j n m : ℕ) (b : List ℕ) (cs : List (List ℕ)) → j ≡ i + 1
-    → search_of d t x b ≡ At y m → directory t y ≡ true
+    → search_of d t x b ≡ Ok (Some (hit y m)) → directory t y ≡ true
     → lookup_from d t x i n (b ∷ cs) ≡ lookup_from d t y j (n + m) cs
 unfolding lookup_from pick
 lookup_on d t x y i j n m b cs l e f = rw (e, f, l) refl
 
-lookup_ends : (d : Disk) (t : List ℕ) (x i n : ℕ) (b : List ℕ) (cs : List (List ℕ)) → search_of d t x b ≡ Ended
+lookup_ends : (d : Disk) (t : List ℕ) (x i n : ℕ) (b : List ℕ) (cs : List (List ℕ)) → search_of d t x b ≡ Ok None
     → lookup_from d t x i n (b ∷ cs) ≡ refuse fault.not_found i
 unfolding lookup_from
 lookup_ends d t x i n b cs e = rw e refl
@@ -210,7 +211,7 @@ module _ (d : Disk) (s t : List ℕ) (v : Tree d s) (u : Tree d t) (k : ℕ) (c 
       → folded d (name_of s y) ≡ folded d b → ComesTo x front (b ∷ back) → ComesTo y (front ++ (b ∷ [])) back
   comes_next x y front back b n o h e w = go (search_stays d s t v u k c x b w.holder y n h e) (holder_stays y n o)
     where
-      go : (m : ℕ) × (search_of d t x b ≡ At y m) → Holder d t y → ComesTo y (front ++ (b ∷ [])) back
+      go : (m : ℕ) × (search_of d t x b ≡ Ok (Some (hit y m))) → Holder d t y → ComesTo y (front ++ (b ∷ [])) back
       go m (inl r) = absurd (in_not_root d s v x y h r)
       go m (inr r) =
           record {
@@ -250,7 +251,7 @@ module _ (d : Disk) (s t : List ℕ) (v : Tree d s) (u : Tree d t) (k : ℕ) (c 
       ∙ ap (refuse fault.not_found) (sym z)
 
   -- Every path at p or below it, of a good form, is 19 at the last component of p.
-  pub path_gone : Reached (references d s) (to Kind.entry k) → (q : List ℕ) → Under d p q → path_fault q ≡ Passed
+  pub path_gone : Reached (references d s) (to Kind.entry k) → (q : List ℕ) → Under d p q → path_fault q ≡ Ok tt
       → find_of d t q ≡ refuse fault.not_found (last_component p)
   path_gone r q w f =
       let l : length w.front ≡ length (components p) =

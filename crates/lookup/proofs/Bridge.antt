@@ -7,6 +7,7 @@ use mathlib.Core.Bool.{Bool, true, false}
 use mathlib.Core.List.{List, [], ◌∷◌, ◌++◌}
 use native.Mathlib.Omega.{arith}
 use lib.ListN.{length}
+use Rattle.std.specs.Prelude.{Ok}
 use Rattle.answers.specs.Numbers as fault
 use Rattle.answers.specs.Tests.{pick}
 use Rattle.answers.proofs.Clashes.{impossible}
@@ -219,7 +220,8 @@ module _ (d : Disk) (s : List ℕ) (v : Tree d s) where
     parts = components_joined names good
 
     found : (b : Bool) → directory s k ≡ b → length (path_of s (root_of d) k h) ≤ longest_path
-        → (n : ℕ) × (find_of d s (path_of s (root_of d) k h) ≡ pick b (Directory k n) (File k (size_of s k) n))
+        → (n : ℕ) ×
+        (find_of d s (path_of s (root_of d) k h) ≡ pick b (Ok (Directory k n)) (Ok (File k (size_of s k) n)))
     unfolding pick
     found true e l =
         let w = names_trail (inl refl) (names_end s h.above h.slot k h.hangs e) in
@@ -253,8 +255,8 @@ module _ (d : Disk) (s : List ℕ) (v : Tree d s) where
 
     -- It is found by its path, if that is not too long, with its own key and kind.
     pub reached_found : length (path_of s (root_of d) k h) ≤ longest_path
-        → (n : ℕ) × (find_of d s (path_of s (root_of d) k h) ≡ pick (directory s k) (Directory k n)
-        (File k (size_of s k) n))
+        → (n : ℕ) × (find_of d s (path_of s (root_of d) k h) ≡ pick (directory s k) (Ok (Directory k n))
+        (Ok (File k (size_of s k) n)))
     reached_found l = found (directory s k) refl l
 
     -- A path that is too long is 18 at 0.

@@ -8,14 +8,14 @@ use native.Mathlib.Omega.{arith}
 use native.Mathlib.Numerals.{add-one}
 use lib.Dec.{ltb}
 use lib.ListN.{length}
-use lib.Seq.{slice}
 use borrow.Author.Tests.{eq-eqb, ne_eqb, lt-ltb, le-ltb, ltb-true}
+use Rattle.std.specs.Prelude.{Ok, Err, Some, None}
 use Rattle.answers.specs.Numbers as fault
 use Rattle.answers.specs.Tests.{pick, first}
 use Rattle.answers.specs.Refusals.{refusal}
 use Rattle.answers.proofs.Tests.{go, stop, must_true, must_false, must_passed, first_zero}
 use Rattle.volume.specs.declared.disk.Disk.{Disk}
-use Rattle.volume.specs.Disks.{Sized, image_bytes, in_range, chain_limit}
+use Rattle.volume.specs.Disks.{image_bytes, in_range, chain_limit}
 use Rattle.volume.specs.Blocks.{Holds, slots, word_of}
 use Rattle.volume.specs.Names.{longest, slot_of, same, name_length, name_of}
 use Rattle.volume.specs.Rules.{entry_fault}
@@ -24,11 +24,8 @@ use Rattle.volume.proofs.Sizes.{range_is}
 use Rattle.volume.proofs.Names.{name_short}
 use Rattle.volume.proofs.Passes.{entry_passed}
 use Rattle.volume.proofs.Breaks.{key_inside, entry_sound}
-use Rattle.lookup.specs.declared.chain.Step.{Step}
-use Rattle.lookup.specs.declared.chain.Step.TheVariants.{At, Ended, Fault}
-use Rattle.lookup.specs.Search.{position_key, position_fault, visit, search_from, search_of}
+use Rattle.lookup.specs.Search.{position_key, position_fault, visit, search_from, search_of, Step, hit}
 use Rattle.lookup.specs.Trails.{Tests}
-use Rattle.lookup.proofs.Splits.{whole}
 
 -- ---- the tests of a key: t is whether it is in range, l the chain limit
 
@@ -123,12 +120,12 @@ pub record Going (d : Disk) (s : List ℕ) (t : ℕ) (name : List ℕ) (p k : �
   pub rest : search_from d s t name (chain_limit d + 1 - p) p ≡ search_of d s t name
 
 -- i is the slot of the name, and k the key in it
-pub starts : (d : Disk) (s : List ℕ) (t : ℕ) (name : List ℕ) (i k : ℕ) → i ≡ slot_of d (slice 0 (0 + length name) name)
-    → k ≡ word_of s t (6 + i) → Going d s t name 0 k
+pub starts : (d : Disk) (s : List ℕ) (t : ℕ) (name : List ℕ) (i k : ℕ) → i ≡ slot_of d name → k ≡ word_of s t (6 + i)
+    → Going d s t name 0 k
 unfolding search_of chain_key
 starts d s t name i k e f =
     let n : chain_limit d + 1 - 0 ≡ chain_limit d + 1 = omega arith in
-    record { few = omega arith; key = f ∙ ap (λ j. word_of s t (6 + j)) (rw (whole name) at e); rest = rw n }
+    record { few = omega arith; key = f ∙ ap (λ j. word_of s t (6 + j)) e; rest = rw n }
 
 module _ (d : Disk) (s : List ℕ) (t : ℕ) (name : List ℕ) (p k : ℕ) (g : Going d s t name p k) where
   abbrev on : Step
@@ -141,19 +138,19 @@ module _ (d : Disk) (s : List ℕ) (t : ℕ) (name : List ℕ) (p k : ℕ) (g : 
       let n : chain_limit d + 1 - p ≡ suc (chain_limit d - p) = omega arith in
       rw g.key (rw n at g.rest)
 
-  pub ends : k ≡ 0 → Ended ≡ search_of d s t name
+  pub ends : k ≡ 0 → Ok None ≡ search_of d s t name
   unfolding pick
   ends z = rw (eq-eqb k 0 z) at step
 
   -- v is what the tests of k say
-  module _ (z : k ≡ 0 → ⊥) (i v : ℕ) (e : i ≡ slot_of d (slice 0 (0 + length name) name))
+  module _ (z : k ≡ 0 → ⊥) (i v : ℕ) (e : i ≡ slot_of d name)
       (f : v ≡ position_fault d s t i p k) where
     tested : visit d s name p k v on ≡ search_of d s t name
-    tested = rw (f, e, whole name) step
+    tested = rw (f, e) step
 
-    pub faulty : (r : Step) → (v ≡ 0 → ⊥) → r ≡ Fault (refusal v k) → r ≡ search_of d s t name
+    pub faulty : (v ≡ 0 → ⊥) → Err (refusal v k) ≡ search_of d s t name
     unfolding pick
-    faulty r q y = y ∙ (rw (ne_eqb k 0 z, ne_eqb v 0 q) at tested)
+    faulty q = rw (ne_eqb k 0 z, ne_eqb v 0 q) at tested
 
     module _ (q : v ≡ 0) where
       passing : Passing d s t i p k
@@ -165,9 +162,6 @@ module _ (d : Disk) (s : List ℕ) (t : ℕ) (name : List ℕ) (p k : ℕ) (g : 
       pub falls : chain_limit d - (p + 1) < chain_limit d - p
       falls = let h = passing.near in omega arith
 
-      pub fits : Sized d → p + 1 < 4294967296
-      fits h = let n = passing.near in omega arith
-
       pub held : length s ≡ image_bytes d → Holds s k
       held w = range_holds d s k true w (sym passing.ranged) refl
 
@@ -175,12 +169,12 @@ module _ (d : Disk) (s : List ℕ) (t : ℕ) (name : List ℕ) (p k : ℕ) (g : 
       named = name_short s k true (sym (entry_passed d s k t i passing.fine).entry.name) refl
 
       -- r is whether it has the name
-      module _ (r : Bool) (u : r ≡ same d (name_of s k) (slice 0 (0 + length name) name)) where
-        compared : pick r (At k (p + 1)) on ≡ search_of d s t name
+      module _ (r : Bool) (u : r ≡ same d (name_of s k) name) where
+        compared : pick r (Ok (Some (hit k (p + 1)))) on ≡ search_of d s t name
         unfolding pick
-        compared = rw (u, whole name) (rw (ne_eqb k 0 z, eq-eqb v 0 q) at tested)
+        compared = rw u (rw (ne_eqb k 0 z, eq-eqb v 0 q) at tested)
 
-        pub hits : r ≡ true → At k (p + 1) ≡ search_of d s t name
+        pub hits : r ≡ true → Ok (Some (hit k (p + 1))) ≡ search_of d s t name
         unfolding pick
         hits y = rw y at compared
 

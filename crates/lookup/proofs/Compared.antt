@@ -7,6 +7,7 @@ use mathlib.Core.List.{List, ◌∷◌}
 use native.Mathlib.Nat.{suc-mul}
 use native.Mathlib.Omega.{arith}
 use lib.ListN.{length, length-append}
+use Rattle.std.specs.Prelude.{Ok}
 use Rattle.volume.specs.declared.disk.Disk.{Disk}
 use Rattle.volume.specs.Disks.{chain_limit}
 use Rattle.lookup.specs.declared.find.Found.TheVariants.{Directory, File}
@@ -41,7 +42,7 @@ module _ (d : Disk) (s : List ℕ) where
         rw (g, suc-mul (length h.comes.front) (chain_limit d)) (omega (arith, a, b, h.count))
 
     -- All components together compare at most that many for each.
-    pub found_few : (k z n : ℕ) → (find_of d s path ≡ Directory k n) ⊎ (find_of d s path ≡ File k z n)
+    pub found_few : (k z n : ℕ) → (find_of d s path ≡ Ok (Directory k n)) ⊎ (find_of d s path ≡ Ok (File k z n))
         → n ≤ length (components path) * chain_limit d
     found_few k z n (inl e) = trail_few ((directory_exactly d s path k n).0 e).1
     found_few k z n (inr e) = file_few k z n ((file_exactly d s path k z n).0 e)

@@ -9,13 +9,12 @@ use native.Mathlib.Omega.{arith}
 use lib.Dec.{eqb, ltb}
 use lib.ListN.{length}
 use borrow.Author.Tests.{eq-eqb, ne_eqb, eqb-true, eqb-false, lt-ltb, le-ltb, ltb-true, ltb-false}
+use Rattle.std.specs.Prelude.{Result, Ok, Err}
 use Rattle.reach.specs.References.{◌∈◌}
 use Rattle.answers.specs.Numbers as fault
 use Rattle.answers.specs.Tests.{pick}
 use Rattle.answers.specs.Refusals.{refusal}
 use Rattle.answers.specs.declared.Refusal.{Refusal}
-use Rattle.answers.specs.declared.Tested.{Tested}
-use Rattle.answers.specs.declared.Tested.TheVariants.{Passed, Failed}
 use Rattle.answers.proofs.Clashes.{impossible}
 use Rattle.words.specs.Word.{word_at}
 use Rattle.volume.specs.declared.disk.Disk.{Disk}
@@ -23,7 +22,6 @@ use Rattle.volume.specs.Disks.{image_bytes, tag_of, root_of}
 use Rattle.volume.specs.Rules.{root_fault}
 use Rattle.volume.proofs.Breaks.{root_sound}
 use Rattle.lookup.specs.declared.find.Found.{Found}
-use Rattle.lookup.specs.declared.find.Found.TheVariants.{Refused}
 use Rattle.lookup.specs.Paths.{longest_path, components, is_component, components_fault, path_fault}
 use Rattle.lookup.specs.Lookup.{numbers_of, refuse, lookup_from, from_root, and, find_of, Finds}
 use Rattle.lookup.specs.Verdicts.{GoodForm, BadComponent, BadForm, long, component, Opened}
@@ -38,15 +36,15 @@ number_is e = ap (λ (r : Refusal). r.number) e
 pub place_is : {v w i j : ℕ} → refusal v i ≡ refusal w j → i ≡ j
 place_is e = ap (λ (r : Refusal). r.place) e
 
-bad_there : (n i v : ℕ) (cs : List (List ℕ)) → components_fault n cs ≡ Failed (refusal v i)
+bad_there : (n i v : ℕ) (cs : List (List ℕ)) → components_fault n cs ≡ Err (refusal v i)
     → (v ≡ 18) × BadComponent n i cs
 unfolding components_fault pick
 bad_there n i v [] e = impossible cc
 bad_there n i v (c ∷ cs) e = go (is_component c) refl e (bad_there (n + 1) i v cs)
   where
     go : (b : Bool) → is_component c ≡ b
-        → pick b (components_fault (n + 1) cs) (Failed (refusal fault.path_form n)) ≡ Failed (refusal v i)
-        → (components_fault (n + 1) cs ≡ Failed (refusal v i) → (v ≡ 18) × BadComponent (n + 1) i cs)
+        → pick b (components_fault (n + 1) cs) (Err (refusal fault.path_form n)) ≡ Err (refusal v i)
+        → (components_fault (n + 1) cs ≡ Err (refusal v i) → (v ≡ 18) × BadComponent (n + 1) i cs)
         → (v ≡ 18) × BadComponent n i (c ∷ cs)
     go true q e ih = ((ih e).0, further (ih e).1)
       where
@@ -83,19 +81,19 @@ bad_there n i v (c ∷ cs) e = go (is_component c) refl e (bad_there (n + 1) i v
 
 bad_found : (n i : ℕ) (front : List (List ℕ)) (name : List ℕ) (back : List (List ℕ))
     → ((c : List ℕ) → c ∈ front → is_component c ≡ true) → is_component name ≡ false → i ≡ n + length front
-    → components_fault n (front ++ (name ∷ back)) ≡ Failed (refusal fault.path_form i)
+    → components_fault n (front ++ (name ∷ back)) ≡ Err (refusal fault.path_form i)
 unfolding components_fault pick
 bad_found n i [] name back g b e = let x : n + 0 ≡ n = omega arith in rw (b, e, x)
 bad_found n i (c ∷ front) name back g b e =
     rw (g c (inl refl)) (bad_found (n + 1) i front name back (λ x h. g x (inr h)) b (omega (arith, e)))
 
 -- 18 is given exactly then, at that component
-pub form_exactly : (path : List ℕ) (v i : ℕ) → (path_fault path ≡ Failed (refusal v i)) ↔ ((v ≡ 18) × BadForm path i)
+pub form_exactly : (path : List ℕ) (v i : ℕ) → (path_fault path ≡ Err (refusal v i)) ↔ ((v ≡ 18) × BadForm path i)
 unfolding path_fault pick
 form_exactly path v i = (there (ltb longest_path (length path)) refl, λ h. back h.0 h.1)
   where
     there : (b : Bool) → ltb longest_path (length path) ≡ b
-        → pick b (Failed (refusal fault.path_form 0)) (components_fault 0 (components path)) ≡ Failed (refusal v i)
+        → pick b (Err (refusal fault.path_form 0)) (components_fault 0 (components path)) ≡ Err (refusal v i)
         → (v ≡ 18) × BadForm path i
     there true q e =
         let x : refusal fault.path_form 0 ≡ refusal v i = cc in
@@ -103,8 +101,8 @@ form_exactly path v i = (there (ltb longest_path (length path)) refl, λ h. back
     there false q e = let h = bad_there 0 i v (components path) e in (h.0, component (ltb-false _ _ q) h.1)
 
     back : v ≡ 18 → BadForm path i
-        → pick (ltb longest_path (length path)) (Failed (refusal fault.path_form 0))
-        (components_fault 0 (components path)) ≡ Failed
+        → pick (ltb longest_path (length path)) (Err (refusal fault.path_form 0))
+        (components_fault 0 (components path)) ≡ Err
         (refusal v i)
     back x (long l e) = rw (lt-ltb _ _ l, x, e)
     back x (component l w) =
@@ -112,28 +110,28 @@ form_exactly path v i = (there (ltb longest_path (length path)) refl, λ h. back
         (ap (components_fault 0) w.parts ∙ bad_found 0 i w.front w.name w.back w.good w.bad
         w.number)
 
-good_passed : (n : ℕ) (cs : List (List ℕ)) → components_fault n cs ≡ Passed → (c : List ℕ) → c ∈ cs
+good_passed : (n : ℕ) (cs : List (List ℕ)) → components_fault n cs ≡ Ok tt → (c : List ℕ) → c ∈ cs
     → is_component c ≡ true
 unfolding components_fault pick
 good_passed n [] e c m = absurd m
 good_passed n (b ∷ cs) e c m = go (is_component b) refl e m (good_passed (n + 1) cs)
   where
     go : (t : Bool) → is_component b ≡ t
-        → pick t (components_fault (n + 1) cs) (Failed (refusal fault.path_form n)) ≡ Passed
-        → c ∈ (b ∷ cs) → (components_fault (n + 1) cs ≡ Passed → (c : List ℕ) → c ∈ cs → is_component c ≡ true)
+        → pick t (components_fault (n + 1) cs) (Err (refusal fault.path_form n)) ≡ Ok tt
+        → c ∈ (b ∷ cs) → (components_fault (n + 1) cs ≡ Ok tt → (c : List ℕ) → c ∈ cs → is_component c ≡ true)
         → is_component c ≡ true
     go true q e (inl y) ih = rw y q
     go true q e (inr y) ih = ih e c y
     go false q e m ih = impossible cc
 
 good_passes : (n : ℕ) (cs : List (List ℕ)) → ((c : List ℕ) → c ∈ cs → is_component c ≡ true)
-    → components_fault n cs ≡ Passed
+    → components_fault n cs ≡ Ok tt
 unfolding components_fault pick
 good_passes n [] h = refl
 good_passes n (c ∷ cs) h = rw (h c (inl refl)) (good_passes (n + 1) cs (λ x m. h x (inr m)))
 
 -- and the form passes if and only if it is good
-pub form_good : (path : List ℕ) → (path_fault path ≡ Passed) ↔ GoodForm path
+pub form_good : (path : List ℕ) → (path_fault path ≡ Ok tt) ↔ GoodForm path
 unfolding path_fault pick
 form_good path = (
   there (ltb longest_path (length path)) refl,
@@ -142,24 +140,24 @@ form_good path = (
 )
   where
     there : (b : Bool) → ltb longest_path (length path) ≡ b
-        → pick b (Failed (refusal fault.path_form 0)) (components_fault 0 (components path)) ≡ Passed → GoodForm path
+        → pick b (Err (refusal fault.path_form 0)) (components_fault 0 (components path)) ≡ Ok tt → GoodForm path
     there true q e = impossible cc
     there false q e = record { short = ltb-false _ _ q; good = good_passed 0 (components path) e }
 
 -- ---- the whole call
 
 -- what the answer r says
-pub data Why (d : Disk) (s path : List ℕ) (r : Found) : Type 0 where
+pub data Why (d : Disk) (s path : List ℕ) (r : Result Found Refusal) : Type 0 where
   image : length s ≢ image_bytes d → r ≡ refuse fault.image_length 0 → Why d s path r
-  form : length s ≡ image_bytes d → (f : Refusal) → path_fault path ≡ Failed f → r ≡ Refused f → Why d s path r
-  tag : length s ≡ image_bytes d → path_fault path ≡ Passed → word_at s 0 ≢ tag_of d → r ≡ refuse fault.boot_tag 0
+  form : length s ≡ image_bytes d → (f : Refusal) → path_fault path ≡ Err f → r ≡ Err f → Why d s path r
+  tag : length s ≡ image_bytes d → path_fault path ≡ Ok tt → word_at s 0 ≢ tag_of d → r ≡ refuse fault.boot_tag 0
       → Why d s path r
-  root : length s ≡ image_bytes d → path_fault path ≡ Passed → word_at s 0 ≡ tag_of d → root_fault d s ≢ 0
+  root : length s ≡ image_bytes d → path_fault path ≡ Ok tt → word_at s 0 ≡ tag_of d → root_fault d s ≢ 0
       → r ≡ refuse (root_fault d s) (root_of d) → Why d s path r
   leads_to_lem : Opened d s path → Leads d s (root_of d) 0 0 (components path) r → Why d s path r
 
 module _ (d : Disk) (s path : List ℕ) where
-  abbrev looked : Found
+  abbrev looked : Result Found Refusal
   looked = lookup_from d s (root_of d) 0 0 (components path)
 
   opened : Opened d s path → find_of d s path ≡ looked
@@ -179,16 +177,17 @@ module _ (d : Disk) (s path : List ℕ) where
       go (eqb (length s) (image_bytes d)) refl (path_fault path) refl (eqb (word_at s 0) (tag_of d)) refl
       (eqb (root_fault d s) 0) refl
     where
-      go : (a : Bool) → eqb (length s) (image_bytes d) ≡ a → (f : Tested) → path_fault path ≡ f → (b : Bool)
+      go : (a : Bool) → eqb (length s) (image_bytes d) ≡ a → (f : Result Unit Refusal) → path_fault path ≡ f
+          → (b : Bool)
           → eqb (word_at s 0) (tag_of d) ≡ b → (c : Bool) → eqb (root_fault d s) 0 ≡ c
           → Why d s path (pick a (and f
           (pick b (pick c looked (refuse (root_fault d s) (root_of d))) (refuse fault.boot_tag 0)))
           (refuse fault.image_length 0))
       go false p f q b u c v = image (eqb-false _ _ p) refl
-      go true p (Failed f) q b u c v = form (eqb-true _ _ p) f q refl
-      go true p Passed q false u c v = tag (eqb-true _ _ p) q (eqb-false _ _ u) refl
-      go true p Passed q true u false v = root (eqb-true _ _ p) q (eqb-true _ _ u) (eqb-false _ _ v) refl
-      go true p Passed q true u true v =
+      go true p (Err f) q b u c v = form (eqb-true _ _ p) f q refl
+      go true p (Ok _) q false u c v = tag (eqb-true _ _ p) q (eqb-false _ _ u) refl
+      go true p (Ok _) q true u false v = root (eqb-true _ _ p) q (eqb-true _ _ u) (eqb-false _ _ v) refl
+      go true p (Ok _) q true u true v =
           leads_to_lem (record {
             long = eqb-true _ _ p;
             form = (form_good path).0 q;
@@ -197,7 +196,7 @@ module _ (d : Disk) (s path : List ℕ) where
           }) (leads d s (root_of d) 0 0 (components path))
 
   -- and no answer but the call's own has any
-  pub why_find : (r : Found) → Why d s path r → r ≡ find_of d s path
+  pub why_find : (r : Result Found Refusal) → Why d s path r → r ≡ find_of d s path
   unfolding find_of from_root pick
   why_find r (image h q) = q ∙ (rw (ne_eqb _ _ h))
   why_find r (form h f p q) = q ∙ (rw (eq-eqb _ _ h, p))
@@ -207,6 +206,6 @@ module _ (d : Disk) (s path : List ℕ) where
 
 -- ---- outcomes are determined
 
-pub find_determined : (d : Disk) (s path : List ℕ) (r r' : Found) → Finds d s path r → Finds d s path r'
+pub find_determined : (d : Disk) (s path : List ℕ) (r r' : Result Found Refusal) → Finds d s path r → Finds d s path r'
     → (numbers_of r ≡ numbers_of r') × (r ≡ r')
 find_determined d s path r r' a b = (a.numbers ∙ sym b.numbers, a.answer ∙ sym b.answer)

@@ -6,6 +6,7 @@ use mathlib.Core.Logic.{◌≢◌, ◌⊎◌, inl, inr}
 use mathlib.Core.Bool.{true}
 use mathlib.Core.List.{List}
 use native.Mathlib.Omega.{arith}
+use Rattle.std.specs.Prelude.{Ok}
 use Rattle.reach.specs.References.{Reached, top}
 use Rattle.volume.specs.declared.disk.Disk.{Disk}
 use Rattle.volume.specs.Disks.{root_of, chain_limit}
@@ -115,12 +116,12 @@ module _ (d : Disk) (s : List ℕ) (v : Tree d s) where
       go (number_20 h a) = inr (inr a)
 
   -- A directory found in a tree is the root or a reached one.
-  pub found_directory : (path : List ℕ) (k n : ℕ) → find_of d s path ≡ Directory k n
+  pub found_directory : (path : List ℕ) (k n : ℕ) → find_of d s path ≡ Ok (Directory k n)
       → (k ≡ root_of d) ⊎ (Reached (references d s) (to Kind.entry k) × (directory s k ≡ true))
   found_directory path k n e = trail_holder ((directory_exactly d s path k n).0 e).1 (inl refl)
 
   -- A file found in a tree is a reached entry.
-  pub found_file : (path : List ℕ) (k z n : ℕ) → find_of d s path ≡ File k z n
+  pub found_file : (path : List ℕ) (k z n : ℕ) → find_of d s path ≡ Ok (File k z n)
       → Reached (references d s) (to Kind.entry k)
   found_file path k z n e =
       let h = (file_exactly d s path k z n).0 e in

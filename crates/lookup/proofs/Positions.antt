@@ -1,7 +1,7 @@
 -- What a search says, position by position: the first position that is not an entry with another name decides.
 -- Assumes nothing.
 use Prim.Native.Nat.{ℕ, zero, suc, ◌+◌, ◌≤◌, ◌<◌}
-use mathlib.Core.Path.{◌≡◌, refl, sym, ◌∙◌}
+use mathlib.Core.Path.{◌≡◌, refl, sym, ap, ◌∙◌}
 use mathlib.Core.Logic.{◌≢◌, ◌↔◌}
 use mathlib.Core.Bool.{Bool, true, false}
 use mathlib.Core.List.{List}
@@ -9,6 +9,7 @@ use native.Mathlib.Omega.{arith}
 use native.Mathlib.Decide.{dec_lt}
 use lib.Dec.{eqb}
 use borrow.Author.Tests.{eq-eqb, ne_eqb, eqb-true, eqb-false}
+use Rattle.std.specs.Prelude.{Ok, Err, Some, None}
 use Rattle.answers.specs.Tests.{pick}
 use Rattle.answers.specs.Refusals.{refusal}
 use Rattle.answers.proofs.Clashes.{impossible}
@@ -16,18 +17,18 @@ use Rattle.volume.specs.declared.disk.Disk.{Disk}
 use Rattle.volume.specs.Disks.{chain_limit}
 use Rattle.volume.specs.Names.{same, name_of}
 use Rattle.volume.proofs.Names.{same_map, map_same}
-use Rattle.lookup.specs.declared.chain.Step.{Step}
-use Rattle.lookup.specs.declared.chain.Step.TheVariants.{At, Ended, Fault}
-use Rattle.lookup.specs.Search.{position_key, visit, search_from, search_of}
+use Rattle.lookup.specs.Search.{position_key, visit, search_from, search_of, Step, hit}
+use Rattle.lookup.specs.declared.chain.Hit.{Hit}
 use Rattle.lookup.specs.Trails.{Tests, Equal, Others, First, Over}
 use Rattle.lookup.proofs.Chains.{fault_at, tests_pass, pass_tests}
 
 -- position p ends the search: it has the name, or none, or an entry that fails its tests
 pub data Decides (d : Disk) (s : List ℕ) (t : ℕ) (name : List ℕ) (p : ℕ) (r : Step) : Type 0 where
-  equal : Tests d s t name p → Equal d s t name p → r ≡ At (position_key d s t name p) (p + 1) → Decides d s t name p r
-  over : position_key d s t name p ≡ 0 → r ≡ Ended → Decides d s t name p r
+  equal : Tests d s t name p → Equal d s t name p → r ≡ Ok (Some (hit (position_key d s t name p) (p + 1)))
+      → Decides d s t name p r
+  over : position_key d s t name p ≡ 0 → r ≡ Ok None → Decides d s t name p r
   fails : position_key d s t name p ≢ 0 → fault_at d s t name p ≢ 0
-      → r ≡ Fault (refusal (fault_at d s t name p) (position_key d s t name p)) → Decides d s t name p r
+      → r ≡ Err (refusal (fault_at d s t name p) (position_key d s t name p)) → Decides d s t name p r
 
 -- the search from position f on
 pub record Searched (d : Disk) (s : List ℕ) (t : ℕ) (name : List ℕ) (f : ℕ) (r : Step) : Type 0 where
@@ -72,9 +73,9 @@ module _ (d : Disk) (s : List ℕ) (t : ℕ) (name : List ℕ) where
           → same d (name_of s (key f)) name ≡ c
           → (f + 1 + n ≡ chain_limit d + 1 → f + 1 ≤ chain_limit d
           → Searched d s t name (f + 1) (search_from d s t name n (f + 1)))
-          → Searched d s t name f (pick a Ended
-          (pick b (pick c (At (key f) (f + 1)) (search_from d s t name n (f + 1)))
-          (Fault (refusal (fault_at d s t name f) (key f)))))
+          → Searched d s t name f (pick a (Ok None)
+          (pick b (pick c (Ok (Some (hit (key f) (f + 1)))) (search_from d s t name n (f + 1)))
+          (Err (refusal (fault_at d s t name f) (key f)))))
       go true p b q c u ih =
           record { position = f; from = omega arith; others = none; decides = over (eqb-true _ _ p) refl }
       go false p false q c u ih =
@@ -166,9 +167,9 @@ pub record Fails (d : Disk) (s : List ℕ) (t : ℕ) (name : List ℕ) (p : ℕ)
 module _ (d : Disk) (s : List ℕ) (t : ℕ) (name : List ℕ) where
   -- one of the three holds
   pub data Outcome (r : Step) : Type 0 where
-    at : (p : ℕ) → First d s t name p → r ≡ At (position_key d s t name p) (p + 1) → Outcome r
-    ended : (p : ℕ) → Over d s t name p → r ≡ Ended → Outcome r
-    faulty : (p : ℕ) → Fails d s t name p → r ≡ Fault (refusal (fault_at d s t name p) (position_key d s t name p))
+    at : (p : ℕ) → First d s t name p → r ≡ Ok (Some (hit (position_key d s t name p) (p + 1))) → Outcome r
+    ended : (p : ℕ) → Over d s t name p → r ≡ Ok None → Outcome r
+    faulty : (p : ℕ) → Fails d s t name p → r ≡ Err (refusal (fault_at d s t name p) (position_key d s t name p))
         → Outcome r
 
   pub outcome : Outcome (search_of d s t name)
@@ -181,7 +182,7 @@ module _ (d : Disk) (s : List ℕ) (t : ℕ) (name : List ℕ) where
       go p o (fails a b q) = faulty p (record { some = a; fault = b; others = o }) q
 
   module _ (p : ℕ) where
-    pub search_first : First d s t name p → search_of d s t name ≡ At (position_key d s t name p) (p + 1)
+    pub search_first : First d s t name p → search_of d s t name ≡ Ok (Some (hit (position_key d s t name p) (p + 1)))
     search_first h =
         sym (searched_only d s t name _
         (record {
@@ -191,13 +192,13 @@ module _ (d : Disk) (s : List ℕ) (t : ℕ) (name : List ℕ) where
           decides = equal h.tests h.named refl;
         }))
 
-    pub search_over : Over d s t name p → search_of d s t name ≡ Ended
+    pub search_over : Over d s t name p → search_of d s t name ≡ Ok None
     search_over h =
         sym (searched_only d s t name _
         (record { position = p; from = omega arith; others = h.others; decides = over h.ended refl }))
 
     pub search_fails : Fails d s t name p
-        → search_of d s t name ≡ Fault (refusal (fault_at d s t name p) (position_key d s t name p))
+        → search_of d s t name ≡ Err (refusal (fault_at d s t name p) (position_key d s t name p))
     search_fails h =
         sym (searched_only d s t name _
         (record {
@@ -210,17 +211,20 @@ module _ (d : Disk) (s : List ℕ) (t : ℕ) (name : List ℕ) where
   -- what is found is the entry at the first position p of the chain that has the component's folded name, and p + 1
   -- entries were compared
   pub first_equal_name : (k m : ℕ)
-      → (search_of d s t name ≡ At k m) ↔ ((p : ℕ) × First d s t name p × (k ≡ position_key d s t name p) × (m ≡ p + 1))
+      → (search_of d s t name ≡ Ok (Some (hit k m)))
+      ↔ ((p : ℕ) × First d s t name p × (k ≡ position_key d s t name p) × (m ≡ p + 1))
   first_equal_name k m = (go outcome, λ h. search_first h.0 h.1 ∙ (rw (h.2, h.3)))
     where
-      go : Outcome (search_of d s t name) → search_of d s t name ≡ At k m
+      go : Outcome (search_of d s t name) → search_of d s t name ≡ Ok (Some (hit k m))
           → (p : ℕ) × First d s t name p × (k ≡ position_key d s t name p) × (m ≡ p + 1)
-      go (at p h q) e = (p, h, (cc), (cc))
+      go (at p h q) e =
+          let x : hit k m ≡ hit (position_key d s t name p) (p + 1) = cc in
+          (p, h, ap (λ (h : Hit). h.key) x, ap (λ (h : Hit). h.compared) x)
       go (ended p h q) e = impossible cc
       go (faulty p h q) e = impossible cc
 
   -- a component compares no more entries than a chain may have
-  pub compared_most : (k m : ℕ) → search_of d s t name ≡ At k m → m ≤ chain_limit d
+  pub compared_most : (k m : ℕ) → search_of d s t name ≡ Ok (Some (hit k m)) → m ≤ chain_limit d
   compared_most k m e =
       let h = (first_equal_name k m).0 e in
       let n = h.1.tests.near in

@@ -8,10 +8,10 @@ use native.Mathlib.Omega.{arith}
 use lib.Dec.{ltb}
 use lib.ListN.{length}
 use borrow.Author.Tests.{lt-ltb, le-ltb, ltb-true, ltb-false}
+use Rattle.std.specs.Prelude.{Ok, Err}
 use Rattle.answers.specs.Numbers as fault
 use Rattle.answers.specs.Tests.{must, first}
 use Rattle.answers.specs.Refusals.{refusal}
-use Rattle.answers.specs.declared.Tested.TheVariants.{Failed}
 use Rattle.answers.proofs.Clashes.{impossible}
 use Rattle.answers.proofs.Members.{unlisted}
 use Rattle.words.specs.Word.{word_at}
@@ -81,7 +81,7 @@ module _ (d : Disk) (s path : List ℕ) where
     refused_why (image h q) e = let x = same 1 0 q e in number_1 h x.0 x.1
     refused_why (form h f p q) e =
         let x : f ≡ refusal v k = cc in
-        let y = (form_exactly path v k).0 (p ∙ ap Failed x) in number_18 h y.1 y.0
+        let y = (form_exactly path v k).0 (p ∙ ap Err x) in number_18 h y.1 y.0
     refused_why (tag h p u q) e = let x = same 3 0 q e in number_3 h ((form_good path).0 p) u x.0 x.1
     refused_why (root h p u z q) e =
         let x = same (root_fault d s) (root_of d) q e in
@@ -240,13 +240,13 @@ module _ (d : Disk) (s path : List ℕ) where
 
   -- A directory is found if and only if every component leads to one.
   pub directory_exactly : (k n : ℕ)
-      → (find_of d s path ≡ Directory k n) ↔ (Opened d s path × Trail d s (root_of d) (components path) k n)
+      → (find_of d s path ≡ Ok (Directory k n)) ↔ (Opened d s path × Trail d s (root_of d) (components path) k n)
   directory_exactly k n = (
     (λ e. go (find_why d s path) e),
-    (λ h. sym (why_find d s path (Directory k n) (leads_to_lem h.0 (holds k n h.1 (rw (zero_plus n)))))),
+    (λ h. sym (why_find d s path (Ok (Directory k n)) (leads_to_lem h.0 (holds k n h.1 (rw (zero_plus n)))))),
   )
     where
-      go : Why d s path (find_of d s path) → find_of d s path ≡ Directory k n
+      go : Why d s path (find_of d s path) → find_of d s path ≡ Ok (Directory k n)
           → Opened d s path × Trail d s (root_of d) (components path) k n
       go (image h q) e = impossible cc
       go (form h f p q) e = impossible cc
@@ -263,15 +263,15 @@ module _ (d : Disk) (s path : List ℕ) where
       go (leads_to_lem o (failing w p f q)) e = impossible cc
 
   -- A file is found if and only if it is what the last component leads to.
-  pub file_exactly : (k z n : ℕ) → (find_of d s path ≡ File k z n) ↔ IsFile d s path k z n
+  pub file_exactly : (k z n : ℕ) → (find_of d s path ≡ Ok (File k z n)) ↔ IsFile d s path k z n
   file_exactly k z n = (
     (λ e. go (find_why d s path) e),
-    (λ h. sym (why_find d s path (File k z n)
+    (λ h. sym (why_find d s path (Ok (File k z n))
         (leads_to_lem h.opened (file h.comes h.position h.found h.kind h.last
         (rw (h.count, h.size, h.key, zero_plus n)))))),
   )
     where
-      go : Why d s path (find_of d s path) → find_of d s path ≡ File k z n → IsFile d s path k z n
+      go : Why d s path (find_of d s path) → find_of d s path ≡ Ok (File k z n) → IsFile d s path k z n
       go (image h q) e = impossible cc
       go (form h f p q) e = impossible cc
       go (tag h p u q) e = impossible cc

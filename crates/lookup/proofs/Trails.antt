@@ -5,6 +5,8 @@ use mathlib.Core.Bool.{Bool, true, false}
 use mathlib.Core.List.{List, [], ◌∷◌, ◌++◌, append-nil}
 use native.Mathlib.Omega.{arith}
 use lib.ListN.{length}
+use Rattle.answers.specs.declared.Refusal.{Refusal}
+use Rattle.std.specs.Prelude.{Result, Ok}
 use Rattle.answers.specs.Numbers as fault
 use Rattle.answers.specs.Tests.{pick}
 use Rattle.answers.proofs.Clashes.{impossible}
@@ -22,14 +24,14 @@ use Rattle.lookup.proofs.Positions.{search_fails}
 
 -- what decides a lookup of the components cs from directory t on, the first of which is number i, n entries compared
 -- before
-pub data Leads (d : Disk) (s : List ℕ) (t i n : ℕ) (cs : List (List ℕ)) (r : Found) : Type 0 where
+pub data Leads (d : Disk) (s : List ℕ) (t i n : ℕ) (cs : List (List ℕ)) (r : Result Found Refusal) : Type 0 where
   -- all lead to directories
-  holds : (k m : ℕ) → Trail d s t cs k m → r ≡ Directory k (n + m) → Leads d s t i n cs r
+  holds : (k m : ℕ) → Trail d s t cs k m → r ≡ Ok (Directory k (n + m)) → Leads d s t i n cs r
   -- the last leads to a file
   file : (w : Comes d s t cs) (p : ℕ) → First d s w.parent w.name p
       → directory s (position_key d s w.parent w.name p) ≡ false → w.back ≡ []
-      → r ≡ File (position_key d s w.parent w.name p) (size_of s (position_key d s w.parent w.name p))
-      (n + (w.compared + (p + 1)))
+      → r ≡ Ok (File (position_key d s w.parent w.name p) (size_of s (position_key d s w.parent w.name p))
+      (n + (w.compared + (p + 1))))
       → Leads d s t i n cs r
   -- one before the last does
   used : (w : Comes d s t cs) (p : ℕ) → First d s w.parent w.name p
@@ -85,7 +87,7 @@ module _ (d : Disk) (s : List ℕ) where
             trail = down p f e w.trail;
           }
 
-      deeper : (i n : ℕ) (r : Found) → Leads d s (position_key d s t c p) (i + 1) (n + (p + 1)) cs r
+      deeper : (i n : ℕ) (r : Result Found Refusal) → Leads d s (position_key d s t c p) (i + 1) (n + (p + 1)) cs r
           → Leads d s t i n (c ∷ cs) r
       deeper i n r (holds k m h q) =
           let x : n + (p + 1) + m ≡ n + (p + 1 + m) = omega arith in holds k (p + 1 + m) (down p f e h) (rw x at q)
@@ -137,7 +139,8 @@ module _ (d : Disk) (s : List ℕ) where
 
   -- ---- and what decides it determines it
 
-  pub leads_only : (t i n : ℕ) (cs : List (List ℕ)) (r : Found) → Leads d s t i n cs r → r ≡ lookup_from d s t i n cs
+  pub leads_only : (t i n : ℕ) (cs : List (List ℕ)) (r : Result Found Refusal) → Leads d s t i n cs r
+      → r ≡ lookup_from d s t i n cs
   unfolding lookup_from pick
   leads_only t i n cs r h = go h
     where

@@ -1,9 +1,13 @@
 -- What the parts of the code ask and promise. Nothing that a call answers is said here.
 use Rattle.std.specs.Prelude.{ℕ, ◌*◌, ◌+◌, ◌<◌, ◌≤◌, ◌≡◌, List, get_or, length}
+use Rattle.answers.specs.Tests.{pick}
 use Rattle.lookup.specs.Paths.{longest_path, slash}
+use Rattle.lookup.specs.declared.find.Found.{Found}
+use Rattle.lookup.specs.declared.find.Found.TheVariants.{Directory, File}
 use Rattle.volume.specs.declared.disk.Disk.{Disk}
 use Rattle.volume.specs.Disks.{Sized, image_bytes, most_blocks}
-use Rattle.volume.specs.Blocks.{Holds}
+use Rattle.volume.specs.Blocks.{Holds, directory}
+use Rattle.volume.specs.Files.{size_of}
 
 -- k is the position of the first '/', or the path's end
 pub record FirstSlash (path : List ℕ) (k : ℕ) : Type 0 where
@@ -25,3 +29,7 @@ pub record Looks (d : Disk) (s path : List ℕ) (t i n : ℕ) : Type 0 where
   pub holds : Holds s t
   pub short : i + length path ≤ longest_path
   pub counted : n ≤ i * most_blocks
+
+-- what the last component's entry k is, n entries compared
+abbrev pub found_at : List ℕ → ℕ → ℕ → Found
+found_at s k n = pick (directory s k) (Directory k n) (File k (size_of s k) n)

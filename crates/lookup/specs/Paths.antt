@@ -1,11 +1,10 @@
 -- A path is components split by '/'. It has at most 255 bytes, and each component is 1 to 30 bytes without ':'; the
 -- empty path has no component (docs/FORMAT.md, "Paths and reads"; refusal 18).
-use Rattle.std.specs.Prelude.{ℕ, ◌+◌, Bool, false, List, [], ◌∷◌, ◌++◌, leb, ltb, eqb, length}
+use Rattle.answers.specs.declared.Refusal.{Refusal}
+use Rattle.std.specs.Prelude.{ℕ, ◌+◌, Bool, false, List, [], ◌∷◌, ◌++◌, leb, ltb, eqb, length, Result, Ok, Err}
 use Rattle.answers.specs.Numbers as fault
 use Rattle.answers.specs.Tests.{pick}
 use Rattle.answers.specs.Refusals.{refusal}
-use Rattle.answers.specs.declared.Tested.{Tested}
-use Rattle.answers.specs.declared.Tested.TheVariants.{Passed, Failed}
 use Rattle.volume.specs.Names.{longest, allowed}
 
 abbrev pub longest_path : ℕ
@@ -40,10 +39,10 @@ unfoldable pub is_component : List ℕ → Bool
 is_component c = pick (leb 1 (length c)) (pick (leb (length c) longest) (allowed c) false) false
 
 -- the first that may not, counted on from i
-unfoldable pub components_fault : ℕ → List (List ℕ) → Tested
-components_fault i [] = Passed
-components_fault i (c ∷ cs) = pick (is_component c) (components_fault (i + 1) cs) (Failed (refusal fault.path_form i))
+unfoldable pub components_fault : ℕ → List (List ℕ) → Result Unit Refusal
+components_fault i [] = Ok tt
+components_fault i (c ∷ cs) = pick (is_component c) (components_fault (i + 1) cs) (Err (refusal fault.path_form i))
 
-unfoldable pub path_fault : List ℕ → Tested
+unfoldable pub path_fault : List ℕ → Result Unit Refusal
 path_fault path =
-    pick (ltb longest_path (length path)) (Failed (refusal fault.path_form 0)) (components_fault 0 (components path))
+    pick (ltb longest_path (length path)) (Err (refusal fault.path_form 0)) (components_fault 0 (components path))

@@ -1,7 +1,7 @@
 // One component: its name is looked for on the chain of its slot.
 ghost use Rattle.std.specs.Prelude.{◌≡◌, length};
+ghost use Rattle.answers.specs.Refusals.{told};
 ghost use Rattle.volume.specs.Disks.{Sized, image_bytes};
-ghost use Rattle.answers.specs.Refusals.{refusal};
 ghost use Rattle.lookup.specs.Search.{position_fault, search_of};
 ghost use Rattle.lookup.specs.Parts.{Searches};
 
@@ -10,16 +10,12 @@ use volume::block::{Block, word_of};
 use volume::disk::Disk;
 use volume::entry::entry_fault;
 use volume::name::{has_name, slot};
-use volume::sums::UNKNOWN;
 
-// What a search of one chain comes to.
-#[derive(Drop)]
-pub enum Step {
-    // The key of the first entry with the name, and how many entries were compared.
-    At(u32, u32),
-    // The chain has ended.
-    Ended,
-    Fault(Refusal),
+// The first entry with a name: its key, and how many entries were compared.
+#[derive(Clone, Copy, Debug, PartialEq, Eq)]
+pub struct Hit {
+    pub key: u32,
+    pub compared: u32,
 }
 
 // The tests of the entry that is next on a chain: key range, chain limit, and its own.
@@ -30,46 +26,41 @@ fn position_fault(
     slot: u32,
     compared: u32,
     key: u32,
-) -> u32
+) -> Result<(), Fault>
     requires { Sized disk × (length image.now ≡ image_bytes disk) }
-    ensures { result ≡ position_fault disk image.now directory slot compared key }
+    ensures { told result ≡ position_fault disk image.now directory slot compared key }
 {
-    if disk.in_range(key) {
-        if compared < disk.chain_limit() {
-            return entry_fault(disk, image, UNKNOWN, key, directory, slot);
-        }
-        return Fault::CLAIMED_TWICE;
+    if !disk.in_range(key) {
+        return Err(Fault::BadKey);
     }
-    Fault::BAD_KEY
+    if disk.chain_limit() <= compared {
+        return Err(Fault::ClaimedTwice);
+    }
+    entry_fault(disk, image, None, key, directory, slot)
 }
 
-fn refused_at(number: u32, key: u32) -> Step
-    ensures { result ≡ Step.Fault (refusal number key) }
-{
-    Step::Fault(Refusal {
-        number: number,
-        place: key as usize,
-    })
-}
-
-// The first entry of a directory with this name.
-pub(crate) fn search(disk: Disk, image: &[u8], directory: u32, name: &[u8]) -> Step
+// The first entry of a directory with this name; none if its chain ends before.
+pub(crate) fn search(
+    disk: Disk,
+    image: &[u8],
+    directory: u32,
+    name: &[u8],
+) -> Result<Option<Hit>, Refusal>
     requires { Searches disk image.now directory name.now }
     ensures { result ≡ search_of disk image.now directory name.now }
 {
-    let slot = slot(disk, name, 0, name.len());
+    let slot = slot(disk, name);
     let mut key = word_of(image, directory, Block::FIRST_SLOT + slot as usize);
     let mut compared: u32 = 0;
     while key != 0 {
-        let fault = position_fault(disk, image, directory, slot, compared, key);
-        if fault != 0 {
-            return refused_at(fault, key);
+        if let Err(fault) = position_fault(disk, image, directory, slot, compared, key) {
+            return Err(fault.at(key as usize));
         }
         compared += 1;
-        if has_name(disk, image, key, name, 0, name.len()) {
-            return Step::At(key, compared);
+        if has_name(disk, image, key, name) {
+            return Ok(Some(Hit { key, compared }));
         }
         key = word_of(image, key, Block::NEXT);
     }
-    Step::Ended
+    Ok(None)
 }

@@ -29,24 +29,7 @@ module _ (s : List ℕ) where
   unfolding lister_at
   way_goes h b i b' e f = rw (add-one i, ← e) f
 
-  pub way_holds : (h n b i : ℕ) → WayHeld s h n → i < n / slots → b ≡ lister_at s h i → Holds s b
-  way_holds h n b i w l e = rw e (w.each i l)
-
-  pub way_ends : (h n b i : ℕ) → i ≤ n / slots → n / slots ≤ i → b ≡ lister_at s h i
-      → IsListed s h n (record { block = b; index = n % slots })
-  way_ends h n b i l g e =
-      let z : i ≡ n / slots = omega arith in record { block = e ∙ ap (lister_at s h) z; index = refl }
-
   -- ---- the step to the next key: in the same block, or in the next
-
-  pub step_here : (a : Listed) → a.index + 1 < slots → Steps s a (record { block = a.block; index = a.index + 1 })
-  step_here a l =
-      record {
-        next = λ h n v.
-            let e = v.index in
-            let z : n / slots ≡ suc n / slots = omega arith in
-            record { block = v.block ∙ ap (lister_at s h) z; index = omega arith };
-      }
 
   pub step_over : (a : Listed) (b : ℕ) → a.index < slots → slots ≤ a.index + 1 → b ≡ word_of s a.block 126
       → Steps s a (record { block = b; index = 0 })

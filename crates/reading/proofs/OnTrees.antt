@@ -1,6 +1,8 @@
 -- In a tree the blocks of every reached file are reached, so that they pass (`tree_file_passes`); a read gives the
 -- file's bytes, or 18, 19 or 20 (`tree_reads`, `tree_read_whole`, `reached_read`, `tree_read_answers`). Assumes
 -- nothing.
+use Rattle.answers.specs.declared.Refusal.{Refusal}
+use Rattle.std.specs.Prelude.{Result, Ok}
 use Prim.Native.Nat.{ℕ, zero, suc, ◌+◌, ◌-◌, ◌≤◌, min}
 use mathlib.Core.Path.{◌≡◌, refl, sym, ap, ◌∙◌}
 use mathlib.Core.Logic.{◌≢◌, ◌⊎◌, inl, inr}
@@ -11,7 +13,6 @@ use lib.ListN.{length, drop}
 use lib.Seq.{take_all}
 use Rattle.answers.specs.Numbers as fault
 use Rattle.answers.specs.Tests.{pick}
-use Rattle.answers.specs.declared.Tested.TheVariants.{Passed}
 use Rattle.answers.proofs.Clashes.{impossible}
 use Rattle.reach.specs.References.{◌∈◌, Reached, ref}
 use Rattle.reach.proofs.Lists.{in_left, in_right, in_either, in_at, in_map}
@@ -31,8 +32,6 @@ use Rattle.lookup.proofs.Refusing.{file_exactly}
 use Rattle.lookup.proofs.OnTrees.{tree_answers, found_file}
 use Rattle.lookup.specs.Trails.{Lies, path_of}
 use Rattle.lookup.proofs.Bridge.{reached_found}
-use Rattle.reading.specs.declared.read.Reading.{Reading}
-use Rattle.reading.specs.declared.read.Reading.TheVariants.{Bytes}
 use Rattle.reading.specs.FileTests.{blocks_fault}
 use Rattle.reading.specs.Bytes.{file_bytes, part, filled_by}
 use Rattle.reading.specs.Reads.{refuse, read_of, Reads}
@@ -150,18 +149,18 @@ module _ (d : Disk) (s : List ℕ) (v : Tree d s) where
       }
 
   pub tree_file_passes : (k : ℕ) → Reached (references d s) (to Kind.entry k) → directory s k ≡ false
-      → blocks_fault d s k ≡ Passed
+      → blocks_fault d s k ≡ Ok tt
   tree_file_passes k r e = passes_tested d s k (tree_file_whole k r e)
 
   module _ (path : List ℕ) where
-    module _ (k z c : ℕ) (e : find_of d s path ≡ found.File k z c) where
-      pub found_passes : blocks_fault d s k ≡ Passed
+    module _ (k z c : ℕ) (e : find_of d s path ≡ Ok (found.File k z c)) where
+      pub found_passes : blocks_fault d s k ≡ Ok tt
       found_passes =
           let h = (file_exactly d s path k z c).0 e in
           tree_file_passes k (found_file d s v path k z c e) (rw h.key at h.kind)
 
       -- A read of a file gives its bytes from the offset on.
-      pub tree_reads : (o n : ℕ) → read_of d s path o n ≡ Bytes (min n (z - o))
+      pub tree_reads : (o n : ℕ) → read_of d s path o n ≡ Ok (min n (z - o))
       tree_reads o n =
           (read_exactly d s path o n (min n (z - o))).1
           (record {
@@ -174,12 +173,12 @@ module _ (d : Disk) (s : List ℕ) (v : Tree d s) where
           })
 
       -- From offset 0 into room for all of it, it gives the whole file.
-      pub tree_read_whole : (output output' : List ℕ) (r : Reading) → z ≤ length output
+      pub tree_read_whole : (output output' : List ℕ) (r : Result ℕ Refusal) → z ≤ length output
           → Reads d s path 0 output r output'
-          → (r ≡ Bytes z) × (length (file_bytes d s k) ≡ z) × (output' ≡ file_bytes d s k ++ drop z output)
+          → (r ≡ Ok z) × (length (file_bytes d s k) ≡ z) × (output' ≡ file_bytes d s k ++ drop z output)
       tree_read_whole output output' r l h =
           let m : min (length output) (z - 0) ≡ z = omega arith in
-          let a : r ≡ Bytes z = h.answer ∙ tree_reads 0 (length output) ∙ ap Bytes m in
+          let a : r ≡ Ok z = h.answer ∙ tree_reads 0 (length output) ∙ ap Ok m in
           let b : length (file_bytes d s k) ≡ z =
           bytes_long d s k v.long found_passes ∙ sym (found_size d s path k z c e) in
           (a, b, h.left ∙ rw (a, e) (filled_whole (file_bytes d s k) output (omega arith) ∙ rw b refl))
@@ -189,7 +188,7 @@ module _ (d : Disk) (s : List ℕ) (v : Tree d s) where
         → (w ≡ fault.path_form) ⊎ (w ≡ fault.not_found) ⊎ (w ≡ fault.wrong_kind)
     tree_read_answers o n w i q = go ((refused_exactly d s path o n w i).0 q)
       where
-        none : (k z c : ℕ) → find_of d s path ≡ found.File k z c → ⊥
+        none : (k z c : ℕ) → find_of d s path ≡ Ok (found.File k z c) → ⊥
         none k z c e = let y = tree_reads k z c e o n in impossible cc
 
         go : Refuses d s path w i → (w ≡ fault.path_form) ⊎ (w ≡ fault.not_found) ⊎ (w ≡ fault.wrong_kind)
@@ -200,9 +199,9 @@ module _ (d : Disk) (s : List ℕ) (v : Tree d s) where
 
   -- Every reached file is read whole by its path, if that is not too long.
   pub reached_read : (k : ℕ) (h : Lies s (root_of d) k) → directory s k ≡ false
-      → length (path_of s (root_of d) k h) ≤ longest_path → (output output' : List ℕ) (r : Reading)
+      → length (path_of s (root_of d) k h) ≤ longest_path → (output output' : List ℕ) (r : Result ℕ Refusal)
       → size_of s k ≤ length output → Reads d s (path_of s (root_of d) k h) 0 output r output'
-      → (r ≡ Bytes (size_of s k)) × (length (file_bytes d s k) ≡ size_of s k)
+      → (r ≡ Ok (size_of s k)) × (length (file_bytes d s k) ≡ size_of s k)
       × (output' ≡ file_bytes d s k ++ drop (size_of s k) output)
   unfolding pick
   reached_read k h e l output output' r m q =

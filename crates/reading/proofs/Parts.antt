@@ -1,14 +1,13 @@
 -- Facts on parts of lists. Assumes nothing.
-use Prim.Native.Nat.{ℕ, zero, suc, ◌+◌, ◌-◌, ◌≤◌, ◌<◌, min}
+use Prim.Native.Nat.{ℕ, zero, suc, ◌+◌, ◌-◌, ◌≤◌, min}
 use mathlib.Core.Path.{◌≡◌, refl, sym, ap, ◌∙◌}
 use mathlib.Core.List.{List, [], ◌∷◌, ◌++◌}
 use native.Mathlib.Nat.{sub-zero}
 use native.Mathlib.Omega.{arith}
-use native.Mathlib.Numerals.{add-one}
 use native.Mathlib.Decide.{dec_le}
-use lib.ListN.{length, get_or, take, drop, set, length-take, length-drop}
-use lib.Seq.{paste, paste-suc, take-nil, take_all, take-take, take-add, take_at, drop_at, drop-drop, length-take-le}
-use lib.Seq.{get_or-drop, drop-append-le, take-append-le}
+use lib.ListN.{length, take, drop, length-take, length-drop}
+use lib.Seq.{paste, take-nil, take_all, take-take, take-add, take_at, drop_at, drop-drop, length-take-le}
+use lib.Seq.{drop-append-le, take-append-le}
 use Rattle.reach.specs.References.{At}
 
 module _ {A : Type 0} where
@@ -60,12 +59,3 @@ module _ (l y x : List ℕ) (i c n : ℕ) (e : l ≡ take c (drop i (y ++ x))) (
       go : Dec (length y - i ≤ c) → take (c - n) (drop (i + n) (y ++ x)) ≡ take (c - n) x
       go (yes p) = ap (take (c - n)) (drop_at y x (i + n) (omega arith))
       go (no p) = let z : c - n ≡ 0 = omega arith in rw z refl
-
--- ---- one store of a copy
-
-pub copied_one : (d s r : List ℕ) (at from n i : ℕ) → r ≡ paste d at (drop from s) i → i < n → from + n ≤ length s
-    → at + n ≤ length d → set r (at + i) (get_or s (from + i) 0) ≡ paste d at (drop from s) (i + 1)
-copied_one d s r at from n i e p l g =
-    let h : at + i < length d = omega arith in
-    let j : i < length (drop from s) = rw (length-drop from s) (omega arith) in
-    rw (e, ← get_or-drop from s i 0, paste-suc d at (drop from s) i 0 h j, ← add-one i) refl

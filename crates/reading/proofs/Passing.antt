@@ -1,5 +1,6 @@
 -- A file that is as the law says, its blocks in range with sum 0, passes its tests (`passes_tested`), and no other
 -- does (`tested_exactly`). Assumes nothing.
+use Rattle.std.specs.Prelude.{Ok}
 use Prim.Native.Nat.{ℕ, zero, suc, ◌+◌, ◌-◌}
 use mathlib.Core.Path.{◌≡◌, refl, sym, ap, subst}
 use mathlib.Core.Logic.{◌⊎◌, inl, inr, ◌↔◌}
@@ -7,7 +8,6 @@ use mathlib.Core.List.{List, [], ◌∷◌, ◌++◌}
 use native.Mathlib.Omega.{arith}
 use borrow.Author.Tests.{eq-eqb}
 use Rattle.answers.specs.Tests.{pick}
-use Rattle.answers.specs.declared.Tested.TheVariants.{Passed}
 use Rattle.reach.specs.References.{◌∈◌}
 use Rattle.reach.proofs.Lists.{in_left, in_right, in_either}
 use Rattle.volume.specs.declared.disk.Disk.{Disk}
@@ -26,7 +26,7 @@ use Rattle.reading.specs.Outcomes.{Intact, FileWhole}
 use Rattle.reading.proofs.Tested.{Pass, tested_whole}
 
 module _ (d : Disk) (s : List ℕ) where
-  pass_all : (ns : List Node) → Pass d s ns → first_fault d s ns ≡ Passed
+  pass_all : (ns : List Node) → Pass d s ns → first_fault d s ns ≡ Ok tt
   unfolding first_fault pick
   pass_all [] f = refl
   pass_all (n ∷ ns) f = rw (eq-eqb (node_fault d s n) 0 (f n (inl refl))) (pass_all ns (λ x a. f x (inr a)))
@@ -116,7 +116,7 @@ module _ (d : Disk) (s : List ℕ) where
 
     -- ---- the whole file
 
-    pub passes_tested : FileWhole d s h → blocks_fault d s h ≡ Passed
+    pub passes_tested : FileWhole d s h → blocks_fault d s h ≡ Ok tt
     unfolding blocks_fault pick
     passes_tested w =
         let p = (file_spreads d s h).0 w.file in
@@ -127,5 +127,5 @@ module _ (d : Disk) (s : List ℕ) where
         (spread_passes q h 0 h (blocks_of d s h) (ap list_blocks z) z p.2 w.lists w.keys))
 
     -- The blocks of a file pass if and only if it is whole.
-    pub tested_exactly : (blocks_fault d s h ≡ Passed) ↔ FileWhole d s h
+    pub tested_exactly : (blocks_fault d s h ≡ Ok tt) ↔ FileWhole d s h
     tested_exactly = (tested_whole d s h, passes_tested)

@@ -1,4 +1,6 @@
 -- Each refusal of a read is given exactly then, with that number and place (`refused_exactly`). Assumes nothing.
+use Rattle.answers.specs.declared.Refusal.{Refusal}
+use Rattle.std.specs.Prelude.{Result, Ok, Err}
 use Prim.Native.Nat.{ℕ, zero, suc, ◌+◌, ◌-◌, ◌*◌, ◌/◌, ◌<◌}
 use mathlib.Core.Path.{◌≡◌, refl, sym, ap, ◌∙◌}
 use mathlib.Core.Logic.Iff
@@ -11,8 +13,6 @@ use borrow.Author.Tests.{eq-eqb, ne_eqb, eqb-true, eqb-false}
 use Rattle.answers.specs.Numbers as fault
 use Rattle.answers.specs.Tests.{pick, must, first}
 use Rattle.answers.specs.Refusals.{refusal}
-use Rattle.answers.specs.declared.Tested.{Tested}
-use Rattle.answers.specs.declared.Tested.TheVariants.{Passed, Failed}
 use Rattle.answers.proofs.Tests.{first_zero}
 use Rattle.answers.proofs.Clashes.{impossible}
 use Rattle.answers.specs.Members.{◌∈◌, has}
@@ -134,14 +134,14 @@ record FailsAt (d : Disk) (s : List ℕ) (blocks : List Node) (v k : ℕ) : Type
   key : key_of d node ≡ k
 
 module _ (d : Disk) (s : List ℕ) (v k : ℕ) where
-  fails_there : (ns : List Node) → first_fault d s ns ≡ Failed (refusal v k) → FailsAt d s ns v k
+  fails_there : (ns : List Node) → first_fault d s ns ≡ Err (refusal v k) → FailsAt d s ns v k
   unfolding first_fault pick
   fails_there [] e = impossible cc
   fails_there (n ∷ ns) e = go (eqb (node_fault d s n) 0) refl e (fails_there ns)
     where
       go : (b : Bool) → eqb (node_fault d s n) 0 ≡ b
-          → pick b (first_fault d s ns) (Failed (refusal (node_fault d s n) (key_of d n))) ≡ Failed (refusal v k)
-          → (first_fault d s ns ≡ Failed (refusal v k) → FailsAt d s ns v k) → FailsAt d s (n ∷ ns) v k
+          → pick b (first_fault d s ns) (Err (refusal (node_fault d s n) (key_of d n))) ≡ Err (refusal v k)
+          → (first_fault d s ns ≡ Err (refusal v k) → FailsAt d s ns v k) → FailsAt d s (n ∷ ns) v k
       go true q e later = further (later e)
         where
           further : FailsAt d s ns v k → FailsAt d s (n ∷ ns) v k
@@ -171,7 +171,7 @@ module _ (d : Disk) (s : List ℕ) (v k : ℕ) where
 
   fails_back : (ns : List Node) (t : ℕ) (x : Node) → At t x ns
       → ((u : ℕ) (y : Node) → u < t → At u y ns → node_fault d s y ≡ 0) → node_fault d s x ≡ v → v ≢ 0 → key_of d x ≡ k
-      → first_fault d s ns ≡ Failed (refusal v k)
+      → first_fault d s ns ≡ Err (refusal v k)
   unfolding first_fault pick
   fails_back [] t x a b f z e = absurd a
   fails_back (n ∷ ns) zero x a b f z e =
@@ -216,7 +216,7 @@ module _ (d : Disk) (s : List ℕ) (v k : ℕ) where
         go (is_data_lem i b c p e x) = rw x ((data_good d s h i b c).1 (g.keys i b c (f i (omega (arith, e))) p))
         go (is_list_lem j b c p e x) = rw x ((list_good d s h j b c).1 (g.lists j b (f' j (omega (arith, e))) p))
 
-    from_fails : Fails d s h v k → first_fault d s (file_nodes d s h) ≡ Failed (refusal v k)
+    from_fails : Fails d s h v k → first_fault d s (file_nodes d s h) ≡ Err (refusal v k)
     from_fails (at_data i c p g b) =
         let e = (data_bad d s h i k c v).1 b in
         fails_back (file_nodes d s h) (i + i / slots) _ (data_position d s h i k c p)
@@ -229,20 +229,20 @@ module _ (d : Disk) (s : List ℕ) (v k : ℕ) where
         refl
 
     -- A refusal is that of the first block that fails.
-    pub first_exactly : (first_fault d s (file_nodes d s h) ≡ Failed (refusal v k)) ↔ Fails d s h v k
+    pub first_exactly : (first_fault d s (file_nodes d s h) ≡ Err (refusal v k)) ↔ Fails d s h v k
     first_exactly = (λ e. to_fails (fails_there (file_nodes d s h) e), from_fails)
 
 -- ---- the whole call
 
 module _ (d : Disk) (s path : List ℕ) (o n v k : ℕ) where
   -- of the file that was found
-  blocks_why : (h z c : ℕ) → find_of d s path ≡ found.File h z c → blocks_fault d s h ≡ Failed (refusal v k)
+  blocks_why : (h z c : ℕ) → find_of d s path ≡ Ok (found.File h z c) → blocks_fault d s h ≡ Err (refusal v k)
       → Refuses d s path v k
   unfolding blocks_fault pick
   blocks_why h z c e q = go (eqb (file_fault d s h) 0) refl q
     where
       go : (b : Bool) → eqb (file_fault d s h) 0 ≡ b
-          → pick b (first_fault d s (file_nodes d s h)) (Failed (refusal (file_fault d s h) h)) ≡ Failed (refusal v k)
+          → pick b (first_fault d s (file_nodes d s h)) (Err (refusal (file_fault d s h) h)) ≡ Err (refusal v k)
           → Refuses d s path v k
       go true p q = of_block h z c e ((header_sound d s h).0 (eqb-true _ 0 p)) ((first_exactly d s v k h).0 q)
       go false p q =
@@ -251,16 +251,17 @@ module _ (d : Disk) (s path : List ℕ) (o n v k : ℕ) where
           of_header z c (rw y at e) ((header_breaks d s k v).0
           (rw y at (number_is x), λ u. eqb-false _ 0 p (number_is x ∙ u)))
 
-  read_why : (f : Found) → find_of d s path ≡ f → reads d s path o n f ≡ refuse v k → Refuses d s path v k
-  read_why (found.Directory t c) e q =
+  read_why : (f : Result Found Refusal) → find_of d s path ≡ f → reads d s path o n f ≡ refuse v k
+      → Refuses d s path v k
+  read_why (Ok (found.Directory t c)) e q =
       let x : refusal fault.wrong_kind (last_component path) ≡ refusal v k = cc in
       of_directory t c e (sym (number_is x)) (sym (place_is x))
-  read_why (found.Refused r) e q = let x : r ≡ refusal v k = cc in of_lookup (e ∙ ap found.Refused x)
-  read_why (found.File h z c) e q = go (blocks_fault d s h) refl q
+  read_why (Err r) e q = let x : r ≡ refusal v k = cc in of_lookup (e ∙ ap Err x)
+  read_why (Ok (found.File h z c)) e q = go (blocks_fault d s h) refl q
     where
-      go : (t : Tested) → blocks_fault d s h ≡ t → tested d s h o n t ≡ refuse v k → Refuses d s path v k
-      go Passed p q = impossible cc
-      go (Failed r) p q = let x : r ≡ refusal v k = cc in blocks_why h z c e (p ∙ ap Failed x)
+      go : (t : Result Unit Refusal) → blocks_fault d s h ≡ t → tested d s h o n t ≡ refuse v k → Refuses d s path v k
+      go (Ok _) p q = impossible cc
+      go (Err r) p q = let x : r ≡ refusal v k = cc in blocks_why h z c e (p ∙ ap Err x)
 
   why_read : Refuses d s path v k → read_of d s path o n ≡ refuse v k
   unfolding read_of blocks_fault pick
@@ -280,7 +281,7 @@ abbrev pub after_lookup : List ℕ
 after_lookup = fault.wrong_kind ∷ fault.bad_key ∷ (header_refusals ++ data_refusals ++ list_refusals)
 
 module _ (d : Disk) (s path : List ℕ) (v k : ℕ) where
-  pub after_lookup_lem : Refuses d s path v k → (find_of d s path ≡ found.Refused (refusal v k)) ⊎ (v ∈ after_lookup)
+  pub after_lookup_lem : Refuses d s path v k → (find_of d s path ≡ Err (refusal v k)) ⊎ (v ∈ after_lookup)
   after_lookup_lem (of_lookup e) = inl e
   after_lookup_lem (of_directory t c e a b) = inr (inl a)
   after_lookup_lem (of_header z c e b) = inr (in_part header_refusals after_lookup v tt (header_number b))
@@ -293,7 +294,7 @@ module _ (d : Disk) (s path : List ℕ) (v k : ℕ) where
 
   -- a number that is given only before the tests of the file is given exactly when the lookup gives it
   as_lookup : T (not (has after_lookup v)) → (o n : ℕ)
-      → (read_of d s path o n ≡ refuse v k) ↔ (find_of d s path ≡ found.Refused (refusal v k))
+      → (read_of d s path o n ≡ refuse v k) ↔ (find_of d s path ≡ Err (refusal v k))
   as_lookup t o n = (
     (λ e.
         let w = after_lookup_lem ((refused_exactly d s path o n v k).0 e) in

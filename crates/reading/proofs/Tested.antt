@@ -1,5 +1,6 @@
 -- What it says of a file that its blocks pass their tests: it is as the law says, and its blocks are in range with
 -- sum 0 (`tested_file`, `tested_whole`). Assumes nothing.
+use Rattle.std.specs.Prelude.{Ok, Err}
 use Prim.Native.Nat.{ℕ, zero, suc, ◌+◌, ◌-◌}
 use mathlib.Core.Path.{◌≡◌, refl, ap, subst}
 use mathlib.Core.Logic.{inl, inr, ◌⊎◌}
@@ -10,7 +11,6 @@ use lib.Dec.{eqb}
 use borrow.Author.Tests.{eqb-true}
 use Rattle.answers.specs.Tests.{pick}
 use Rattle.answers.specs.Refusals.{refusal}
-use Rattle.answers.specs.declared.Tested.TheVariants.{Passed, Failed}
 use Rattle.answers.proofs.Tests.{first_zero}
 use Rattle.answers.proofs.Clashes.{impossible}
 use Rattle.reach.specs.References.{◌∈◌}
@@ -34,14 +34,14 @@ module _ (d : Disk) (s : List ℕ) where
   abbrev pub Pass : List Node → Type 0
   Pass ns = (x : Node) → x ∈ ns → node_fault d s x ≡ 0
 
-  all_pass : (ns : List Node) → first_fault d s ns ≡ Passed → Pass ns
+  all_pass : (ns : List Node) → first_fault d s ns ≡ Ok tt → Pass ns
   unfolding first_fault pick
   all_pass [] e x h = absurd h
   all_pass (n ∷ ns) e x h = go (eqb (node_fault d s n) 0) refl e h (all_pass ns)
     where
       go : (b : Bool) → eqb (node_fault d s n) 0 ≡ b
-          → pick b (first_fault d s ns) (Failed (refusal (node_fault d s n) (key_of d n))) ≡ Passed → x ∈ (n ∷ ns)
-          → (first_fault d s ns ≡ Passed → Pass ns) → node_fault d s x ≡ 0
+          → pick b (first_fault d s ns) (Err (refusal (node_fault d s n) (key_of d n))) ≡ Ok tt → x ∈ (n ∷ ns)
+          → (first_fault d s ns ≡ Ok tt → Pass ns) → node_fault d s x ≡ 0
       go true q e (inl a) f = rw a (eqb-true _ 0 q)
       go true q e (inr a) f = f e x a
       go false q e a f = impossible cc
@@ -136,13 +136,13 @@ module _ (d : Disk) (s : List ℕ) where
 
     -- ---- the whole file
 
-    module _ (e : blocks_fault d s h ≡ Passed) where
+    module _ (e : blocks_fault d s h ≡ Ok tt) where
       header_passes : file_fault d s h ≡ 0
       unfolding blocks_fault pick
       header_passes = go (eqb (file_fault d s h) 0) refl e
         where
           go : (b : Bool) → eqb (file_fault d s h) 0 ≡ b
-              → pick b (first_fault d s (file_nodes d s h)) (Failed (refusal (file_fault d s h) h)) ≡ Passed
+              → pick b (first_fault d s (file_nodes d s h)) (Err (refusal (file_fault d s h) h)) ≡ Ok tt
               → file_fault d s h ≡ 0
           go true q x = eqb-true _ 0 q
           go false q x = impossible cc

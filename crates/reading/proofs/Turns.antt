@@ -5,6 +5,8 @@ use mathlib.Core.List.{List, [], ◌∷◌, ◌++◌}
 use native.Mathlib.Nat.{sub-zero, mod-lt}
 use native.Mathlib.Omega.{arith}
 use native.Mathlib.Decide.{dec_lt}
+use borrow.Rule.Slice.PartMut.{put_mid}
+use Rattle.std.proofs.Common.{append_assoc}
 use lib.ListN.{length, take, drop, length-drop, drop_of_length-le}
 use lib.Seq.{paste, length-paste, drop-drop, drop-nil, take-nil, take-take, take_all}
 use Rattle.reach.specs.References.{At}
@@ -140,9 +142,6 @@ module _ (d : Disk) (s : List ℕ) (h o : ℕ) (before : List ℕ) where
           (omega arith))
 
       module _ (n : ℕ) (m : n ≡ min (bytes - within) (count - done)) where
-        pub falls : count - (done + n) < count - done
-        falls = omega (arith, v.near)
-
         upto : done + n ≤ count
         upto = omega arith
 
@@ -194,6 +193,9 @@ module _ (d : Disk) (s : List ℕ) (h o : ℕ) (before : List ℕ) where
             pub from_inside : byte + within + n ≤ length s
             from_inside = omega (arith, data_inside d, held, v.each, v.near)
 
+            pub from_fits : byte + within + n < 2 ^ 64
+            from_fits = omega (arith, from_inside, v.long, v.sized.most)
+
             -- what is copied in this turn
             copied : take n (drop (byte + within) s) ≡ take n (drop done whole)
             copied =
@@ -207,9 +209,19 @@ module _ (d : Disk) (s : List ℕ) (h o : ℕ) (before : List ℕ) where
                 ) refl in
                 sym (turn_front (drop done whole) mine others within (count - done) n opened within_mine taken ∙ e)
 
-            pub goes : (out' : List ℕ) (at' : Listed) → out' ≡ paste out done (drop (byte + within) s) n
-                → Steps s at at' → Going count bytes out' at' 0 (done + n)
-            goes out' at' e f =
+            -- as code copies it: `part` is that part of the image
+            pasted : (part : List ℕ) → part ≡ take (byte + within + n - (byte + within)) (drop (byte + within) s)
+                → put_mid done (done + n - done) out part ≡ paste out done (drop (byte + within) s) n
+            pasted part e =
+                let a : done + n - done ≡ n = omega arith in
+                let b : byte + within + n - (byte + within) ≡ n = omega arith in
+                rw (e, a, b, append_assoc, drop-drop n done out) refl
+
+            pub goes : (part : List ℕ) (at' : Listed)
+                → part ≡ take (byte + within + n - (byte + within)) (drop (byte + within) s) → Steps s at at'
+                → Going count bytes (put_mid done (done + n - done) out part) at' 0 (done + n)
+            goes part at' e' f =
+                let e = pasted part e' in
                 record {
                   sized = v.sized;
                   long = v.long;

@@ -1,10 +1,9 @@
 -- The tests of a file before it is read: its header's own, then all of its blocks in the audit's order, without
 -- claims (docs/FORMAT.md, "Paths and reads"). The blocks, their order and their tests are the audit's.
-use Rattle.std.specs.Prelude.{ℕ, zero, suc, ◌+◌, ◌-◌, List, [], ◌∷◌, ◌++◌, eqb}
+use Rattle.answers.specs.declared.Refusal.{Refusal}
+use Rattle.std.specs.Prelude.{ℕ, zero, suc, ◌+◌, ◌-◌, List, [], ◌∷◌, ◌++◌, eqb, Result, Ok, Err}
 use Rattle.answers.specs.Tests.{pick, first}
 use Rattle.answers.specs.Refusals.{refusal}
-use Rattle.answers.specs.declared.Tested.{Tested}
-use Rattle.answers.specs.declared.Tested.TheVariants.{Passed, Failed}
 use Rattle.volume.specs.declared.disk.Disk.{Disk}
 use Rattle.volume.specs.Blocks.{slots, word_of, key_word}
 use Rattle.volume.specs.Files.{blocks_of, list_blocks, keys_here}
@@ -16,10 +15,10 @@ abbrev pub node_fault : Disk → List ℕ → Node → ℕ
 node_fault d s n = first (key_fault d (key_of d n)) (fault_of d s n)
 
 -- the first block that fails
-unfoldable pub first_fault : Disk → List ℕ → List Node → Tested
-first_fault d s [] = Passed
+unfoldable pub first_fault : Disk → List ℕ → List Node → Result Unit Refusal
+first_fault d s [] = Ok tt
 first_fault d s (n ∷ ns) =
-    pick (eqb (node_fault d s n) 0) (first_fault d s ns) (Failed (refusal (node_fault d s n) (key_of d n)))
+    pick (eqb (node_fault d s n) 0) (first_fault d s ns) (Err (refusal (node_fault d s n) (key_of d n)))
 
 -- the blocks of file h from block b on, which lists keys after m data blocks, c the last of them; q list blocks
 -- follow it
@@ -33,6 +32,6 @@ blocks_from d s h b m c (suc q) =
 abbrev pub file_nodes : Disk → List ℕ → ℕ → List Node
 file_nodes d s h = blocks_from d s h h 0 h (list_blocks (blocks_of d s h))
 
-unfoldable pub blocks_fault : Disk → List ℕ → ℕ → Tested
+unfoldable pub blocks_fault : Disk → List ℕ → ℕ → Result Unit Refusal
 blocks_fault d s h =
-    pick (eqb (file_fault d s h) 0) (first_fault d s (file_nodes d s h)) (Failed (refusal (file_fault d s h) h))
+    pick (eqb (file_fault d s h) 0) (first_fault d s (file_nodes d s h)) (Err (refusal (file_fault d s h) h))

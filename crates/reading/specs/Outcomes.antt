@@ -1,7 +1,7 @@
 -- What a read's answer says, in the words of the law: when bytes are given, and how many; what the output holds
 -- then; and why a read is refused, with which number at which block (docs/FORMAT.md, "Paths and reads" and
 -- "Numbers").
-use Rattle.std.specs.Prelude.{ℕ, suc, ◌+◌, ◌-◌, ◌*◌, ◌/◌, ◌≤◌, ◌<◌, min, ◌≡◌, true, List, length, get_or}
+use Rattle.std.specs.Prelude.{ℕ, suc, ◌+◌, ◌-◌, ◌*◌, ◌/◌, ◌≤◌, ◌<◌, min, ◌≡◌, true, List, length, get_or, Ok, Err}
 use Rattle.reach.specs.References.{At, ◌∈◌}
 use Rattle.answers.specs.Numbers as fault
 use Rattle.answers.specs.Refusals.{refusal}
@@ -37,7 +37,7 @@ pub record Gives (d : Disk) (s path : List ℕ) (o n m : ℕ) : Type 0 where
   pub key : ℕ
   pub size : ℕ
   pub compared : ℕ
-  pub found : find_of d s path ≡ found.File key size compared
+  pub found : find_of d s path ≡ Ok (found.File key size compared)
   pub whole : FileWhole d s key
   pub count : m ≡ min n (size - o)
 
@@ -89,9 +89,9 @@ pub data Fails (d : Disk) (s : List ℕ) (h v k : ℕ) : Type 0 where
 -- the path leads to no file; or the file's header breaks the law, 14; or its header is good and another of its
 -- blocks is not
 pub data Refuses (d : Disk) (s path : List ℕ) (v k : ℕ) : Type 0 where
-  of_lookup : find_of d s path ≡ found.Refused (refusal v k) → Refuses d s path v k
-  of_directory : (t c : ℕ) → find_of d s path ≡ found.Directory t c → v ≡ fault.wrong_kind → k ≡ last_component path
-      → Refuses d s path v k
-  of_header : (z c : ℕ) → find_of d s path ≡ found.File k z c → HeaderBreaks d s k v → Refuses d s path v k
-  of_block : (h z c : ℕ) → find_of d s path ≡ found.File h z c → HeaderSound d s h → Fails d s h v k
+  of_lookup : find_of d s path ≡ Err (refusal v k) → Refuses d s path v k
+  of_directory : (t c : ℕ) → find_of d s path ≡ Ok (found.Directory t c) → v ≡ fault.wrong_kind
+      → k ≡ last_component path → Refuses d s path v k
+  of_header : (z c : ℕ) → find_of d s path ≡ Ok (found.File k z c) → HeaderBreaks d s k v → Refuses d s path v k
+  of_block : (h z c : ℕ) → find_of d s path ≡ Ok (found.File h z c) → HeaderSound d s h → Fails d s h v k
       → Refuses d s path v k

@@ -1,23 +1,16 @@
 -- What the parts of the code ask and promise. Nothing that a read answers is said here.
-use Rattle.std.specs.Prelude.{ℕ, zero, suc, ◌/◌, ◌%◌, ◌<◌, ◌≤◌, ◌≡◌, List, ◌∷◌, length}
+use Rattle.answers.specs.declared.Refusal.{Refusal}
+use Rattle.std.specs.Prelude.{ℕ, zero, suc, ◌/◌, ◌%◌, ◌<◌, ◌≤◌, ◌≡◌, List, ◌∷◌, length, Result, Ok}
 use Rattle.reach.specs.References.{◌∈◌}
 use Rattle.volume.specs.declared.disk.Disk.{Disk}
 use Rattle.volume.specs.Blocks.{slots, Holds, word_of}
 use Rattle.volume.specs.Disks.{file_limit}
 use Rattle.volume.specs.Files.{size_of, lists_of, keys_of}
 use Rattle.reading.specs.Bytes.{filled_by, part}
-use Rattle.answers.specs.Numbers as fault
-use Rattle.answers.specs.declared.Tested.{Tested}
-use Rattle.answers.specs.declared.Tested.TheVariants.{Passed}
 use Rattle.walk.specs.declared.file.KeyBlock.{KeyBlock}
 use Rattle.walk.specs.KeyBlocks.{next_of, list_node, data_nodes, InImage, NextReady}
-use Rattle.lookup.specs.declared.find.Found.{Found}
-use Rattle.lookup.specs.declared.find.Found.TheVariants as found
 use Rattle.reading.specs.declared.copy.Listed.{Listed}
-use Rattle.reading.specs.declared.read.Reading.{Reading}
-use Rattle.reading.specs.declared.read.Reading.TheVariants.{Refused}
 use Rattle.reading.specs.FileTests.{first_fault}
-use Rattle.reading.specs.Reads.{refuse, last_component}
 
 -- how many bytes it copied, and what it left
 pub record Copied (bytes : List ℕ) (o : ℕ) (before : List ℕ) (n : ℕ) (after : List ℕ) : Type 0 where
@@ -53,18 +46,12 @@ pub record Steps (s : List ℕ) (a r : Listed) : Type 0 where
 -- ---- the tests of its blocks
 
 -- the data blocks of a block that lists keys
-pub record KeysTested (d : Disk) (s : List ℕ) (b : KeyBlock) (r : Tested) : Type 0 where
+pub record KeysTested (d : Disk) (s : List ℕ) (b : KeyBlock) (r : Result Unit Refusal) : Type 0 where
   pub told : r ≡ first_fault d s (data_nodes d s b)
-  pub next : r ≡ Passed → NextReady d s (next_of s b)
+  pub next : r ≡ Ok tt → NextReady d s (next_of s b)
 
 -- a list block and its data blocks
-pub record ListTested (d : Disk) (s : List ℕ) (b : KeyBlock) (r : Tested) : Type 0 where
+pub record ListTested (d : Disk) (s : List ℕ) (b : KeyBlock) (r : Result Unit Refusal) : Type 0 where
   pub told : r ≡ first_fault d s (list_node b ∷ data_nodes d s b)
-  pub image : r ≡ Passed → InImage s b
-  pub next : r ≡ Passed → NextReady d s (next_of s b)
-
--- what is handed back where no file is found; a file is never handed back
-abbrev pub handed : List ℕ → Found → Reading
-handed path (found.Refused r) = Refused r
-handed path (found.Directory k c) = refuse fault.wrong_kind (last_component path)
-handed path (found.File k z c) = refuse fault.wrong_kind (last_component path)
+  pub image : r ≡ Ok tt → InImage s b
+  pub next : r ≡ Ok tt → NextReady d s (next_of s b)

@@ -11,10 +11,9 @@ ghost use Rattle.reading.specs.Parts.{BlocksInside, WayHeld, IsListed, Steps, Co
 use volume::block::{Block, word_of};
 use volume::disk::Disk;
 use volume::file::key_of;
-use words::least;
 
 // Where a data key of a file is listed: in the header or a list block, and which of its keys, counted from 0.
-#[derive(Drop)]
+#[derive(Clone, Copy)]
 struct Listed {
     block: u32,
     index: usize,
@@ -27,63 +26,36 @@ fn data_byte(disk: Disk, key: u32) -> usize
     Block::byte(key, 0) + disk.data_start() as usize
 }
 
-// The bytes of a file from `offset` on.
-fn left_of(size: u32, offset: usize) -> usize
-    ensures { result ≡ size - offset }
-{
-    if size as usize <= offset {
-        return 0;
+impl Listed {
+    // Data key n of a file, counted from 0: the way goes over its list blocks.
+    fn seek(image: &[u8], header: u32, n: usize) -> Listed
+        requires { WayHeld image.now header n }
+        ensures { IsListed image.now header n result }
+    {
+        let mut block = header;
+        for _ in 0..n / Block::SLOTS {
+            block = word_of(image, block, Block::LIST);
+        }
+        Listed {
+            block,
+            index: n % Block::SLOTS,
+        }
     }
-    size as usize - offset
-}
 
-// Copies n bytes of the image, from `from` on, to `at` of the output.
-fn copy_bytes(image: &[u8], from: usize, output: &mut [u8], at: usize, n: usize)
-    requires { (from + n ≤ length image.now) × (at + n ≤ length output.old) }
-    ensures { output.new ≡ paste output.old at (drop from image.now) n }
-{
-    let mut i = 0;
-    while i < n {
-        output[at + i] = image[from + i];
-        i += 1;
-    }
-}
-
-// Where data key n of a file is listed, counted from 0: the way goes over its list blocks.
-fn seek(image: &[u8], header: u32, n: usize) -> Listed
-    requires { WayHeld image.now header n }
-    ensures { IsListed image.now header n result }
-{
-    let lists = n / Block::SLOTS;
-    let mut block = header;
-    let mut passed = 0;
-    while passed < lists {
-        block = word_of(image, block, Block::LIST);
-        passed += 1;
-    }
-    Listed {
-        block: block,
-        index: n % Block::SLOTS,
-    }
-}
-
-// Where the next data key is listed: after a block's last key, in the list block that it names. After the file's last
-// key that may be no block; nothing is read there.
-fn next_key(image: &[u8], at: Listed) -> Listed
-    requires { (at.index < slots) × Holds image.now at.block }
-    ensures { Steps image.now at result }
-{
-    let block = at.block;
-    let index = at.index + 1;
-    if index < Block::SLOTS {
-        return Listed {
-            block: block,
-            index: index,
-        };
-    }
-    Listed {
-        block: word_of(image, block, Block::LIST),
-        index: 0,
+    // The next data key: after a block's last key, in the list block that it names. After the file's last key that may
+    // be no block; nothing is read there.
+    fn next(self, image: &[u8]) -> Listed
+        requires { (self.index < slots) × Holds image.now self.block }
+        ensures { Steps image.now self result }
+    {
+        let index = self.index + 1;
+        if index < Block::SLOTS {
+            return Listed { index, ..self };
+        }
+        Listed {
+            block: word_of(image, self.block, Block::LIST),
+            index: 0,
+        }
     }
 }
 
@@ -101,20 +73,21 @@ pub(crate) fn copy_file(
     ensures { Copied (file_bytes disk image.now header) offset output.old result
         output.new }
 {
-    let left = left_of(size, offset);
-    let count = least(output.len(), left);
+    let left = (size as usize).saturating_sub(offset);
+    let count = output.len().min(left);
     if count == 0 {
         return 0;
     }
     let bytes = disk.data_bytes() as usize;
-    let mut at = seek(image, header, offset / bytes);
+    let mut at = Listed::seek(image, header, offset / bytes);
     let mut within = offset % bytes;
     let mut done = 0;
     while done < count {
         let key = key_of(image, at.block, at.index);
-        let n = least(bytes - within, count - done);
-        copy_bytes(image, data_byte(disk, key) + within, output, done, n);
-        at = next_key(image, at);
+        let n = (bytes - within).min(count - done);
+        let from = data_byte(disk, key) + within;
+        words::copy(&image[from..from + n], &mut output[done..done + n]);
+        at = at.next(image);
         within = 0;
         done += n;
     }

@@ -1,11 +1,7 @@
 -- `lookup::find::find` meets its contract. Assumes nothing.
 use Rattle.volume.proofs.Disks.{disk_sized}
-use Rattle.lookup.proofs.Lookups.{on_disk}
 use borrow.Author.Rules.{rules}
 use Rattle.lookup.proofs.find.find.Goals as goal
 
 pub find_on-requires : goal.find_on-requires
 find_on-requires c = search (rules, disk_sized) depth 7
-
-pub returns : goal.returns
-returns c = search on_disk depth 7
