@@ -6,27 +6,23 @@ use mathlib.Core.Bool.{Bool, true, false, not}
 use mathlib.Core.Logic.{◌↔◌}
 use native.Mathlib.Omega.{arith}
 use lib.Dec.{T}
+use Rattle.std.specs.Prelude.{Result, Ok, Err}
 use Rattle.answers.specs.Numbers as fault
 use Rattle.words.specs.Word.{word_at}
 use Rattle.answers.specs.Tests.{pick}
 use Rattle.answers.specs.Members.{◌∈◌, has}
 use Rattle.answers.specs.declared.Refusal.{Refusal}
-use Rattle.answers.specs.declared.Tested.{Tested}
-use Rattle.answers.specs.declared.Tested.TheVariants.{Passed, Failed}
 use Rattle.answers.proofs.Members.{listed, unlisted}
 use Rattle.answers.proofs.Given.{Given, given}
 use Rattle.answers.proofs.Clashes.{impossible}
 use Rattle.program.specs.Spaces.{Space}
-use Rattle.program.specs.declared.check.Answer.{Answer}
-use Rattle.program.specs.declared.check.Answer.TheVariants.{Accepted, Refused}
 use Rattle.program.specs.declared.reader.Cursor.{Cursor}
 use Rattle.program.specs.declared.reader.Mode.{Mode}
 use Rattle.program.specs.declared.reader.Mode.TheVariants as mode
-use Rattle.program.specs.declared.reader.Next.{Next}
-use Rattle.program.specs.declared.reader.Next.TheVariants.{On, Bad}
 use Rattle.program.specs.Header.{total_of, head_fault, judge, heads}
-use Rattle.program.specs.Reader.{body_of, turn, step_of}
-use Rattle.program.specs.Check.{numbers_of, check_refusals, ended_of, next, walk, and, check_of, Checks}
+use Rattle.program.specs.Reader.{Next, body_of, turn, step_of}
+use Rattle.program.specs.Check.{Answer, accepted, numbers_of, check_refusals, ended_of, next, walk, and, check_of}
+use Rattle.program.specs.Check.{Checks}
 
 -- ---- a promise is an answer
 
@@ -37,22 +33,22 @@ checks file r e = record { answer = e; numbers = ap numbers_of e }
 
 -- an answer accepts, or has a number of ns
 abbrev pub Refuses : List ℕ → Answer → Type 0
-Refuses ns (Accepted t n) = Unit
-Refuses ns (Refused r) = r.number ∈ ns
+Refuses ns (Ok v) = Unit
+Refuses ns (Err r) = r.number ∈ ns
 
 -- tests pass, or fail with one
-abbrev pub Fails : List ℕ → Tested → Type 0
-Fails ns Passed = Unit
-Fails ns (Failed r) = r.number ∈ ns
+abbrev pub Fails : List ℕ → Result Unit Refusal → Type 0
+Fails ns (Ok u) = Unit
+Fails ns (Err r) = r.number ∈ ns
 
 abbrev Steps : Next → Type 0
-Steps (On d) = Unit
-Steps (Bad v) = v ∈ check_refusals
+Steps (Ok d) = Unit
+Steps (Err v) = v ∈ check_refusals
 
 abbrev Answers : Answer → Type 0
 Answers a = Refuses check_refusals a
 
-abbrev Tests : Tested → Type 0
+abbrev Tests : Result Unit Refusal → Type 0
 Tests h = Fails check_refusals h
 
 one : (v : ℕ) → T (has check_refusals v) → v ∈ check_refusals
@@ -103,8 +99,8 @@ module _ (t : ℕ) (space : ℕ → Space) where
 
   next_answers : (r : Next) (at : ℕ) (f : Cursor → Answer) → Steps r → ((d : Cursor) → Answers (f d))
       → Answers (next r at f)
-  next_answers (On d) at f h g = g d
-  next_answers (Bad v) at f h g = h
+  next_answers (Ok d) at f h g = g d
+  next_answers (Err v) at f h g = h
 
   walk_answers : (end at : ℕ) (c : Cursor) (ws : List ℕ) → Answers (walk t space end at c ws)
   unfolding walk step_of
@@ -117,7 +113,7 @@ module _ (t : ℕ) (space : ℕ → Space) where
 head_given : (t i w : ℕ) → Given check_refusals (head_fault t i w)
 head_given t i w = search given depth 16
 
-judge_tests : (e at : ℕ) (h : Tested) → Given check_refusals e → Tests h → Tests (judge e at h)
+judge_tests : (e at : ℕ) (h : Result Unit Refusal) → Given check_refusals e → Tests h → Tests (judge e at h)
 judge_tests zero at h p q = q
 judge_tests (suc e) at h p q = p.member (λ z. omega arith)
 
@@ -129,9 +125,9 @@ heads_tests file i (suc n) =
     (judge_tests (head_fault (total_of file) i (word_at file (4 * i))) (4 * i) _
     (head_given (total_of file) i (word_at file (4 * i))) (heads_tests file (i + 1) n))
 
-and_answers : (h : Tested) (a : Answer) → Tests h → Answers a → Answers (and h a)
-and_answers Passed a p q = q
-and_answers (Failed r) a p q = p
+and_answers : (h : Result Unit Refusal) (a : Answer) → Tests h → Answers a → Answers (and h a)
+and_answers (Ok u) a p q = q
+and_answers (Err r) a p q = p
 
 -- ---- the whole check
 
@@ -145,20 +141,20 @@ check_refuses file =
     (and_answers (heads file 5 (total_of file)) _ (heads_tests file 5 (total_of file)) (walk_answers _ _ _ _ _ _)))
     (one fault.file_length tt))
 
-pub check_number : (file : List ℕ) (f : Refusal) → check_of file ≡ Refused f → f.number ∈ check_refusals
+pub check_number : (file : List ℕ) (f : Refusal) → check_of file ≡ Err f → f.number ∈ check_refusals
 check_number file f e = subst Answers e (check_refuses file)
 
 -- an answer with a number of ns, where 0 is none of them: it is 0 if and only if the answer accepts
 pub zero_accepts : (ns : List ℕ) → T (not (has ns 0)) → (r : Answer) → Refuses ns r
-    → ((numbers_of r).number ≡ 0) ↔ ((t : ℕ) × (n : ℕ) × (r ≡ Accepted t n))
-zero_accepts ns z (Accepted t n) h = (λ _. (t, n, refl), λ _. refl)
-zero_accepts ns z (Refused x) h = (λ e. unlisted ns x.number 0 z h e, λ q. impossible cc)
+    → ((numbers_of r).number ≡ 0) ↔ ((t : ℕ) × (n : ℕ) × (r ≡ accepted t n))
+zero_accepts ns z (Ok v) h = (λ _. (v.hunks, v.bytes, refl), λ _. refl)
+zero_accepts ns z (Err x) h = (λ e. unlisted ns x.number 0 z h e, λ q. impossible cc)
 
 module _ (file : List ℕ) (r : Answer) (a : Checks file r) where
   -- a refusal's number is one of these
-  pub number_listed : (x : Refusal) → r ≡ Refused x → (numbers_of r).number ∈ check_refusals
+  pub number_listed : (x : Refusal) → r ≡ Err x → (numbers_of r).number ∈ check_refusals
   number_listed x e = rw e (check_number file x (sym a.answer ∙ e))
 
   -- the number is 0 if and only if the check accepts
-  pub zero_exactly : ((numbers_of r).number ≡ 0) ↔ ((t : ℕ) × (n : ℕ) × (r ≡ Accepted t n))
+  pub zero_exactly : ((numbers_of r).number ≡ 0) ↔ ((t : ℕ) × (n : ℕ) × (r ≡ accepted t n))
   zero_exactly = zero_accepts check_refusals tt r (subst Answers (sym a.answer) (check_refuses file))

@@ -7,6 +7,7 @@ use mathlib.Core.List.{List, [], ◌∷◌, ◌++◌, append_assoc, append-nil}
 use native.Mathlib.Omega.{arith}
 use lib.ListN.{length}
 use borrow.Author.Tests.{lt-ltb, le-ltb, lt-leb, eq-eqb, ne_eqb}
+use Rattle.std.specs.Prelude.{Ok, Err}
 use Rattle.program.specs.Spaces.{Space}
 use Rattle.program.specs.Types as type
 use Rattle.words.specs.Word.{word_at, words_at}
@@ -16,14 +17,12 @@ use Rattle.program.specs.declared.reader.After.TheVariants as after
 use Rattle.program.specs.declared.reader.Cursor.{Cursor}
 use Rattle.program.specs.declared.reader.Mode.{Mode}
 use Rattle.program.specs.declared.reader.Mode.TheVariants as mode
-use Rattle.program.specs.declared.reader.Next.{Next}
-use Rattle.program.specs.declared.reader.Next.TheVariants.{On, Bad}
 use Rattle.program.specs.Page.{Hunk, joined, group_words, symbol_words, part_words, hunk_words, stored_words, total}
 use Rattle.program.specs.Begun.{PartBegun, Begun, a_part, a_count, a_number, an_offset, a_symbol, symbol_word}
 use Rattle.program.specs.Begun.{debug_length, debug_word, first, name_length, name_word, a_body, body_length}
 use Rattle.program.specs.Begun.{body_word, after_body, part_so_far, so_far, PartBegunFits, BegunFits}
 use Rattle.program.specs.Header.{total_of, space_of, start_at}
-use Rattle.program.specs.Reader.{turn, step_of}
+use Rattle.program.specs.Reader.{Next, turn, step_of}
 use Rattle.program.specs.Verdicts.{Stand, OfSpaces, Before, AllHunks}
 use Rattle.program.proofs.Coming.{Comes, begins, takes}
 use Rattle.program.proofs.Taken.{cursor, Goes, Front, skipped, passing, skipping, offsetting, groups_on}
@@ -163,10 +162,10 @@ module _ (file : List ℕ) (end : ℕ) (within : end ≤ length file) (G : Type 
       → Goes (Leads file end G) r ws
       → Leads file end G c (w ∷ ws)
   unfolding words_at
-  lead (On d) c w ws e g at r l x =
+  lead (Ok d) c w ws e g at r l x =
       let v : word_at file at ≡ w = cc in
       g (at + 4) (takes r (omega arith) (ap (step_of (total_of file) (space_of file) c) v ∙ e)) (omega arith) (cc)
-  lead (Bad n) c w ws e g at r l x = absurd g
+  lead (Err n) c w ws e g at r l x = absurd g
 
   along : (c : Cursor) (w : ℕ) (ws : List ℕ)
       → Goes (Leads file end G) (turn (total_of file) (space_of file) c w c.mode) ws → Leads file end G c (w ∷ ws)

@@ -5,6 +5,7 @@ use mathlib.Core.Path.{◌≡◌}
 use mathlib.Core.Logic.{◌≢◌, ◌⊎◌}
 use mathlib.Core.List.{List}
 use lib.ListN.{length}
+use Rattle.std.specs.Prelude.{Ok, Err}
 use Rattle.program.specs.Spaces.{Space}
 use Rattle.program.specs.Types as type
 use Rattle.answers.specs.Numbers as fault
@@ -16,7 +17,6 @@ use Rattle.program.specs.declared.reader.Mode.{Mode}
 use Rattle.program.specs.declared.reader.Mode.TheVariants.{Begin, NameLength, Body, Length, Stored, Part}
 use Rattle.program.specs.declared.reader.Mode.TheVariants.{Count, Number, Offset, Symbol, DebugLength, Skip}
 use Rattle.program.specs.declared.reader.Mode.TheVariants.{End}
-use Rattle.program.specs.declared.reader.Next.TheVariants.{On, Bad}
 use Rattle.program.specs.Header.{total_of, space_of, start_at}
 use Rattle.program.specs.Reader.{start, step_of}
 use Rattle.program.specs.Verdicts.{BadLength, GoodLength, HeadWord, Headed}
@@ -25,7 +25,7 @@ use Rattle.program.specs.Verdicts.{BadLength, GoodLength, HeadWord, Headed}
 pub data Comes (file : List ℕ) : Cursor → ℕ → Type 0 where
   begins : Comes file start (start_at file)
   takes : {c d : Cursor} {at : ℕ} → Comes file c at → at < length file
-      → step_of (total_of file) (space_of file) c (word_at file at) ≡ On d → Comes file d (at + 4)
+      → step_of (total_of file) (space_of file) c (word_at file at) ≡ Ok d → Comes file d (at + 4)
 
 -- 35 to 39: it comes to a word that it does not take
 pub record HunkWord (file : List ℕ) (f : Refusal) : Type 0 where
@@ -34,7 +34,7 @@ pub record HunkWord (file : List ℕ) (f : Refusal) : Type 0 where
   pub comes : Comes file cursor at
   pub there : at < length file
   pub number : ℕ
-  pub refuses : step_of (total_of file) (space_of file) cursor (word_at file at) ≡ Bad number
+  pub refuses : step_of (total_of file) (space_of file) cursor (word_at file at) ≡ Err number
   pub said : f ≡ refusal number at
 
 -- 31: it comes to the end of the file, and the last hunk has not ended

@@ -9,13 +9,13 @@ use native.Mathlib.Decide.{dec_lt}
 use lib.ListN.{length, get_or}
 use lib.Dec.{ltb, leb, eqb}
 use borrow.Author.Tests.{le-ltb, le-leb, eq-eqb, ne_eqb, ltb-false, leb-true, eqb-true, eqb-false}
+use Rattle.answers.specs.declared.Refusal.{Refusal}
+use Rattle.std.specs.Prelude.{Result, Ok}
 use Rattle.answers.specs.Numbers as fault
 use Rattle.program.specs.Types as type
 use Rattle.words.specs.Word.{word_at, words_at}
 use Rattle.answers.specs.Tests.{pick, must}
 use Rattle.answers.proofs.Tests.{must_passed, pick_passed}
-use Rattle.answers.specs.declared.Tested.{Tested}
-use Rattle.answers.specs.declared.Tested.TheVariants.{Passed}
 use Rattle.answers.proofs.Clashes.{impossible}
 use Rattle.program.specs.Spaces.{space_in, SpaceFits, space_fault}
 use Rattle.program.specs.Header.{total_of, head_fault, judge, heads}
@@ -64,11 +64,11 @@ split s (x ∷ l) rest at (suc n) e =
 
 -- ---- the tests pass
 
-judged : (v at : ℕ) (r : Tested) → v ≡ 0 → judge v at r ≡ r
+judged : (v at : ℕ) (r : Result Unit Refusal) → v ≡ 0 → judge v at r ≡ r
 judged v at r e = rw e
 
 pub heads_pass : (file : List ℕ) (n i : ℕ) → 4 * (i + n) ≤ length file
-    → ((j : ℕ) → i ≤ j → j < i + n → head_fault (total_of file) j (word_at file (4 * j)) ≡ 0) → heads file i n ≡ Passed
+    → ((j : ℕ) → i ≤ j → j < i + n → head_fault (total_of file) j (word_at file (4 * j)) ≡ 0) → heads file i n ≡ Ok tt
 unfolding heads pick
 heads_pass file zero i l f = refl
 heads_pass file (suc n) i l f =
@@ -161,11 +161,11 @@ module _ (t w : ℕ) where
   both_late (suc (suc (suc (suc zero)))) e = absurd (must_not (eqb (w + 1) t) fault.header_word (λ z. omega arith) e)
   both_late (suc (suc (suc (suc (suc i))))) e = omega arith
 
-judge_pass : (v at : ℕ) (r : Tested) → judge v at r ≡ Passed → (v ≡ 0) × (r ≡ Passed)
+judge_pass : (v at : ℕ) (r : Result Unit Refusal) → judge v at r ≡ Ok tt → (v ≡ 0) × (r ≡ Ok tt)
 judge_pass zero at r e = (refl, e)
 judge_pass (suc v) at r e = impossible cc
 
-pub each_passes : (file : List ℕ) (n i : ℕ) → heads file i n ≡ Passed → (j : ℕ) → i ≤ j → j < i + n → HeadPasses file j
+pub each_passes : (file : List ℕ) (n i : ℕ) → heads file i n ≡ Ok tt → (j : ℕ) → i ≤ j → j < i + n → HeadPasses file j
 unfolding heads
 each_passes file zero i e j l h = absurd (omega arith)
 each_passes file (suc n) i e j l h =

@@ -9,11 +9,9 @@ pub mod Heading
 pub mod Heads
 -- what holds of the cursor while a file is read
 pub mod CursorsFit
--- what a match on the reader's mode leaves
-pub mod Modes
 -- the walk over the words, and the whole check
 pub mod Walks
--- passes over what a file asks for
+-- what a file asks for, word by word
 pub mod Passes
 -- hunks written out are taken, and accepted
 pub mod Taken
@@ -35,3 +33,7 @@ pub mod Refusing
 pub mod Runs
 -- the answer as numbers: `number_listed`, `zero_exactly`
 pub mod AsNumbers
+-- a choice by a test of two numbers
+pub mod Choices
+-- a fault said of a place
+pub mod Mapped

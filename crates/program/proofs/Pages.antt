@@ -8,20 +8,17 @@ use mathlib.Core.Bool.{Bool, true, false}
 use native.Mathlib.Omega.{arith}
 use lib.ListN.{length, length-map, get_or}
 use borrow.Author.Tests.{eq-eqb, ne_eqb, eqb-true}
+use Rattle.std.specs.Prelude.{Result, Ok, Err}
 use Rattle.program.specs.Types as type
 use Rattle.words.specs.Word.{word_at, words_at}
 use Rattle.answers.specs.Tests.{pick}
 use Rattle.answers.specs.declared.Refusal.{Refusal}
-use Rattle.answers.specs.declared.Tested.{Tested}
-use Rattle.answers.specs.declared.Tested.TheVariants.{Passed, Failed}
-use Rattle.program.specs.declared.check.Answer.{Answer}
-use Rattle.program.specs.declared.check.Answer.TheVariants.{Accepted, Refused}
 use Rattle.program.specs.declared.reader.Cursor.{Cursor}
 use Rattle.program.specs.Page.{Hunk, joined, hunk_words, space_words, head_words, written, Each, HunkFits}
 use Rattle.program.specs.Page.{Program, Holds, total}
 use Rattle.program.specs.Spaces.{Space, space_word, space_in, SpaceFits}
 use Rattle.program.specs.Header.{total_of, space_of, start_at, head_fault, heads}
-use Rattle.program.specs.Check.{walk_of, and, check_of}
+use Rattle.program.specs.Check.{Answer, accepted, walk_of, and, check_of}
 use Rattle.program.specs.Cursors.{HeaderFits}
 use Rattle.program.specs.Verdicts.{OfSpaces, AllHunks}
 use Rattle.program.proofs.Answers.{not_accepted}
@@ -93,7 +90,7 @@ module _ (file : List ℕ) (hs : List Hunk) (p : Program hs) (whole : length fil
       spaces_of (total_of file) (space_of file) hs 0 (rw is_total p.hunks) (omega (arith, is_total))
       (λ i l. let a : 0 + i ≡ i = omega arith in rw a (is_space i l))
 
-  heads_first : heads file 0 5 ≡ Passed
+  heads_first : heads file 0 5 ≡ Ok tt
   heads_first = heads_pass file 5 0 (omega (arith, is_long)) go
     where
       go : (j : ℕ) → 0 ≤ j → j < 5 → head_fault (total_of file) j (word_at file (4 * j)) ≡ 0
@@ -107,7 +104,7 @@ module _ (file : List ℕ) (hs : List Hunk) (p : Program hs) (whole : length fil
           fault_4 (total_of file) (word_at file 16) (omega (arith, is_total, p.least, l))
       go (suc (suc (suc (suc (suc j))))) a b = absurd (omega arith)
 
-  heads_second : heads file 5 (total_of file) ≡ Passed
+  heads_second : heads file 5 (total_of file) ≡ Ok tt
   unfolding space_of
   heads_second =
       heads_pass file (total_of file) 5 (omega (arith, is_long, is_total))
@@ -126,49 +123,49 @@ module _ (file : List ℕ) (hs : List Hunk) (p : Program hs) (whole : length fil
       omega (arith, is_total, head_length) in
       rw (b, a) cut.others
 
-  walk_taken : walk_of file ≡ Accepted (total_of file) (4 * total hs)
+  walk_taken : walk_of file ≡ accepted (total_of file) (4 * total hs)
   unfolding pick
   walk_taken =
       let l : 0 ≡ total_of file → ⊥ = λ z. omega (arith, is_total, p.least) in
       let g = hunks_on (total_of file) (space_of file) (length file) (4 * total hs) hs 0 0 all_spaces (omega arith) in
       rw rest_words (rw (ne_eqb 0 (total_of file) l) at (g (start_at file)))
 
-  is_accepted : check_of file ≡ Accepted (length hs) (4 * total hs)
+  is_accepted : check_of file ≡ accepted (length hs) (4 * total hs)
   unfolding check_of pick
   is_accepted =
       rw (ne_eqb (length file) 0 (omega (arith, is_long)), eq-eqb (length file % 4) 0 whole, heads_first, heads_second)
-      (walk_taken ∙ ap (λ (k : ℕ). Accepted k (4 * total hs)) is_total)
+      (walk_taken ∙ ap (λ (k : ℕ). accepted k (4 * total hs)) is_total)
 
 pub page_accepted : (file : List ℕ) (hs : List Hunk) → Holds file hs
-    → check_of file ≡ Accepted (length hs) (4 * total hs)
+    → check_of file ≡ accepted (length hs) (4 * total hs)
 page_accepted file hs h = is_accepted file hs h.fits h.whole h.words
 
 -- ---- what is accepted is written
 
-pick_no : (b : Bool) (r : Refusal) (a : Answer) (t n : ℕ) → pick b (Refused r) a ≡ Accepted t n
-    → (b ≡ false) × (a ≡ Accepted t n)
+pick_no : (b : Bool) (r : Refusal) (a : Answer) (t n : ℕ) → pick b (Err r) a ≡ accepted t n
+    → (b ≡ false) × (a ≡ accepted t n)
 unfolding pick
 pick_no true r a t n e = not_accepted e
 pick_no false r a t n e = (refl, e)
 
-pick_yes : (b : Bool) (r : Refusal) (a : Answer) (t n : ℕ) → pick b a (Refused r) ≡ Accepted t n
-    → (b ≡ true) × (a ≡ Accepted t n)
+pick_yes : (b : Bool) (r : Refusal) (a : Answer) (t n : ℕ) → pick b a (Err r) ≡ accepted t n
+    → (b ≡ true) × (a ≡ accepted t n)
 unfolding pick
 pick_yes true r a t n e = (refl, e)
 pick_yes false r a t n e = not_accepted e
 
-and_both : (r : Tested) (a : Answer) (t n : ℕ) → and r a ≡ Accepted t n → (r ≡ Passed) × (a ≡ Accepted t n)
-and_both Passed a t n e = (refl, e)
-and_both (Failed r) a t n e = not_accepted e
+and_both : (r : Result Unit Refusal) (a : Answer) (t n : ℕ) → and r a ≡ accepted t n → (r ≡ Ok tt) × (a ≡ accepted t n)
+and_both (Ok u) a t n e = (refl, e)
+and_both (Err r) a t n e = not_accepted e
 
 -- what the check has found
 record Read (file : List ℕ) (t n : ℕ) : Type 0 where
   whole : length file % 4 ≡ 0
-  five : heads file 0 5 ≡ Passed
-  sized : heads file 5 (total_of file) ≡ Passed
-  hunks : walk_of file ≡ Accepted t n
+  five : heads file 0 5 ≡ Ok tt
+  sized : heads file 5 (total_of file) ≡ Ok tt
+  hunks : walk_of file ≡ accepted t n
 
-accepted_read : (file : List ℕ) (t n : ℕ) → check_of file ≡ Accepted t n → Read file t n
+accepted_read : (file : List ℕ) (t n : ℕ) → check_of file ≡ accepted t n → Read file t n
 unfolding check_of
 accepted_read file t n e =
     let a = pick_no _ _ _ t n e in
@@ -241,10 +238,10 @@ module _ (file : List ℕ) (t n : ℕ) (r : Read file t n) where
     },
   )
 
-pub accepted_page : (file : List ℕ) (t n : ℕ) → check_of file ≡ Accepted t n → (hs : List Hunk) × Holds file hs
+pub accepted_page : (file : List ℕ) (t n : ℕ) → check_of file ≡ accepted t n → (hs : List Hunk) × Holds file hs
 accepted_page file t n e = read file t n (accepted_read file t n e)
 
-pub page : (file : List ℕ) → ((t : ℕ) × (n : ℕ) × (check_of file ≡ Accepted t n)) ↔ ((hs : List Hunk) × Holds file hs)
+pub page : (file : List ℕ) → ((t : ℕ) × (n : ℕ) × (check_of file ≡ accepted t n)) ↔ ((hs : List Hunk) × Holds file hs)
 page file = (
   λ a. accepted_page file a.0 a.1 a.2,
   λ b. (length b.0, 4 * total b.0, page_accepted file b.0 b.1),

@@ -11,6 +11,7 @@ use native.Mathlib.Decide.{dec_lt}
 use lib.Dec.{ltb, leb, eqb}
 use lib.ListN.{length}
 use borrow.Author.Tests.{eqb-true, eqb-false, ltb-true, ltb-false, leb-true, lt-ltb, le-ltb, le-leb, eq-eqb, ne_eqb}
+use Rattle.std.specs.Prelude.{Result, Ok, Err}
 use Rattle.program.specs.Spaces.{Space, space_in, space_fault}
 use Rattle.program.specs.Types as type
 use Rattle.answers.specs.Numbers as fault
@@ -19,20 +20,15 @@ use Rattle.words.proofs.Words.{word_at_lt}
 use Rattle.answers.specs.Tests.{pick}
 use Rattle.answers.specs.Refusals.{refusal}
 use Rattle.answers.specs.declared.Refusal.{Refusal}
-use Rattle.answers.specs.declared.Tested.{Tested}
-use Rattle.answers.specs.declared.Tested.TheVariants.{Passed, Failed}
 use Rattle.answers.proofs.Clashes.{impossible}
-use Rattle.program.specs.declared.check.Answer.{Answer}
-use Rattle.program.specs.declared.check.Answer.TheVariants.{Accepted, Refused}
 use Rattle.program.specs.declared.reader.Cursor.{Cursor}
 use Rattle.program.specs.declared.reader.Mode.{Mode}
 use Rattle.program.specs.declared.reader.Mode.TheVariants.{Begin, NameLength, Body, Length, Stored, Part}
 use Rattle.program.specs.declared.reader.Mode.TheVariants.{Count, Number, Offset, Symbol, DebugLength, Skip}
 use Rattle.program.specs.declared.reader.Mode.TheVariants.{End}
-use Rattle.program.specs.declared.reader.Next.TheVariants.{On, Bad}
 use Rattle.program.specs.Header.{total_of, space_of, head_fault, judge, heads}
-use Rattle.program.specs.Reader.{on, body_of, end_of, turn, step_of}
-use Rattle.program.specs.Check.{refuse, ended_of, walk_of, and, check_of}
+use Rattle.program.specs.Reader.{Next, on, body_of, end_of, turn, step_of}
+use Rattle.program.specs.Check.{Answer, refuse, ended_of, walk_of, and, check_of}
 use Rattle.program.specs.Cursors.{HeaderFits}
 use Rattle.program.specs.Page.{Hunk, stored_words, OffsetFits, Holds, total}
 use Rattle.program.specs.Begun.{PartBegun, Begun, a_part, a_count, a_number, an_offset, a_symbol, symbol_word}
@@ -56,7 +52,7 @@ use Rattle.program.proofs.Walks.{walk_bad, walk_end}
 
 -- ---- the header
 
-failed_same : (r f : Refusal) → Failed r ≡ Failed f → f ≡ r
+failed_same : (r f : Refusal) → ◌≡◌ {A = Result Unit Refusal} (Err r) (Err f) → f ≡ r
 failed_same r f e = cc
 
 passes_more : (file : List ℕ) (i : ℕ) → ((j : ℕ) → j < i → HeadPasses file j) → HeadPasses file i → (j : ℕ)
@@ -69,15 +65,15 @@ passes_more file i b x j h = go (dec_lt j i)
 
 heads_why : (file : List ℕ) (f : Refusal) (n i : ℕ) → ((j : ℕ) → i ≤ j → j < i + n → OfHeader file j)
     → ((j : ℕ) → j < i → HeadPasses file j)
-    → heads file i n ≡ Failed f → HeadWord file f
+    → heads file i n ≡ Err f → HeadWord file f
 unfolding heads pick
 heads_why file f zero i w b e = not_failed e
 heads_why file f (suc n) i w b e =
     long (ltb (length file) (4 * i + 4)) refl e
     (heads_why file f n (i + 1) (λ j l h. w j (omega arith) (omega arith)))
   where
-    wrong : (v : ℕ) → fault_at file i ≡ v → 4 * i + 4 ≤ length file → judge v (4 * i) (heads file (i + 1) n) ≡ Failed f
-        → (((j : ℕ) → j < i + 1 → HeadPasses file j) → heads file (i + 1) n ≡ Failed f → HeadWord file f)
+    wrong : (v : ℕ) → fault_at file i ≡ v → 4 * i + 4 ≤ length file → judge v (4 * i) (heads file (i + 1) n) ≡ Err f
+        → (((j : ℕ) → j < i + 1 → HeadPasses file j) → heads file (i + 1) n ≡ Err f → HeadWord file f)
         → HeadWord file f
     wrong zero q l x k = k (passes_more file i b (l, q)) x
     wrong (suc v) q l x k =
@@ -89,9 +85,9 @@ heads_why file f (suc n) i w b e =
         }
 
     long : (t : Bool) → ltb (length file) (4 * i + 4) ≡ t
-        → pick t (Failed (refusal fault.early_end (length file)))
-        (judge (fault_at file i) (4 * i) (heads file (i + 1) n)) ≡ Failed f
-        → (((j : ℕ) → j < i + 1 → HeadPasses file j) → heads file (i + 1) n ≡ Failed f → HeadWord file f)
+        → pick t (Err (refusal fault.early_end (length file)))
+        (judge (fault_at file i) (4 * i) (heads file (i + 1) n)) ≡ Err f
+        → (((j : ℕ) → j < i + 1 → HeadPasses file j) → heads file (i + 1) n ≡ Err f → HeadWord file f)
         → HeadWord file f
     long true q x k =
         record {
@@ -104,13 +100,13 @@ heads_why file f (suc n) i w b e =
 
 -- ---- the hunks
 
-refused_same : (r f : Refusal) → Refused r ≡ Refused f → f ≡ r
+refused_same : (r f : Refusal) → ◌≡◌ {A = Answer} (Err r) (Err f) → f ≡ r
 refused_same r f e = cc
 
-on_bad : {X : Type 0} (d : Cursor) (v : ℕ) → On d ≡ Bad v → X
+on_bad : {X : Type 0} (d : Cursor) (v : ℕ) → ◌≡◌ {A = Next} (Ok d) (Err v) → X
 on_bad d v e = impossible cc
 
-walk_why : (file : List ℕ) (f : Refusal) (a : Answer) → Stops file a → a ≡ Refused f → HunkWord file f ⊎ Missing file f
+walk_why : (file : List ℕ) (f : Refusal) (a : Answer) → Stops file a → a ≡ Err f → HunkWord file f ⊎ Missing file f
 walk_why file f a (inr k) e = inl (rw (refused_same _ f (sym k.2 ∙ e)) k.1)
 walk_why file f a (inl k) e = go (ended (length file) k.0 k.0.mode)
   where
@@ -126,7 +122,7 @@ walk_why file f a (inl k) e = go (ended (length file) k.0 k.0.mode)
 
 -- ---- the whole check
 
-all_pass : (file : List ℕ) → heads file 0 5 ≡ Passed → heads file 5 (total_of file) ≡ Passed → Headed file
+all_pass : (file : List ℕ) → heads file 0 5 ≡ Ok tt → heads file 5 (total_of file) ≡ Ok tt → Headed file
 all_pass file p q j h = go (dec_lt j 5)
   where
     go : Dec (j < 5) → HeadPasses file j
@@ -134,32 +130,32 @@ all_pass file p q j h = go (dec_lt j 5)
     go (no l) = each_passes file (total_of file) 5 q j (omega arith) h
 
 module _ (file : List ℕ) (f : Refusal) where
-  all_why : GoodLength file → (a b : Tested) → heads file 0 5 ≡ a → heads file 5 (total_of file) ≡ b
-      → and a (and b (walk_of file)) ≡ Refused f → Because file f
-  all_why w (Failed r) b p q e =
+  all_why : GoodLength file → (a b : Result Unit Refusal) → heads file 0 5 ≡ a → heads file 5 (total_of file) ≡ b
+      → and a (and b (walk_of file)) ≡ Err f → Because file f
+  all_why w (Err r) b p q e =
       inr (inl (
         w,
         heads_why file f 5 0 (λ j l h. omega arith) (λ j h. absurd (omega arith))
-            (p ∙ ap Failed (sym (refused_same r f e))),
+            (p ∙ ap Err (sym (refused_same r f e))),
       ))
-  all_why w Passed (Failed r) p q e =
+  all_why w (Ok u) (Err r) p q e =
       inr (inl (
         w,
         heads_why file f (total_of file) 5 (λ j l h. h) (λ j h. each_passes file 5 0 p j (omega arith) h)
-            (q ∙ ap Failed (sym (refused_same r f e))),
+            (q ∙ ap Err (sym (refused_same r f e))),
       ))
-  all_why w Passed Passed p q e =
+  all_why w (Ok u) (Ok x) p q e =
       inr (inr (w, all_pass file p q, walk_why file f (walk_of file) (walk_stops file w.1 (header_fits file p q)) e))
 
   -- the check refuses for one of these reasons
-  pub check_why : check_of file ≡ Refused f → Because file f
+  pub check_why : check_of file ≡ Err f → Because file f
   unfolding check_of pick
   check_why e = empty (eqb (length file) 0) refl (eqb (length file % 4) 0) refl e
     where
       empty : (x : Bool) → eqb (length file) 0 ≡ x → (y : Bool) → eqb (length file % 4) 0 ≡ y
           → pick x (refuse fault.file_length 0)
           (pick y (and (heads file 0 5) (and (heads file 5 (total_of file)) (walk_of file)))
-          (refuse fault.file_length 0)) ≡ Refused f
+          (refuse fault.file_length 0)) ≡ Err f
           → Because file f
       empty true p y q e = inl (inl (eqb-true _ _ p), refused_same _ f e)
       empty false p false q e = inl (inr (eqb-false _ _ q), refused_same _ f e)
@@ -170,10 +166,10 @@ module _ (file : List ℕ) (f : Refusal) where
 
 -- the five words, then the size words
 module _ (file : List ℕ) where
-  pass_five : ((j : ℕ) → j < 5 → HeadPasses file j) → heads file 0 5 ≡ Passed
+  pass_five : ((j : ℕ) → j < 5 → HeadPasses file j) → heads file 0 5 ≡ Ok tt
   pass_five g = heads_pass file 5 0 (omega (arith, (g 4 (omega arith)).0)) (λ j l q. (g j q).1)
 
-  pass_size_words : Headed file → heads file 5 (total_of file) ≡ Passed
+  pass_size_words : Headed file → heads file 5 (total_of file) ≡ Ok tt
   pass_size_words g =
       heads_pass file (total_of file) 5 (omega (arith, (g (4 + total_of file) (omega arith)).0)) (λ j l q. (g j q).1)
 
@@ -181,35 +177,35 @@ module _ (file : List ℕ) where
   headed_fits g = header_fits file (pass_five (λ j q. g j (omega arith))) (pass_size_words g)
 
 module _ (file : List ℕ) (f : Refusal) where
-  heads_fail : (w : HeadWord file f) (n i : ℕ) → i ≤ w.word → w.word < i + n → heads file i n ≡ Failed f
+  heads_fail : (w : HeadWord file f) (n i : ℕ) → i ≤ w.word → w.word < i + n → heads file i n ≡ Err f
   unfolding heads pick
   heads_fail w zero i l h = absurd (omega arith)
   heads_fail w (suc n) i l h = go (dec_lt i w.word) (heads_fail w n (i + 1))
     where
-      here : i ≡ w.word → HeadFails file w.word f → heads file i (suc n) ≡ Failed f
+      here : i ≡ w.word → HeadFails file w.word f → heads file i (suc n) ≡ Err f
       here e (inl c) = rw (e, lt-ltb _ _ c.0, c.1)
       here e (inr c) = rw (e, le-ltb _ _ c.0, c.2) (judged (fault_at file w.word) c.1)
         where
           judged : (v : ℕ) → v ≢ 0
-              → judge v (4 * w.word) (heads file (w.word + 1) n) ≡ Failed (refusal v (4 * w.word))
+              → judge v (4 * w.word) (heads file (w.word + 1) n) ≡ Err (refusal v (4 * w.word))
           judged zero z = absurd (z refl)
           judged (suc v) z = refl
 
-      go : Dec (i < w.word) → (i + 1 ≤ w.word → w.word < i + 1 + n → heads file (i + 1) n ≡ Failed f)
-          → heads file i (suc n) ≡ Failed f
+      go : Dec (i < w.word) → (i + 1 ≤ w.word → w.word < i + 1 + n → heads file (i + 1) n ≡ Err f)
+          → heads file i (suc n) ≡ Err f
       go (yes q) k = let x = w.before i q in rw (le-ltb _ _ x.0, x.1) (k (omega arith) (omega arith))
       go (no q) k = here (omega arith) w.cause
 
   -- a reader that comes there refuses there
-  walk_refuses : GoodLength file → HeaderFits file → HunkWord file f ⊎ Missing file f → walk_of file ≡ Refused f
+  walk_refuses : GoodLength file → HeaderFits file → HunkWord file f ⊎ Missing file f → walk_of file ≡ Err f
   walk_refuses w s (inl c) =
       let r = comes_reads file w.1 s c.comes in
       r.rest ∙ walk_bad file c.at c.cursor (word_at file c.at) _ w.1 r.aligned c.there refl refl
-      c.number c.refuses ∙ ap Refused (sym c.said)
+      c.number c.refuses ∙ ap Err (sym c.said)
   walk_refuses w s (inr c) =
       let r = comes_reads file w.1 s c.comes in
       r.rest ∙ walk_end file (length file) c.cursor (omega arith)
-      ∙ go (ended (length file) c.cursor c.cursor.mode) ∙ ap Refused (sym c.said)
+      ∙ go (ended (length file) c.cursor c.cursor.mode) ∙ ap Err (sym c.said)
     where
       go : Ends (length file) c.cursor c.cursor.mode
           → ended_of (length file) c.cursor c.cursor.mode ≡ refuse fault.early_end (length file)
@@ -221,10 +217,10 @@ module _ (file : List ℕ) (f : Refusal) where
   unfolding check_of pick
   whole_check w = rw (ne_eqb _ _ w.0, eq-eqb _ _ w.1)
 
-  head_refuses : HeadWord file f → and (heads file 0 5) (and (heads file 5 (total_of file)) (walk_of file)) ≡ Refused f
+  head_refuses : HeadWord file f → and (heads file 0 5) (and (heads file 5 (total_of file)) (walk_of file)) ≡ Err f
   head_refuses w = go (dec_lt w.word 5)
     where
-      go : Dec (w.word < 5) → and (heads file 0 5) (and (heads file 5 (total_of file)) (walk_of file)) ≡ Refused f
+      go : Dec (w.word < 5) → and (heads file 0 5) (and (heads file 5 (total_of file)) (walk_of file)) ≡ Err f
       go (yes h) = rw (heads_fail w 5 0 (omega arith) (omega arith))
       go (no h) =
           rw (
@@ -233,9 +229,9 @@ module _ (file : List ℕ) (f : Refusal) where
           )
 
   -- each is given exactly then
-  pub why_check : Because file f → check_of file ≡ Refused f
+  pub why_check : Because file f → check_of file ≡ Err f
   unfolding check_of pick
-  why_check (inl u) = short u.0 ∙ ap Refused (sym u.1)
+  why_check (inl u) = short u.0 ∙ ap Err (sym u.1)
     where
       short : BadLength file → check_of file ≡ refuse fault.file_length 0
       short (inl h) = rw (eq-eqb _ _ h)
@@ -255,38 +251,38 @@ module _ (file : List ℕ) (f : Refusal) where
 
 -- ---- which word is not taken, by what the reader expects: both ways
 
-bad_same : (a v : ℕ) → Bad a ≡ Bad v → v ≡ a
+bad_same : (a v : ℕ) → ◌≡◌ {A = Next} (Err a) (Err v) → v ≡ a
 bad_same a v e = cc
 
 module _ (t : ℕ) (space : ℕ → Space) (c : Cursor) (w v : ℕ) where
   -- either way the reader goes on
-  both_on : {Q : Type 0} (b : Bool) (x y : Cursor) → pick b (On x) (On y) ≡ Bad v → Q
+  both_on : {Q : Type 0} (b : Bool) (x y : Cursor) → pick {X = Next} b (Ok x) (Ok y) ≡ Err v → Q
   unfolding pick
   both_on true x y e = on_bad x v e
   both_on false x y e = on_bad y v e
 
-  body_why : body_of c w ≡ Bad v → (v ≡ fault.misplaced_block) × (w ≢ type.code) × (w ≢ type.stores) × (w ≢ type.bss)
+  body_why : body_of c w ≡ Err v → (v ≡ fault.misplaced_block) × (w ≢ type.code) × (w ≢ type.stores) × (w ≢ type.bss)
   body_why =
-      pick_on (eqb w type.code) (on c (Length w)) _ (Bad v) (λ _. on_bad _ v)
-      (λ p. pick_on (eqb w type.stores) (on c (Length w)) _ (Bad v) (λ _. on_bad _ v)
-      (λ q. pick_on (eqb w type.bss) (on c (Length w)) (Bad fault.misplaced_block) (Bad v) (λ _. on_bad _ v)
+      pick_on (eqb w type.code) (on c (Length w)) _ (Err v) (λ _. on_bad _ v)
+      (λ p. pick_on (eqb w type.stores) (on c (Length w)) _ (Err v) (λ _. on_bad _ v)
+      (λ q. pick_on (eqb w type.bss) (on c (Length w)) (Err fault.misplaced_block) (Err v) (λ _. on_bad _ v)
       (λ r e. (bad_same fault.misplaced_block v e, eqb-false _ _ p, eqb-false _ _ q, eqb-false _ _ r))))
 
-  turn_why : (m : Mode) → turn t space c w m ≡ Bad v → Refuses t space c w v m
+  turn_why : (m : Mode) → turn t space c w m ≡ Err v → Refuses t space c w v m
   turn_why Begin =
-      pick_on (eqb w type.name) (on c NameLength) (body_of c w) (Bad v) (λ _. on_bad _ v)
+      pick_on (eqb w type.name) (on c NameLength) (body_of c w) (Err v) (λ _. on_bad _ v)
       (λ p e. let b = body_why e in (b.0, eqb-false _ _ p, b.1, b.2, b.3))
   turn_why NameLength = λ e. both_on (eqb w 0) _ _ e
   turn_why Body = λ e. body_why e
   turn_why (Length k) =
-      pick_on (ltb (space c.hunk).size w) (Bad fault.body_length) _ (Bad v)
+      pick_on (ltb (space c.hunk).size w) (Err fault.body_length) _ (Err v)
       (λ p e. (bad_same fault.body_length v e, ltb-true _ _ p)) (λ p e. both_on _ _ _ e)
   turn_why (Stored i) = λ e. both_on _ _ _ e
   turn_why Part =
-      pick_on (eqb w type.relocation) (on c Count) _ (Bad v) (λ _. on_bad _ v)
-      (λ p. pick_on (eqb w type.symbols) (on c Symbol) _ (Bad v) (λ _. on_bad _ v)
-      (λ q. pick_on (eqb w type.debug) (on c DebugLength) _ (Bad v) (λ _. on_bad _ v)
-      (λ r. pick_on (eqb w type.end) (end_of t space c) (Bad fault.misplaced_block) (Bad v) (λ _. on_bad _ v)
+      pick_on (eqb w type.relocation) (on c Count) _ (Err v) (λ _. on_bad _ v)
+      (λ p. pick_on (eqb w type.symbols) (on c Symbol) _ (Err v) (λ _. on_bad _ v)
+      (λ q. pick_on (eqb w type.debug) (on c DebugLength) _ (Err v) (λ _. on_bad _ v)
+      (λ r. pick_on (eqb w type.end) (end_of t space c) (Err fault.misplaced_block) (Err v) (λ _. on_bad _ v)
       (λ s e. (
         bad_same fault.misplaced_block v e,
         eqb-false _ _ p,
@@ -296,27 +292,27 @@ module _ (t : ℕ) (space : ℕ → Space) (c : Cursor) (w v : ℕ) where
       )))))
   turn_why Count = λ e. both_on _ _ _ e
   turn_why (Number n) =
-      pick_on (ltb w t) (on c (Offset n w)) (Bad fault.bad_target) (Bad v) (λ _. on_bad _ v)
+      pick_on (ltb w t) (on c (Offset n w)) (Err fault.bad_target) (Err v) (λ _. on_bad _ v)
       (λ p e. (bad_same fault.bad_target v e, ltb-false _ _ p))
   turn_why (Offset n k) =
-      pick_on (eqb (w % 2) 0) _ (Bad fault.bad_target) (Bad v)
-      (λ _. pick_on (ltb (4 * c.stored) (w + 4)) (Bad fault.bad_target) _ (Bad v)
+      pick_on (eqb (w % 2) 0) _ (Err fault.bad_target) (Err v)
+      (λ _. pick_on (ltb (4 * c.stored) (w + 4)) (Err fault.bad_target) _ (Err v)
       (λ p e. (bad_same fault.bad_target v e, inr (ltb-true _ _ p))) (λ p e. both_on _ _ _ e))
       (λ p e. (bad_same fault.bad_target v e, inl (eqb-false _ _ p)))
   turn_why Symbol =
-      pick_on (eqb w 0) (on c Part) _ (Bad v) (λ _. on_bad _ v)
-      (λ _. pick_on (leb 0x1000000 w) (Bad fault.symbol_type) _ (Bad v)
+      pick_on (eqb w 0) (on c Part) _ (Err v) (λ _. on_bad _ v)
+      (λ _. pick_on (leb 0x1000000 w) (Err fault.symbol_type) _ (Err v)
       (λ p e. (bad_same fault.symbol_type v e, leb-true _ _ p)) (λ _. on_bad _ v))
   turn_why DebugLength = λ e. both_on _ _ _ e
   turn_why (Skip n a) = λ e. both_on _ _ _ e
   turn_why End = λ e. bad_same fault.trailing_words v e
 
-  body_refused : v ≡ fault.misplaced_block → w ≢ type.code → w ≢ type.stores → w ≢ type.bss → body_of c w ≡ Bad v
+  body_refused : v ≡ fault.misplaced_block → w ≢ type.code → w ≢ type.stores → w ≢ type.bss → body_of c w ≡ Err v
   unfolding pick
   body_refused e p q r = rw (ne_eqb w type.code p, ne_eqb w type.stores q, ne_eqb w type.bss r, e)
 
   -- the same from right to left
-  why_turn : (m : Mode) → Refuses t space c w v m → turn t space c w m ≡ Bad v
+  why_turn : (m : Mode) → Refuses t space c w v m → turn t space c w m ≡ Err v
   unfolding pick
   why_turn Begin h = rw (ne_eqb w type.name h.1) (body_refused h.0 h.2 h.3 h.4)
   why_turn Body h = body_refused h.0 h.1 h.2 h.3
@@ -333,13 +329,13 @@ module _ (t : ℕ) (space : ℕ → Space) (c : Cursor) (w v : ℕ) where
   why_turn (Offset n k) h = go (eqb (w % 2) 0) refl h.1
     where
       go : (b : Bool) → eqb (w % 2) 0 ≡ b → (w % 2 ≢ 0) ⊎ (4 * c.stored < w + 4)
-          → pick b (pick (ltb (4 * c.stored) (w + 4)) (Bad fault.bad_target)
-          (pick (eqb n 0) (on c Count) (on c (Offset (n - 1) k)))) (Bad fault.bad_target) ≡ Bad v
-      go false q x = ap Bad (sym h.0)
+          → pick b (pick (ltb (4 * c.stored) (w + 4)) (Err fault.bad_target)
+          (pick (eqb n 0) (on c Count) (on c (Offset (n - 1) k)))) (Err fault.bad_target) ≡ Err v
+      go false q x = ap Err (sym h.0)
       go true q (inl x) = absurd (x (eqb-true _ _ q))
       go true q (inr x) = rw (lt-ltb _ _ x, h.0)
   why_turn Symbol h = rw (ne_eqb w 0 (omega (arith, h.1)), le-leb _ _ h.1, h.0)
-  why_turn End h = ap Bad (sym h)
+  why_turn End h = ap Err (sym h)
   why_turn NameLength h = absurd h
   why_turn (Stored i) h = absurd h
   why_turn Count h = absurd h
@@ -347,7 +343,7 @@ module _ (t : ℕ) (space : ℕ → Space) (c : Cursor) (w v : ℕ) where
   why_turn (Skip n a) h = absurd h
 
   -- a word is not taken, with the number v, if and only if it may not stand there
-  pub step_why : (step_of t space c w ≡ Bad v) ↔ Refuses t space c w v c.mode
+  pub step_why : (step_of t space c w ≡ Err v) ↔ Refuses t space c w v c.mode
   unfolding step_of
   step_why = (turn_why c.mode, why_turn c.mode)
 
@@ -494,7 +490,7 @@ module _ (file : List ℕ) (f : Refusal) where
       go s (inr (inr k)) = inr (says_missing file r.0.1 s f k)
 
   -- the check refuses a file, with a number and a place, if and only if `Says` says so
-  pub refused_exactly : (check_of file ≡ Refused f) ↔ Says file f
+  pub refused_exactly : (check_of file ≡ Err f) ↔ Says file f
   refused_exactly = (λ e. because_says (check_why file f e), λ r. why_check file f (says_because r))
 
 -- a file holds hunks or has a refusal; never both, and no two refusals
@@ -503,8 +499,8 @@ module _ (file : List ℕ) where
   held_or_said = go (check_of file) refl
     where
       go : (a : Answer) → check_of file ≡ a → ((hs : List Hunk) × Holds file hs) ⊎ ((f : Refusal) × Says file f)
-      go (Accepted t n) e = inl (accepted_page file t n e)
-      go (Refused f) e = inr (f, (refused_exactly file f).0 e)
+      go (Ok v) e = inl (accepted_page file v.hunks v.bytes e)
+      go (Err f) e = inr (f, (refused_exactly file f).0 e)
 
   pub held_not_said : (hs : List Hunk) (f : Refusal) → Holds file hs → Says file f → ⊥
   held_not_said hs f h r = not_refused (sym (page_accepted file hs h) ∙ (refused_exactly file f).1 r)
@@ -532,7 +528,7 @@ hunks_not_both t space c w v DebugLength r e = r
 hunks_not_both t space c w v (Skip n a) r e = r
 
 module _ (file : List ℕ) (bytes : Bytes file) (p : ℕ) where
-  both_given : BothMemories file p → check_of file ≡ Refused (refusal fault.both_memories p)
+  both_given : BothMemories file p → check_of file ≡ Err (refusal fault.both_memories p)
   both_given b =
       (refused_exactly file (refusal fault.both_memories p)).1
       (inr (inl (
@@ -602,5 +598,5 @@ module _ (file : List ℕ) (bytes : Bytes file) (p : ℕ) where
 
   -- 43 is given at byte p if and only if the first word of the header that is missing or wrong stands there, is a
   -- size word, and sets bits 30 and 31
-  pub both_exactly : (check_of file ≡ Refused (refusal fault.both_memories p)) ↔ BothMemories file p
+  pub both_exactly : (check_of file ≡ Err (refusal fault.both_memories p)) ↔ BothMemories file p
   both_exactly = (λ e. both_found (check_why file _ e), both_given)

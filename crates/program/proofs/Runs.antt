@@ -1,56 +1,51 @@
--- Words that are stored or passed over lead on (`past_stored`, `past_skipped`), and what a reader, or a pass that does
--- not store, makes of the rest stays (`leads_reads`, `passing_turn`). Assumes nothing.
+-- Words that are stored or passed over lead on (`past_stored`, `past_skipped`), and what a reader makes of the rest
+-- stays (`leads_reads`). Assumes nothing.
 use Prim.Native.Nat.{ℕ, zero, suc, ◌+◌, ◌-◌, ◌*◌, ◌/◌, ◌%◌, ◌<◌, ◌≤◌, min}
 use mathlib.Core.Path.{◌≡◌, refl, sym, ap, subst, ◌∙◌}
-use mathlib.Core.List.{List, ◌∷◌}
+use mathlib.Core.List.{List}
 use mathlib.Core.Bool.{Bool, true, false}
 use native.Mathlib.Omega.{arith}
 use lib.Dec.{eqb}
 use lib.ListN.{length}
 use borrow.Author.Tests.{eq-eqb, ne_eqb}
 use Rattle.answers.specs.Tests.{pick}
-use Rattle.program.specs.declared.act.Act.{Act}
-use Rattle.program.specs.declared.act.Act.TheVariants.{Quiet, Body, Store, Add}
+use Rattle.answers.specs.declared.Fault.{Fault}
+use Rattle.std.specs.Prelude.{Ok, Result}
+use native.Mathlib.Decide.{dec_lt}
+use Rattle.answers.proofs.Clashes.{impossible}
+use Rattle.program.specs.declared.reader.After.TheVariants as after
+use Rattle.program.specs.declared.act.Act.TheVariants.{Quiet, Store}
 use Rattle.program.specs.declared.reader.After.{After}
 use Rattle.program.specs.declared.reader.Cursor.{Cursor}
 use Rattle.program.specs.declared.reader.Mode.TheVariants.{Stored, Part, Skip}
-use Rattle.program.specs.declared.reader.Next.{Next}
-use Rattle.program.specs.declared.reader.Next.TheVariants.{On}
 use Rattle.words.specs.Word.{word_at}
 use Rattle.program.specs.Spaces.{Space}
 use Rattle.program.specs.Header.{total_of, space_of}
-use Rattle.program.specs.Reader.{on, resume, skip, stored_from, turn, step_of}
-use Rattle.program.specs.Acts.{asks, act_of, acts_from, pass}
+use Rattle.program.specs.Reader.{numbered, on, resume, skip, stored_from, turn, step_of}
+use Rattle.program.specs.Acts.{asks, act_of}
 use Rattle.program.specs.Cursors.{CursorFits}
-use Rattle.program.specs.Runs.{moded_of, skip_at, stored_at, Leads, here, stores, passes}
-use Rattle.program.proofs.Walks.{Reads, reads_on}
-use Rattle.program.proofs.Passes.{acts_on, Passing, passing_on}
+use Rattle.program.specs.Runs.{Reads, moded_of, skip_at, stored_at, Leads, here, stores, passes}
+use Rattle.program.proofs.Walks.{reads_on}
 
 -- ---- where a step takes the cursor
 
-on_skip : (c : Cursor) (n : ℕ) (a : After) → On (skip_at c n a) ≡ skip c n a
+on_skip : (c : Cursor) (n : ℕ) (a : After) → Ok (skip_at c n a) ≡ skip c n a
 unfolding pick
 on_skip c n a = go (eqb n 0)
   where
     go : (t : Bool)
-        → On (pick t (moded_of c (resume a)) (moded_of c (Skip (n - 1) a))) ≡ pick t (on c (resume a))
+        → Ok (pick t (moded_of c (resume a)) (moded_of c (Skip (n - 1) a))) ≡ pick t (on c (resume a))
         (on c (Skip (n - 1) a))
     go true = refl
     go false = refl
 
-on_stored : (c : Cursor) (i : ℕ) → On (stored_at c i) ≡ stored_from c i
+on_stored : (c : Cursor) (i : ℕ) → Ok (stored_at c i) ≡ stored_from c i
 unfolding pick
 on_stored c i = go (eqb i c.stored)
   where
-    go : (t : Bool) → On (pick t (moded_of c Part) (moded_of c (Stored i))) ≡ pick t (on c Part) (on c (Stored i))
+    go : (t : Bool) → Ok (pick t (moded_of c Part) (moded_of c (Stored i))) ≡ pick t (on c Part) (on c (Stored i))
     go true = refl
     go false = refl
-
-pub skip_is : (c : Cursor) (n : ℕ) (a : After) (d : Cursor) → d ≡ skip_at c n a → On d ≡ skip c n a
-skip_is c n a d e = ap On e ∙ on_skip c n a
-
-pub stored_is : (c : Cursor) (i : ℕ) (d : Cursor) → d ≡ stored_at c i → On d ≡ stored_from c i
-stored_is c i d e = ap On e ∙ on_stored c i
 
 pub stored_open : (c : Cursor) (i : ℕ) → i < c.stored → stored_at c i ≡ moded_of c (Stored i)
 unfolding pick
@@ -66,7 +61,7 @@ skip_open c n a = let e : n + 1 - 1 ≡ n = omega arith in rw (ne_eqb (n + 1) 0 
 
 -- a word that is stored or passed over: where it leads, and what it asks for
 module _ (c : Cursor) (i w : ℕ) (e : c.mode ≡ Stored i) where
-  pub stored_step : (t : ℕ) (space : ℕ → Space) → step_of t space c w ≡ On (stored_at c (i + 1))
+  pub stored_step : (t : ℕ) (space : ℕ → Space) → step_of t space c w ≡ Ok (stored_at c (i + 1))
   unfolding step_of
   stored_step t space = ap (turn t space c w) e ∙ sym (on_stored c (i + 1))
 
@@ -75,13 +70,24 @@ module _ (c : Cursor) (i w : ℕ) (e : c.mode ≡ Stored i) where
   stored_act at = ap (asks c at w) e
 
 module _ (c : Cursor) (n : ℕ) (a : After) (w : ℕ) (e : c.mode ≡ Skip n a) where
-  pub passed_step : (t : ℕ) (space : ℕ → Space) → step_of t space c w ≡ On (skip_at c n a)
+  pub passed_step : (t : ℕ) (space : ℕ → Space) → step_of t space c w ≡ Ok (skip_at c n a)
   unfolding step_of
   passed_step t space = ap (turn t space c w) e ∙ sym (on_skip c n a)
 
   pub passed_act : (at : ℕ) → act_of c at w ≡ Quiet
   unfolding act_of
   passed_act at = ap (asks c at w) e
+
+-- after words that are passed over none is stored
+pub unstored : (c : Cursor) (n : ℕ) (a : After) (i : ℕ) → (skip_at c n a).mode ≡ Stored i → ⊥
+unfolding pick
+unstored c n a i = go (eqb n 0) a
+  where
+    go : (t : Bool) (x : After) → (pick t (moded_of c (resume x)) (moded_of c (Skip (n - 1) x))).mode ≡ Stored i → ⊥
+    go true after.Body e = impossible cc
+    go true after.Symbol e = impossible cc
+    go true after.Part e = impossible cc
+    go false x e = impossible cc
 
 -- ---- runs
 
@@ -118,20 +124,34 @@ module _ (file : List ℕ) where
   pub stored_some : (c : Cursor) (i : ℕ) → CursorFits file c → c.mode ≡ Stored i → i < c.stored
   stored_some c i s e = (rw e at s.mode).1
 
-  pub stored_left : (c : Cursor) (i : ℕ) → CursorFits file c → c.mode ≡ Stored i → i ≤ c.stored
-  stored_left c i s e = omega (arith, stored_some c i s e)
-
   module _ (c : Cursor) (i at left n : ℕ) (d : Cursor) (there : at < length file)
       (words : left ≡ (length file - at) / 4) where
-    pub past_stored : CursorFits file c → c.mode ≡ Stored i → n ≡ min (c.stored - i) left → d ≡ stored_at c (i + n)
+    pub past_stored : CursorFits file c → c.mode ≡ Stored i → n ≡ min left (c.stored - i) → d ≡ stored_at c (i + n)
         → Leads file c at d (at + 4 * n)
     past_stored s m e f =
         let l = stored_some c i s m in
         rw f (stored_leads c i n at (i + n) (at + 4 * n) m l refl refl (omega arith) (omega arith))
 
-    pub past_skipped : (a : After) → c.mode ≡ Skip i a → n ≡ min (i + 1) left → d ≡ skip_at c (i + 1 - n) a
+    pub past_skipped : (a : After) → c.mode ≡ Skip i a → n ≡ min left (i + 1) → d ≡ skip_at c (i + 1 - n) a
         → Leads file c at d (at + 4 * n)
     past_skipped a m e f = rw f (skip_leads c i a n at (i + 1 - n) (at + 4 * n) m (omega arith) refl (omega arith))
+
+    -- no stored word follows
+    pub past_stored_all : CursorFits file c → c.mode ≡ Stored i → n ≡ min left (c.stored - i) → d ≡ stored_at c (i + n)
+        → length file % 4 ≡ 0 → at % 4 ≡ 0 → (j : ℕ) → d.mode ≡ Stored j → length file ≤ at + 4 * n
+    past_stored_all s m e f w a j y = go (dec_lt (i + n) c.stored) (sym (ap (λ (b : Cursor). b.mode) f) ∙ y)
+      where
+        go : Dec (i + n < c.stored) → (stored_at c (i + n)).mode ≡ Stored j → length file ≤ at + 4 * n
+        go (yes h) z = omega arith
+        go (no h) z =
+            let l = stored_some c i s m in
+            let g = stored_shut c (i + n) (omega arith) in
+            let q = sym (ap (λ (b : Cursor). b.mode) g) ∙ z in
+            impossible cc
+
+  pub past_skipped_all : (c d : Cursor) (a : After) (n : ℕ) {X : Type 0} → d ≡ skip_at c n a → (j : ℕ)
+      → d.mode ≡ Stored j → X
+  past_skipped_all c d a n e j y = absurd (unstored c n a j (sym (ap (λ (b : Cursor). b.mode) e) ∙ y))
 
   -- ---- what stays
 
@@ -147,29 +167,6 @@ module _ (file : List ℕ) where
   leads_reads (passes {c = c} {n = n} {a = a} {at = at} l e k) r =
       leads_reads k (reads_on file c at _ _ _ r l refl refl (passed_step c n a _ e _ _))
 
--- an act that asks for nothing, or for a store only
-abbrev pub QuietOrStore : Act → Type 0
-QuietOrStore Quiet = Unit
-QuietOrStore (Store p w) = Unit
-QuietOrStore (Body h p k) = ⊥
-QuietOrStore (Add p k b) = ⊥
-
--- what makes nothing of such acts makes the same of the acts from here and from there
-pub leads_acts : {Y : Type 0} (f : List Act → Y) (file : List ℕ)
-    → ((a : Act) (us : List Act) → QuietOrStore a → f (a ∷ us) ≡ f us) → {c d : Cursor} {at to : ℕ}
-    → Leads file c at d to → Reads file c at → f (acts_from file at c) ≡ f (acts_from file to d)
-leads_acts f file quiet here r = refl
-leads_acts f file quiet (stores {c = c} {i = i} {at = at} l e k) r =
-    let s = stored_step c i (word_at file at) e (total_of file) (space_of file) in
-    ap f (acts_on file at c _ _ r l refl refl _ _ s (sym (stored_act c i _ e at)))
-    ∙ quiet (Store _ _) _ tt
-    ∙ leads_acts f file quiet k (reads_on file c at _ _ _ r l refl refl s)
-leads_acts f file quiet (passes {c = c} {n = n} {a = a} {at = at} l e k) r =
-    let s = passed_step c n a (word_at file at) e (total_of file) (space_of file) in
-    ap f (acts_on file at c _ _ r l refl refl _ _ s (sym (passed_act c n a _ e at)))
-    ∙ quiet Quiet _ tt
-    ∙ leads_acts f file quiet k (reads_on file c at _ _ _ r l refl refl s)
-
 -- ---- a turn of a loop that goes on past such words
 
 pub turn_less : (file : List ℕ) (d e : Cursor) (at to : ℕ) → at < length file → Leads file d (at + 4) e to
@@ -180,26 +177,13 @@ module _ (file : List ℕ) (c : Cursor) (at : ℕ) (i : Reads file c at) where
   pub turn_aligned : (at + 4) % 4 ≡ 0
   turn_aligned = omega (arith, i.aligned)
 
-  module _ (w : ℕ) (r : Next) (d : Cursor) (l : at < length file) (p : w ≡ word_at file at)
-      (q : r ≡ step_of (total_of file) (space_of file) c w) (n : r ≡ On d) where
+  module _ (w : ℕ) (r : Result Cursor Fault) (d : Cursor) (l : at < length file) (p : w ≡ word_at file at)
+      (q : numbered r ≡ step_of (total_of file) (space_of file) c w) (n : r ≡ Ok d) where
+    turn_reads : Reads file d (at + 4)
+    turn_reads = reads_on file c at w (numbered r) d i l p q (ap numbered n)
+
     pub turn_fits : CursorFits file d
-    turn_fits = (reads_on file c at w r d i l p q n).fits
+    turn_fits = turn_reads.fits
 
     pub reads_turn : (e : Cursor) (to : ℕ) → Leads file d (at + 4) e to → Reads file e to
-    reads_turn e to k = leads_reads file k (reads_on file c at w r d i l p q n)
-
-pub passing_turn : (g : List ℕ → Act → List ℕ) (file x₀ x : List ℕ) (c d e : Cursor) (at w : ℕ) (r : Next) (a : Act)
-    (y : List ℕ) (to : ℕ)
-    → Passing g file x₀ x c at → at < length file → w ≡ word_at file at
-    → r ≡ step_of (total_of file) (space_of file) c w
-    → r ≡ On d → a ≡ act_of c at w → y ≡ g x a → Leads file d (at + 4) e to
-    → ((z : List ℕ) (b : Act) → length (g z b) ≡ length z) → ((z : List ℕ) (b : Act) → QuietOrStore b → g z b ≡ z)
-    → Passing g file x₀ y e to
-unfolding pass
-passing_turn g file x₀ x c d e at w r a y to i l p q n z k f long quiet =
-    let j = passing_on g file x₀ x c at i w r l p q d a y n z k long in
-    record {
-      reads = leads_reads file f j.reads;
-      left = j.left ∙ leads_acts (pass g y) file (λ b us m. ap (λ u. pass g u us) (quiet y b m)) f j.reads;
-      long = j.long;
-    }
+    reads_turn e to k = leads_reads file k turn_reads

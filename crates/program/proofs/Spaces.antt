@@ -34,9 +34,6 @@ space_same s r f g e = sym (space_back s f) ∙ ap space_in e ∙ space_back r g
 pub size_same : {s r : Space} → s ≡ r → s.size ≡ r.size
 size_same e = ap (λ (s : Space). s.size) e
 
-pub memory_same : {s r : Space} → s ≡ r → s.memory ≡ r.memory
-memory_same e = ap (λ (s : Space). s.memory) e
-
 -- ---- the tests
 
 kind_low : (m : ℕ) → MemoryKind m → m ≤ type.fast_memory

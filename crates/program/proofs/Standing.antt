@@ -9,6 +9,7 @@ use native.Mathlib.Numerals.{add-one}
 use lib.ListN.{length, length-append}
 use lib.Dec.{ltb, leb, eqb}
 use borrow.Author.Tests.{ltb-true, ltb-false, leb-false, eqb-true, eqb-false}
+use Rattle.std.specs.Prelude.{Ok}
 use Rattle.program.specs.Types as type
 use Rattle.answers.specs.Numbers as fault
 use Rattle.words.specs.Word.{word_at, words_at}
@@ -17,7 +18,6 @@ use Rattle.program.specs.declared.reader.After.{After}
 use Rattle.program.specs.declared.reader.After.TheVariants as after
 use Rattle.program.specs.declared.reader.Cursor.{Cursor}
 use Rattle.program.specs.declared.reader.Mode.TheVariants as mode
-use Rattle.program.specs.declared.reader.Next.TheVariants.{On}
 use Rattle.program.specs.Page.{Name, Body, Group, Symbol, Part, Hunk, none, named, code, stores, bss}
 use Rattle.program.specs.Page.{relocation, symbols, debug, joined, name_words, body_words, group_words}
 use Rattle.program.specs.Page.{symbol_words, part_words, hunk_words, Each, body_count, stored_words, OffsetFits}
@@ -27,7 +27,7 @@ use Rattle.program.specs.Begun.{debug_length, debug_word, first, name_length, na
 use Rattle.program.specs.Begun.{body_word, after_body, part_so_far, so_far, PartBegunFits, BegunFits}
 use Rattle.program.specs.Header.{total_of, space_of, size_of, start_at}
 use Rattle.program.specs.Spaces.{Space}
-use Rattle.program.specs.Reader.{resume, skip, body_of, stored_from, end_of, turn, step_of}
+use Rattle.program.specs.Reader.{Next, resume, skip, body_of, stored_from, end_of, turn, step_of}
 use Rattle.program.specs.Cursors.{HeaderFits}
 use Rattle.program.specs.Verdicts.{Stand, OfSpaces, Before, AllHunks}
 use Rattle.program.proofs.Coming.{Comes, begins, takes}
@@ -80,9 +80,9 @@ module _ (t : ℕ) (space : ℕ → Space) (h p w : ℕ) (d : Cursor) where
   abbrev Counts : ℕ → After → Type 0
   Counts s a = ((w ≡ 0) × (cursor (resume a) h p s ≡ d)) ⊎ ((0 < w) × (cursor (mode.Skip (w - 1) a) h p s ≡ d))
 
-  counts : (s : ℕ) (a : After) → skip (cursor mode.Part h p s) w a ≡ On d → Counts s a
+  counts : (s : ℕ) (a : After) → skip (cursor mode.Part h p s) w a ≡ Ok d → Counts s a
   counts s a =
-      pick_on (eqb w 0) _ _ (On d) (λ q x. inl (eqb-true w 0 q, on_on _ d x))
+      pick_on (eqb w 0) _ _ (Ok d) (λ q x. inl (eqb-true w 0 q, on_on _ d x))
       (λ q x. let z = eqb-false w 0 q in inr (omega (arith, z), on_on _ d x))
 
   abbrev Passes : ℕ → After → ℕ → List ℕ → Type 0
@@ -91,10 +91,10 @@ module _ (t : ℕ) (space : ℕ → Space) (h p w : ℕ) (d : Cursor) where
       ⊎ ((length (ws ▹ w) < n) × (cursor (mode.Skip (n - suc (length (ws ▹ w))) a) h p s ≡ d))
 
   passes : (s : ℕ) (a : After) (n : ℕ) (ws : List ℕ) → length ws < n
-      → skip (cursor mode.Part h p s) (n - suc (length ws)) a ≡ On d → Passes s a n ws
+      → skip (cursor mode.Part h p s) (n - suc (length ws)) a ≡ Ok d → Passes s a n ws
   passes s a n ws l =
       let k = length_snoc ws w in
-      pick_on (eqb (n - suc (length ws)) 0) _ _ (On d)
+      pick_on (eqb (n - suc (length ws)) 0) _ _ (Ok d)
       (λ q x. let z = eqb-true (n - suc (length ws)) 0 q in inl (omega arith, on_on _ d x))
       (λ q x.
       let z = eqb-false (n - suc (length ws)) 0 q in
@@ -107,14 +107,14 @@ module _ (t : ℕ) (space : ℕ → Space) (h p w : ℕ) (d : Cursor) where
     PartStep q =
         ((r : PartBegun) × PartBegunFits t s r × (part_so_far q ▹ w ≡ part_so_far r) × (cursor (part_mode r) h p s ≡ d))
         ⊎ ((x : Part) × PartFits t s x × (part_so_far q ▹ w ≡ part_words x) × (cursor mode.Part h p s ≡ d))
-        ⊎ ((part_so_far q ▹ w ≡ type.end ∷ []) × (end_of t space (cursor mode.Part h p s) ≡ On d))
+        ⊎ ((part_so_far q ▹ w ≡ type.end ∷ []) × (end_of t space (cursor mode.Part h p s) ≡ Ok d))
 
     offset_step : (gs : List Group) (n k : ℕ) (os : List ℕ) → PartBegunFits t s (an_offset gs n k os) → OffsetFits s w
-        → pick (eqb (n - suc (length os)) 0) (On (cursor mode.Count h p s))
-        (On (cursor (mode.Offset (n - suc (length os) - 1) k) h p s)) ≡ On d
+        → pick {X = Next} (eqb (n - suc (length os)) 0) (Ok (cursor mode.Count h p s))
+        (Ok (cursor (mode.Offset (n - suc (length os) - 1) k) h p s)) ≡ Ok d
         → PartStep (an_offset gs n k os)
     offset_step gs n k os f o =
-        pick_on (eqb (n - suc (length os)) 0) _ _ (On d)
+        pick_on (eqb (n - suc (length os)) 0) _ _ (Ok d)
         (λ q x.
         let z = eqb-true (n - suc (length os)) 0 q in
         inl (
@@ -152,19 +152,19 @@ module _ (t : ℕ) (space : ℕ → Space) (h p w : ℕ) (d : Cursor) where
             ∙ ap (λ (i : ℕ). joined group_words gs ++ (i ∷ k ∷ os ▹ w)) (sym e)
             ∙ sym (joined_snoc group_words gs (group_of k (os ▹ w))))
 
-    part_step : (q : PartBegun) → PartBegunFits t s q → turn t space (cursor (part_mode q) h p s) w (part_mode q) ≡ On d
+    part_step : (q : PartBegun) → PartBegunFits t s q → turn t space (cursor (part_mode q) h p s) w (part_mode q) ≡ Ok d
         → PartStep q
     part_step a_part f =
-        pick_on (eqb w type.relocation) _ _ (On d)
+        pick_on (eqb w type.relocation) _ _ (Ok d)
         (λ e x. inl (a_count [], tt, cons (eqb-true _ _ e) refl, on_on _ d x))
-        (λ _. pick_on (eqb w type.symbols) _ _ (On d)
+        (λ _. pick_on (eqb w type.symbols) _ _ (Ok d)
         (λ e x. inl (a_symbol [], tt, cons (eqb-true _ _ e) refl, on_on _ d x))
-        (λ _. pick_on (eqb w type.debug) _ _ (On d)
+        (λ _. pick_on (eqb w type.debug) _ _ (Ok d)
         (λ e x. inl (debug_length, tt, cons (eqb-true _ _ e) refl, on_on _ d x))
-        (λ _. pick_on (eqb w type.end) _ _ (On d) (λ e x. inr (inr (cons (eqb-true _ _ e) refl, x)))
+        (λ _. pick_on (eqb w type.end) _ _ (Ok d) (λ e x. inr (inr (cons (eqb-true _ _ e) refl, x)))
         (λ _. bad_on fault.misplaced_block d))))
     part_step (a_count gs) f =
-        pick_on (eqb w 0) _ _ (On d)
+        pick_on (eqb w 0) _ _ (Ok d)
         (λ e x. inr (inl (
           relocation gs,
           f,
@@ -174,18 +174,18 @@ module _ (t : ℕ) (space : ℕ → Space) (h p w : ℕ) (d : Cursor) where
         )))
         (λ e x. let z = eqb-false w 0 e in inl (a_number gs w, (f, omega (arith, z)), refl, on_on _ d x))
     part_step (a_number gs n) f =
-        pick_on (ltb w t) _ _ (On d)
+        pick_on (ltb w t) _ _ (Ok d)
         (λ e x.
         let words = ap (λ (l : List ℕ). type.relocation ∷ l) (append_assoc (joined group_words gs) (n ∷ []) (w ∷ [])) in
         inl (an_offset gs n w [], (f.0, ltb-true w t e, tt, f.1), words, on_on _ d x))
         (λ _. bad_on fault.bad_target d)
     part_step (an_offset gs n k os) f =
-        pick_on (eqb (w % 2) 0) _ _ (On d)
-        (λ e. pick_on (ltb (4 * s) (w + 4)) _ _ (On d) (λ _. bad_on fault.bad_target d)
+        pick_on (eqb (w % 2) 0) _ _ (Ok d)
+        (λ e. pick_on (ltb (4 * s) (w + 4)) _ _ (Ok d) (λ _. bad_on fault.bad_target d)
         (λ g x. offset_step gs n k os f (eqb-true _ _ e, ltb-false _ _ g) x))
         (λ _. bad_on fault.bad_target d)
     part_step (a_symbol us) f =
-        pick_on (eqb w 0) _ _ (On d)
+        pick_on (eqb w 0) _ _ (Ok d)
         (λ e x. inr (inl (
           symbols us,
           f,
@@ -193,7 +193,7 @@ module _ (t : ℕ) (space : ℕ → Space) (h p w : ℕ) (d : Cursor) where
               (eqb-true w 0 e),
           on_on _ d x,
         )))
-        (λ e. pick_on (leb 0x1000000 w) _ _ (On d) (λ _. bad_on fault.symbol_type d)
+        (λ e. pick_on (leb 0x1000000 w) _ _ (Ok d) (λ _. bad_on fault.symbol_type d)
         (λ g x.
         let z = eqb-false w 0 e in
         let y : w + 1 - 1 ≡ w = omega arith in
@@ -239,23 +239,23 @@ module _ (t : ℕ) (space : ℕ → Space) (h p w : ℕ) (d : Cursor) where
       ⊎ ((x : Name) × (y : Body) × (ps : List Part) × (body_count y ≤ (space h).size)
       × Each (PartFits t (length (stored_words y))) ps
       × (so_far b ▹ w ≡ name_words x ++ body_words y ++ joined part_words ps ++ (type.end ∷ []))
-      × (end_of t space (cursor mode.Part h p (length (stored_words y))) ≡ On d))
+      × (end_of t space (cursor mode.Part h p (length (stored_words y))) ≡ Ok d))
 
-  type_step : (s : ℕ) → body_of (cursor mode.Part h p s) w ≡ On d
+  type_step : (s : ℕ) → body_of (cursor mode.Part h p s) w ≡ Ok d
       → ((w ≡ type.code) ⊎ (w ≡ type.stores) ⊎ (w ≡ type.bss)) × (cursor (mode.Length w) h p s ≡ d)
   type_step s =
-      pick_on (eqb w type.code) _ _ (On d) (λ e x. (inl (eqb-true _ _ e), on_on _ d x))
-      (λ _. pick_on (eqb w type.stores) _ _ (On d) (λ e x. (inr (inl (eqb-true _ _ e)), on_on _ d x))
-      (λ _. pick_on (eqb w type.bss) _ _ (On d) (λ e x. (inr (inr (eqb-true _ _ e)), on_on _ d x))
+      pick_on (eqb w type.code) _ _ (Ok d) (λ e x. (inl (eqb-true _ _ e), on_on _ d x))
+      (λ _. pick_on (eqb w type.stores) _ _ (Ok d) (λ e x. (inr (inl (eqb-true _ _ e)), on_on _ d x))
+      (λ _. pick_on (eqb w type.bss) _ _ (Ok d) (λ e x. (inr (inr (eqb-true _ _ e)), on_on _ d x))
       (λ _. bad_on fault.misplaced_block d)))
 
   -- of n stored words, i stand there
   abbrev Stores : ℕ → ℕ → Type 0
   Stores n i = ((i ≡ n) × (cursor mode.Part h p n ≡ d)) ⊎ ((i ≢ n) × (cursor (mode.Stored i) h p n ≡ d))
 
-  stored_step : (n i : ℕ) → stored_from (cursor mode.Part h p n) i ≡ On d → Stores n i
+  stored_step : (n i : ℕ) → stored_from (cursor mode.Part h p n) i ≡ Ok d → Stores n i
   stored_step n i =
-      pick_on (eqb i n) _ _ (On d) (λ e x. inl (eqb-true _ _ e, on_on _ d x))
+      pick_on (eqb i n) _ _ (Ok d) (λ e x. inl (eqb-true _ _ e, on_on _ d x))
       (λ e x. inr (eqb-false _ _ e, on_on _ d x))
 
   -- a whole body
@@ -280,7 +280,7 @@ module _ (t : ℕ) (space : ℕ → Space) (h p w : ℕ) (d : Cursor) where
 
   -- a body's number of words
   module _ (x : Name) (l : w ≤ (space h).size) where
-    full_step : (k : ℕ) (c : List ℕ → Body) → Full k c → stored_from (cursor mode.Part h p w) 0 ≡ On d
+    full_step : (k : ℕ) (c : List ℕ → Body) → Full k c → stored_from (cursor mode.Part h p w) 0 ≡ Ok d
         → Step (body_length x k)
     full_step k c f e = go (f.1 []) (stored_step w 0 e)
       where
@@ -299,13 +299,13 @@ module _ (t : ℕ) (space : ℕ → Space) (h p w : ℕ) (d : Cursor) where
             inl (body_word x k w [], (f.0, l, omega (arith, z)), append_assoc (name_words x) (k ∷ []) (w ∷ []), r.1)
 
     length_step : (k : ℕ) → (k ≡ type.code) ⊎ (k ≡ type.stores) ⊎ (k ≡ type.bss)
-        → stored_from (cursor mode.Part h p (pick (eqb k type.bss) 0 w)) 0 ≡ On d
+        → stored_from (cursor mode.Part h p (pick (eqb k type.bss) 0 w)) 0 ≡ Ok d
         → Step (body_length x k)
     unfolding pick
     length_step k (inl e) q = full_step k code (as_code k e) (rw e at q)
     length_step k (inr (inl e)) q = full_step k stores (as_data k e) (rw e at q)
     length_step k (inr (inr e)) q =
-        let y : On (cursor mode.Part h p 0) ≡ On d = rw e at q in
+        let y : ◌≡◌ {A = Next} (Ok (cursor mode.Part h p 0)) (Ok d) = rw e at q in
         inl (
           after_body x (bss w) [] a_part,
           (l, tt, tt),
@@ -315,7 +315,7 @@ module _ (t : ℕ) (space : ℕ → Space) (h p w : ℕ) (d : Cursor) where
 
   -- a stored word
   word_step : (x : Name) (k n : ℕ) (ws : List ℕ) (c : List ℕ → Body) → Full k c → n ≤ (space h).size → length ws < n
-      → stored_from (cursor mode.Part h p n) (length ws + 1) ≡ On d → Step (body_word x k n ws)
+      → stored_from (cursor mode.Part h p n) (length ws + 1) ≡ Ok d → Step (body_word x k n ws)
   word_step x k n ws c f l m e = go (f.1 (ws ▹ w)) (stored_step n (length ws + 1) e)
     where
       go : (body_words (c (ws ▹ w)) ≡ k ∷ length (ws ▹ w) ∷ (ws ▹ w)) × (body_count (c (ws ▹ w)) ≡ length (ws ▹ w))
@@ -339,9 +339,9 @@ module _ (t : ℕ) (space : ℕ → Space) (h p w : ℕ) (d : Cursor) where
             ap (λ (i : ℕ). cursor (mode.Stored i) h p n) y ∙ r.1,
           )
 
-  begun_step : (b : Begun) → BegunFits t (space h).size b → turn t space (cursor_in b h p) w (mode_of b) ≡ On d → Step b
+  begun_step : (b : Begun) → BegunFits t (space h).size b → turn t space (cursor_in b h p) w (mode_of b) ≡ Ok d → Step b
   begun_step first f =
-      pick_on (eqb w type.name) _ _ (On d) (λ e x. inl (name_length, tt, cons (eqb-true _ _ e) refl, on_on _ d x))
+      pick_on (eqb w type.name) _ _ (Ok d) (λ e x. inl (name_length, tt, cons (eqb-true _ _ e) refl, on_on _ d x))
       (λ _ x. let y = type_step 0 x in inl (body_length none w, y.0, refl, y.1))
   begun_step name_length f = λ e. go (counts 0 after.Body e)
     where
@@ -355,11 +355,11 @@ module _ (t : ℕ) (space : ℕ → Space) (h p w : ℕ) (d : Cursor) where
       go (inr r) = inl (name_word n (ws ▹ w), r.0, refl, r.1)
   begun_step (a_body ws) f = λ e. let y = type_step 0 e in inl (body_length (named ws) w, y.0, refl, y.1)
   begun_step (body_length x k) f =
-      pick_on (ltb (space h).size w) _ _ (On d) (λ _. bad_on fault.body_length d)
+      pick_on (ltb (space h).size w) _ _ (Ok d) (λ _. bad_on fault.body_length d)
       (λ q e. length_step x (ltb-false _ _ q) k f e)
   begun_step (body_word x k n ws) f = go f.0
     where
-      go : (k ≡ type.code) ⊎ (k ≡ type.stores) → stored_from (cursor mode.Part h p n) (length ws + 1) ≡ On d
+      go : (k ≡ type.code) ⊎ (k ≡ type.stores) → stored_from (cursor mode.Part h p n) (length ws + 1) ≡ Ok d
           → Step (body_word x k n ws)
       go (inl q) e = word_step x k n ws code (as_code k q) f.1 f.2 e
       go (inr q) e = word_step x k n ws stores (as_data k q) f.1 f.2 e
@@ -430,7 +430,7 @@ module _ (file : List ℕ) (whole : length file % 4 ≡ 0) (s : HeaderFits file)
       → x.space ≡ space_of file (length hs)
       → HunkFits (total_of file) x
       → so_far b ▹ word_at file at ≡ hunk_words x → (n : ℕ) (d : Cursor)
-      → end_of (total_of file) (space_of file) (cursor mode.Part (length hs) (4 * total hs) n) ≡ On d
+      → end_of (total_of file) (space_of file) (cursor mode.Part (length hs) (4 * total hs) n) ≡ Ok d
       → Within file d (at + 4) ⊎ Past file d (at + 4)
   unfolding pick
   whole_hunk hs b at r l x z f e n d q = go (eqb (length hs + 1) (total_of file)) refl (on_on _ d q)
@@ -475,7 +475,7 @@ module _ (file : List ℕ) (whole : length file % 4 ≡ 0) (s : HeaderFits file)
 
   -- a word that is taken
   word_on : (c d : Cursor) (at : ℕ) → at < length file
-      → step_of (total_of file) (space_of file) c (word_at file at) ≡ On d
+      → step_of (total_of file) (space_of file) c (word_at file at) ≡ Ok d
       → Within file c at ⊎ Past file c at → Within file d (at + 4) ⊎ Past file d (at + 4)
   unfolding step_of
   word_on c d at l e (inl r) =

@@ -6,32 +6,30 @@ use mathlib.Core.Logic.{◌≢◌, ◌⊎◌, inl, inr}
 use mathlib.Core.List.{List}
 use native.Mathlib.Omega.{arith}
 use lib.ListN.{length}
+use Rattle.std.specs.Prelude.{Ok, Err}
 use Rattle.answers.specs.Numbers as fault
 use Rattle.words.specs.Word.{word_at}
 use Rattle.answers.specs.Refusals.{refusal}
 use Rattle.answers.specs.declared.Refusal.{Refusal}
 use Rattle.answers.proofs.Clashes.{impossible}
-use Rattle.program.specs.declared.check.Answer.{Answer}
-use Rattle.program.specs.declared.check.Answer.TheVariants.{Accepted, Refused}
+use Rattle.program.specs.Runs.{Reads}
 use Rattle.program.specs.declared.reader.Cursor.{Cursor}
 use Rattle.program.specs.declared.reader.Mode.{Mode}
 use Rattle.program.specs.declared.reader.Mode.TheVariants.{Begin, NameLength, Body, Length, Stored, Part}
 use Rattle.program.specs.declared.reader.Mode.TheVariants.{Count, Number, Offset, Symbol, DebugLength, Skip}
 use Rattle.program.specs.declared.reader.Mode.TheVariants.{End}
-use Rattle.program.specs.declared.reader.Next.{Next}
-use Rattle.program.specs.declared.reader.Next.TheVariants.{On, Bad}
 use Rattle.program.specs.Header.{total_of, space_of, start_at}
-use Rattle.program.specs.Reader.{start, step_of}
-use Rattle.program.specs.Check.{refuse, ended_of, rest_of, walk_of}
+use Rattle.program.specs.Reader.{Next, start, step_of}
+use Rattle.program.specs.Check.{Answer, accepted, refuse, ended_of, rest_of, walk_of}
 use Rattle.program.specs.Cursors.{HeaderFits}
 use Rattle.program.proofs.Coming.{Comes, begins, takes, HunkWord}
-use Rattle.program.proofs.Walks.{Reads, reads_start, reads_on, walk_on, walk_bad, walk_end}
+use Rattle.program.proofs.Walks.{reads_start, reads_on, walk_on, walk_bad, walk_end}
 
 -- ---- at the end of the file: the last hunk has ended, or a word is missing
 
 abbrev pub Ends : ℕ → Cursor → Mode → Type 0
 Ends end c m =
-    ((m ≡ End) × (ended_of end c m ≡ Accepted c.hunk c.place))
+    ((m ≡ End) × (ended_of end c m ≡ accepted c.hunk c.place))
     ⊎ ((m ≢ End) × (ended_of end c m ≡ refuse fault.early_end end))
 
 pub ended : (end : ℕ) (c : Cursor) (m : Mode) → Ends end c m
@@ -55,7 +53,7 @@ ended end c (Skip n a) = inr ((λ q. impossible cc), refl)
 abbrev pub Stops : List ℕ → Answer → Type 0
 Stops file a =
     ((c : Cursor) × Comes file c (length file) × (a ≡ ended_of (length file) c c.mode))
-    ⊎ ((f : Refusal) × HunkWord file f × (a ≡ Refused f))
+    ⊎ ((f : Refusal) × HunkWord file f × (a ≡ Err f))
 
 module _ (file : List ℕ) (whole : length file % 4 ≡ 0) where
   -- n words are left
@@ -75,9 +73,9 @@ module _ (file : List ℕ) (whole : length file % 4 ≡ 0) where
           → ((d : Cursor) → length file ≡ at + 4 + 4 * n → Comes file d (at + 4)
           → Stops file (rest_of file (at + 4) d))
           → Stops file (rest_of file at c)
-      go (On d) q more =
+      go (Ok d) q more =
           rw (walk_on file at c (word_at file at) _ whole k h refl refl d q) (more d (omega arith) (takes r h q))
-      go (Bad v) q more =
+      go (Err v) q more =
           inr (
             refusal v at,
             record {

@@ -9,23 +9,21 @@ use native.Mathlib.Omega.{arith}
 use lib.ListN.{length, length-append}
 use lib.Dec.{eqb}
 use borrow.Author.Tests.{lt-ltb, le-ltb, lt-leb, eq-eqb, ne_eqb}
+use Rattle.std.specs.Prelude.{Ok, Err}
 use Rattle.program.specs.Types as type
 use Rattle.answers.specs.Tests.{pick}
-use Rattle.program.specs.declared.check.Answer.TheVariants.{Accepted}
 use Rattle.program.specs.declared.reader.After.{After}
 use Rattle.program.specs.declared.reader.After.TheVariants as after
 use Rattle.program.specs.declared.reader.Cursor.{Cursor}
 use Rattle.program.specs.declared.reader.Mode.{Mode}
 use Rattle.program.specs.declared.reader.Mode.TheVariants as mode
-use Rattle.program.specs.declared.reader.Next.{Next}
-use Rattle.program.specs.declared.reader.Next.TheVariants.{On, Bad}
 use Rattle.program.specs.Page.{Name, Body, Group, Symbol, Part, Hunk, none, named, code, stores, bss}
 use Rattle.program.specs.Page.{relocation, symbols, debug, joined, name_words, body_words, group_words}
 use Rattle.program.specs.Page.{symbol_words, part_words, hunk_words, Each, body_count, stored_words, OffsetFits}
 use Rattle.program.specs.Page.{GroupFits, SymbolFits, PartFits, HunkFits, total}
 use Rattle.program.specs.Spaces.{Space}
-use Rattle.program.specs.Reader.{resume, skip, body_of, stored_from, turn, step_of}
-use Rattle.program.specs.Check.{next, walk}
+use Rattle.program.specs.Reader.{Next, resume, skip, body_of, stored_from, turn, step_of}
+use Rattle.program.specs.Check.{accepted, next, walk}
 use Rattle.program.specs.Verdicts.{OfSpaces}
 use Rattle.program.proofs.Spaces.{size_same}
 
@@ -49,8 +47,8 @@ spaces_all t space h (x ∷ xs) f =
 
 -- a statement on a cursor and the words from it on
 abbrev pub Goes : (Cursor → List ℕ → Type 0) → Next → List ℕ → Type 0
-Goes Taken (On d) ws = Taken d ws
-Goes Taken (Bad v) ws = ⊥
+Goes Taken (Ok d) ws = Taken d ws
+Goes Taken (Err v) ws = ⊥
 
 -- ... where hunk h of t begins, or at the end
 abbrev pub Front : (Cursor → List ℕ → Type 0) → ℕ → ℕ → ℕ → List ℕ → Type 0
@@ -264,12 +262,12 @@ module _ (t : ℕ) (space : ℕ → Space) (Taken : Cursor → List ℕ → Type
 -- the walk accepts what is written, with n bytes
 module _ (t : ℕ) (space : ℕ → Space) (end n : ℕ) where
   abbrev pub Accepts : Cursor → List ℕ → Type 0
-  Accepts c ws = (at : ℕ) → walk t space end at c ws ≡ Accepted t n
+  Accepts c ws = (at : ℕ) → walk t space end at c ws ≡ accepted t n
 
   goes : (r : Next) (ws : List ℕ) (at : ℕ) → Goes Accepts r ws
-      → next r at (λ d. walk t space end (at + 4) d ws) ≡ Accepted t n
-  goes (On d) ws at g = g (at + 4)
-  goes (Bad v) ws at g = absurd g
+      → next r at (λ d. walk t space end (at + 4) d ws) ≡ accepted t n
+  goes (Ok d) ws at g = g (at + 4)
+  goes (Err v) ws at g = absurd g
 
   step : (c : Cursor) (w : ℕ) (ws : List ℕ) → Goes Accepts (turn t space c w c.mode) ws → Accepts c (w ∷ ws)
   unfolding walk step_of

@@ -1,5 +1,5 @@
 -- What a word of a program file asks of memory and table, by where the reader is.
-use Rattle.std.specs.Prelude.{ℕ, ◌+◌, ◌*◌, List, [], ◌∷◌, eqb}
+use Rattle.std.specs.Prelude.{Ok, Err, ℕ, ◌+◌, ◌*◌, List, [], ◌∷◌, eqb}
 use Rattle.program.specs.Types as type
 use Rattle.answers.specs.Tests.{pick}
 use Rattle.program.specs.declared.act.Act.{Act}
@@ -9,11 +9,9 @@ use Rattle.program.specs.declared.reader.Mode.{Mode}
 use Rattle.program.specs.declared.reader.Mode.TheVariants.{Begin, NameLength, Body, Length, Stored, Part}
 use Rattle.program.specs.declared.reader.Mode.TheVariants.{Count, Number, Offset, Symbol, DebugLength, Skip}
 use Rattle.program.specs.declared.reader.Mode.TheVariants.{End}
-use Rattle.program.specs.declared.reader.Next.{Next}
-use Rattle.program.specs.declared.reader.Next.TheVariants.{On, Bad}
 use Rattle.program.specs.Spaces.{Space}
 use Rattle.program.specs.Header.{total_of, space_of, start_at}
-use Rattle.program.specs.Reader.{start, step_of}
+use Rattle.program.specs.Reader.{Next, start, step_of}
 use Rattle.program.specs.Check.{words_from}
 
 abbrev pub asks : Cursor → ℕ → ℕ → Mode → Act
@@ -36,8 +34,8 @@ unfoldable pub act_of : Cursor → ℕ → ℕ → Act
 act_of c at w = asks c at w c.mode
 
 abbrev pub then : Next → Act → (Cursor → List Act) → List Act
-then (On d) a f = a ∷ f d
-then (Bad v) a f = []
+then (Ok d) a f = a ∷ f d
+then (Err v) a f = []
 
 -- the words that are left, the first of them at byte `at`
 unfoldable pub acts : ℕ → (ℕ → Space) → ℕ → Cursor → List ℕ → List Act

@@ -1,35 +1,34 @@
 -- The check of a program file: its faults in file order, or the number of its hunks and the bytes that they take
 -- (docs/FORMAT.md, "Numbers").
-use Rattle.std.specs.Prelude.{ℕ, ◌+◌, ◌-◌, ◌/◌, ◌%◌, ◌≡◌, List, [], ◌∷◌, eqb, length}
+use Rattle.std.specs.Prelude.{Result, Ok, Err, ℕ, ◌+◌, ◌-◌, ◌/◌, ◌%◌, ◌≡◌, List, [], ◌∷◌, eqb, length}
 use Rattle.words.specs.Word.{words_at}
 use Rattle.answers.specs.Answers.{AnswerNumbers, accepted_as, refused_as}
 use Rattle.answers.specs.Numbers as fault
 use Rattle.answers.specs.Tests.{pick}
 use Rattle.answers.specs.Refusals.{refusal}
-use Rattle.answers.specs.declared.Tested.{Tested}
-use Rattle.answers.specs.declared.Tested.TheVariants.{Passed, Failed}
-use Rattle.program.specs.declared.check.Answer.{Answer}
-use Rattle.program.specs.declared.check.Answer.TheVariants.{Accepted, Refused}
+use Rattle.answers.specs.declared.Refusal.{Refusal}
+use Rattle.program.specs.declared.check.Extent.{Extent}
 use Rattle.program.specs.declared.reader.Cursor.{Cursor}
 use Rattle.program.specs.declared.reader.Mode.{Mode}
 use Rattle.program.specs.declared.reader.Mode.TheVariants.{Begin, NameLength, Body, Length, Stored, Part}
 use Rattle.program.specs.declared.reader.Mode.TheVariants.{Count, Number, Offset, Symbol, DebugLength, Skip}
 use Rattle.program.specs.declared.reader.Mode.TheVariants.{End}
-use Rattle.program.specs.declared.reader.Next.{Next}
-use Rattle.program.specs.declared.reader.Next.TheVariants.{On, Bad}
 use Rattle.program.specs.Spaces.{Space}
 use Rattle.program.specs.Header.{total_of, space_of, start_at, heads}
-use Rattle.program.specs.Reader.{start, step_of}
+use Rattle.program.specs.Reader.{Next, start, step_of}
 
--- the values of an answer
-pub record Values : Type 0 where
-  pub hunks : ℕ
-  pub bytes : ℕ
+-- what a check, a load and a move answer: the number of hunks and the bytes that they take, or a refusal
+abbrev pub Answer : Type 0
+Answer = Result Extent Refusal
+
+-- t hunks that take n bytes
+abbrev pub accepted : ℕ → ℕ → Answer
+accepted t n = Ok (record { hunks = t; bytes = n })
 
 -- an answer's numbers
-abbrev pub numbers_of : Answer → AnswerNumbers Values
-numbers_of (Accepted t n) = accepted_as (record { hunks = t; bytes = n })
-numbers_of (Refused r) = refused_as (record { hunks = 0; bytes = 0 }) r
+abbrev pub numbers_of : Answer → AnswerNumbers Extent
+numbers_of (Ok v) = accepted_as v
+numbers_of (Err r) = refused_as (record { hunks = 0; bytes = 0 }) r
 
 -- the numbers of all refusals of a check
 abbrev pub check_refusals : List ℕ
@@ -39,11 +38,11 @@ check_refusals =
     ∷ fault.both_memories ∷ []
 
 abbrev pub refuse : ℕ → ℕ → Answer
-refuse v at = Refused (refusal v at)
+refuse v at = Err (refusal v at)
 
 -- the words are over, at the file's end: a word is missing unless the last hunk has ended
 abbrev pub ended_of : ℕ → Cursor → Mode → Answer
-ended_of end c End = Accepted c.hunk c.place
+ended_of end c End = accepted c.hunk c.place
 ended_of end c Begin = refuse fault.early_end end
 ended_of end c NameLength = refuse fault.early_end end
 ended_of end c Body = refuse fault.early_end end
@@ -58,8 +57,8 @@ ended_of end c DebugLength = refuse fault.early_end end
 ended_of end c (Skip n a) = refuse fault.early_end end
 
 abbrev pub next : Next → ℕ → (Cursor → Answer) → Answer
-next (On d) at f = f d
-next (Bad v) at f = refuse v at
+next (Ok d) at f = f d
+next (Err v) at f = refuse v at
 
 -- the words that are left, the first of them at byte `at` of a file that ends at `end`
 unfoldable pub walk : ℕ → (ℕ → Space) → ℕ → ℕ → Cursor → List ℕ → Answer
@@ -79,9 +78,9 @@ abbrev pub walk_of : List ℕ → Answer
 walk_of file = rest_of file (start_at file) start
 
 -- what follows tests
-abbrev pub and : Tested → Answer → Answer
-and Passed a = a
-and (Failed r) a = Refused r
+abbrev pub and : Result Unit Refusal → Answer → Answer
+and (Ok u) a = a
+and (Err r) a = Err r
 
 unfoldable pub check_of : List ℕ → Answer
 check_of file =

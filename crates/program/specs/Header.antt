@@ -1,14 +1,13 @@
 -- The header: 3F3, no library, T hunks from 0 to T - 1, and a size word for each; with the faults of each of these
 -- words (docs/FORMAT.md, "The program file" and "Numbers").
-use Rattle.std.specs.Prelude.{ℕ, zero, suc, ◌+◌, ◌*◌, List, ltb, leb, eqb, length}
+use Rattle.std.specs.Prelude.{Result, Ok, Err, ℕ, zero, suc, ◌+◌, ◌*◌, List, ltb, leb, eqb, length}
 use Rattle.program.specs.Types as type
 use Rattle.words.specs.Word.{word_at}
 use Rattle.program.specs.Spaces.{Space, space_in, space_fault}
 use Rattle.answers.specs.Numbers as fault
 use Rattle.answers.specs.Tests.{pick, must}
 use Rattle.answers.specs.Refusals.{refusal}
-use Rattle.answers.specs.declared.Tested.{Tested}
-use Rattle.answers.specs.declared.Tested.TheVariants.{Passed, Failed}
+use Rattle.answers.specs.declared.Refusal.{Refusal}
 
 -- the number of hunks
 abbrev pub total_of : List ℕ → ℕ
@@ -39,13 +38,13 @@ head_fault t i w =
     (space_fault (space_in w))))))
 
 -- a number other than 0 fails there; else it goes on
-abbrev pub judge : ℕ → ℕ → Tested → Tested
+abbrev pub judge : ℕ → ℕ → Result Unit Refusal → Result Unit Refusal
 judge zero at h = h
-judge (suc e) at h = Failed (refusal (suc e) at)
+judge (suc e) at h = Err (refusal (suc e) at)
 
 -- n words of the header, from word i on
-unfoldable pub heads : List ℕ → ℕ → ℕ → Tested
-heads file i zero = Passed
+unfoldable pub heads : List ℕ → ℕ → ℕ → Result Unit Refusal
+heads file i zero = Ok tt
 heads file i (suc n) =
-    pick (ltb (length file) (4 * i + 4)) (Failed (refusal fault.early_end (length file)))
+    pick (ltb (length file) (4 * i + 4)) (Err (refusal fault.early_end (length file)))
     (judge (head_fault (total_of file) i (word_at file (4 * i))) (4 * i) (heads file (i + 1) n))

@@ -1,16 +1,15 @@
 // The reader of a program file's hunks, one word a step.
-ghost use Rattle.std.specs.Prelude.{◌≡◌, ◌+◌, ◌*◌, ◌%◌, ◌<◌, ◌≤◌, length, eqb};
+ghost use Rattle.std.specs.Prelude.{◌≡◌, ℕ, ◌+◌, ◌*◌, ◌%◌, ◌<◌, ◌≤◌, Ok, length, eqb};
 ghost use Rattle.program.specs.Types as type;
 ghost use Rattle.answers.specs.Tests.{pick};
 ghost use Rattle.program.specs.Header.{total_of, space_of};
-ghost use Rattle.program.specs.Reader.{on, resume, skip, body_of, begin_of, stored_from, length_of, part_of, end_of};
-ghost use Rattle.program.specs.Reader.{count_of, number_of, offset_of, symbol_of, step_of, start};
+ghost use Rattle.program.specs.Reader.{resume, body_of, begin_of, length_of, part_of, end_of};
+ghost use Rattle.program.specs.Reader.{numbered, count_of, number_of, offset_of, symbol_of, step_of, start};
 ghost use Rattle.program.specs.Cursors.{CursorFits};
 ghost use Rattle.program.specs.Runs.{moded_of, skip_at, stored_at, Leads};
 
 use crate::header::{size, total};
 use answers::Fault;
-use words::least;
 
 // Types of blocks.
 pub(crate) const NAME: u32 = 0x3E8;
@@ -30,7 +29,7 @@ const DEBUG: u32 = 0x3F1;
 const END: u32 = 0x3F2;
 
 // What comes after words that are skipped.
-#[derive(Clone, Copy)]
+#[derive(Clone, Copy, Debug)]
 pub enum After {
     Body,
     Symbol,
@@ -38,7 +37,7 @@ pub enum After {
 }
 
 // What the next word is.
-#[derive(Clone, Copy)]
+#[derive(Clone, Copy, Debug)]
 pub enum Mode {
     // A hunk begins: a name block, or the body.
     Begin,
@@ -67,19 +66,12 @@ pub enum Mode {
 }
 
 // Where the reader is: the hunk, its first byte in memory, and how many words it stores.
-#[derive(Clone, Copy)]
+#[derive(Clone, Copy, Debug)]
 pub struct Cursor {
     pub mode: Mode,
     pub hunk: u32,
     pub place: usize,
     pub stored: u32,
-}
-
-// The cursor after a word, or the number of the refusal that the word gives.
-#[derive(Drop)]
-pub enum Next {
-    On(Cursor),
-    Bad(u32),
 }
 
 // Where the first hunk begins.
@@ -94,22 +86,13 @@ pub fn begin() -> Cursor
     }
 }
 
-// The same hunk, with another word to come.
-fn moded(c: Cursor, m: Mode) -> Cursor
-    ensures { result ≡ moded_of c m }
-{
-    Cursor {
-        mode: m,
-        hunk: c.hunk,
-        place: c.place,
-        stored: c.stored,
+impl Cursor {
+    // The same hunk, with another word to come.
+    fn with(self, mode: Mode) -> Cursor
+        ensures { result ≡ moded_of self mode }
+    {
+        Cursor { mode, ..self }
     }
-}
-
-fn to(c: Cursor, m: Mode) -> Next
-    ensures { result ≡ on c m }
-{
-    Next::On(moded(c, m))
 }
 
 fn resumed(a: After) -> Mode
@@ -127,32 +110,19 @@ fn skip_at(c: Cursor, n: u32, a: After) -> Cursor
     ensures { result ≡ skip_at c n a }
 {
     if n == 0 {
-        return moded(c, resumed(a));
+        return c.with(resumed(a));
     }
-    moded(c, Mode::Skip(n - 1, a))
-}
-
-// Passes over n words.
-fn skipped(c: Cursor, n: u32, a: After) -> Next
-    ensures { result ≡ skip c n a }
-{
-    Next::On(skip_at(c, n, a))
+    c.with(Mode::Skip(n - 1, a))
 }
 
 // Code, data or bss.
-fn body(c: Cursor, w: u32) -> Next
-    ensures { result ≡ body_of c w }
+fn body(c: Cursor, w: u32) -> Result<Cursor, Fault>
+    ensures { numbered result ≡ body_of c w }
 {
-    if w == CODE {
-        return to(c, Mode::Length(w));
+    match w {
+        CODE | DATA | BSS => Ok(c.with(Mode::Length(w))),
+        _ => Err(Fault::MisplacedBlock),
     }
-    if w == DATA {
-        return to(c, Mode::Length(w));
-    }
-    if w == BSS {
-        return to(c, Mode::Length(w));
-    }
-    Next::Bad(Fault::MISPLACED_BLOCK)
 }
 
 // Before the stored word i, or after the last.
@@ -160,204 +130,181 @@ pub fn stored_at(c: Cursor, i: u32) -> Cursor
     ensures { result ≡ stored_at c i }
 {
     if i == c.stored {
-        return moded(c, Mode::Part);
+        return c.with(Mode::Part);
     }
-    moded(c, Mode::Stored(i))
-}
-
-// The stored word i, if there is one.
-fn stored_from(c: Cursor, i: u32) -> Next
-    ensures { result ≡ stored_from c i }
-{
-    Next::On(stored_at(c, i))
+    c.with(Mode::Stored(i))
 }
 
 // How many of w words a body of this type stores.
 fn kept(kind: u32, w: u32) -> u32
     ensures { result ≡ pick (eqb kind type.bss) 0 w }
 {
-    if kind == BSS {
-        return 0;
-    }
-    w
+    if kind == BSS { 0 } else { w }
 }
 
 // How many words the body has: at most as many as the hunk's size.
-fn body_length(file: &[u8], c: Cursor, kind: u32, w: u32) -> Next
+fn body_length(file: &[u8], c: Cursor, kind: u32, w: u32) -> Result<Cursor, Fault>
     requires { 24 + 4 * c.hunk ≤ length file.now }
-    ensures { result ≡ length_of (space_of file.now) c kind w }
+    ensures { numbered result ≡ length_of (space_of file.now) c kind w }
 {
-    let h = c.hunk;
-    if size(file, h) < w {
-        return Next::Bad(Fault::BODY_LENGTH);
+    if size(file, c.hunk) < w {
+        return Err(Fault::BodyLength);
     }
     let d = Cursor {
         mode: Mode::Part,
-        hunk: c.hunk,
-        place: c.place,
         stored: kept(kind, w),
+        ..c
     };
-    stored_from(d, 0)
+    Ok(stored_at(d, 0))
 }
 
 // The hunk's end: on to the next hunk, or to the end of the file.
-fn hunk_end(file: &[u8], c: Cursor) -> Next
+fn hunk_end(file: &[u8], c: Cursor) -> Cursor
     requires { (24 + 4 * c.hunk ≤ length file.now) × (c.hunk < 64) × (c.place ≤ 4294967296) }
-    ensures { result ≡ end_of (total_of file.now) (space_of file.now) c }
+    ensures { Ok result ≡ end_of (total_of file.now) (space_of file.now) c }
 {
-    let h = c.hunk;
-    let p = c.place + 4 * size(file, h) as usize;
-    if h + 1 == total(file) {
-        return Next::On(Cursor {
-            mode: Mode::End,
-            hunk: h + 1,
-            place: p,
-            stored: 0,
-        });
-    }
-    Next::On(Cursor {
-        mode: Mode::Begin,
-        hunk: h + 1,
-        place: p,
+    let hunk = c.hunk + 1;
+    Cursor {
+        mode: if hunk == total(file) {
+            Mode::End
+        } else {
+            Mode::Begin
+        },
+        hunk,
+        place: c.place + 4 * size(file, c.hunk) as usize,
         stored: 0,
-    })
+    }
 }
 
 // Relocations, symbols, debug words or the hunk's end.
-fn part(file: &[u8], c: Cursor, w: u32) -> Next
+fn part(file: &[u8], c: Cursor, w: u32) -> Result<Cursor, Fault>
     requires { (24 + 4 * c.hunk ≤ length file.now) × (c.hunk < 64) × (c.place ≤ 4294967296) }
-    ensures { result ≡ part_of (total_of file.now) (space_of file.now) c w }
+    ensures { numbered result ≡ part_of (total_of file.now) (space_of file.now) c w }
 {
-    if w == RELOCATION {
-        return to(c, Mode::Count);
+    match w {
+        RELOCATION => Ok(c.with(Mode::Count)),
+        SYMBOLS => Ok(c.with(Mode::Symbol)),
+        DEBUG => Ok(c.with(Mode::DebugLength)),
+        END => Ok(hunk_end(file, c)),
+        _ => Err(Fault::MisplacedBlock),
     }
-    if w == SYMBOLS {
-        return to(c, Mode::Symbol);
-    }
-    if w == DEBUG {
-        return to(c, Mode::DebugLength);
-    }
-    if w == END {
-        return hunk_end(file, c);
-    }
-    Next::Bad(Fault::MISPLACED_BLOCK)
 }
 
-fn count(c: Cursor, w: u32) -> Next
-    ensures { result ≡ count_of c w }
+fn count(c: Cursor, w: u32) -> Cursor
+    ensures { Ok result ≡ count_of c w }
 {
     if w == 0 {
-        return to(c, Mode::Part);
+        return c.with(Mode::Part);
     }
-    to(c, Mode::Number(w - 1))
+    c.with(Mode::Number(w - 1))
 }
 
-fn number(file: &[u8], c: Cursor, n: u32, w: u32) -> Next
+fn number(file: &[u8], c: Cursor, n: u32, w: u32) -> Result<Cursor, Fault>
     requires { 12 ≤ length file.now }
-    ensures { result ≡ number_of (total_of file.now) c n w }
+    ensures { numbered result ≡ number_of (total_of file.now) c n w }
 {
     if w < total(file) {
-        return to(c, Mode::Offset(n, w));
+        return Ok(c.with(Mode::Offset(n, w)));
     }
-    Next::Bad(Fault::BAD_TARGET)
+    Err(Fault::BadTarget)
 }
 
 // An even offset of a word that the hunk stores.
-fn offset(c: Cursor, n: u32, k: u32, w: u32) -> Next
-    ensures { result ≡ offset_of c n k w }
+fn offset(c: Cursor, n: u32, k: u32, w: u32) -> Result<Cursor, Fault>
+    ensures { numbered result ≡ offset_of c n k w }
 {
     if w % 2 != 0 {
-        return Next::Bad(Fault::BAD_TARGET);
+        return Err(Fault::BadTarget);
     }
     let bytes = 4 * c.stored as u64;
     if bytes < w as u64 + 4 {
-        return Next::Bad(Fault::BAD_TARGET);
+        return Err(Fault::BadTarget);
     }
     if n != 0 {
-        return to(c, Mode::Offset(n - 1, k));
+        return Ok(c.with(Mode::Offset(n - 1, k)));
     }
-    to(c, Mode::Count)
+    Ok(c.with(Mode::Count))
 }
 
 // The type byte is 0; the name's words and one value follow.
-fn symbol(c: Cursor, w: u32) -> Next
-    ensures { result ≡ symbol_of c w }
+fn symbol(c: Cursor, w: u32) -> Result<Cursor, Fault>
+    ensures { numbered result ≡ symbol_of c w }
 {
     if w == 0 {
-        return to(c, Mode::Part);
+        return Ok(c.with(Mode::Part));
     }
     if 0x1000000 <= w {
-        return Next::Bad(Fault::SYMBOL_TYPE);
+        return Err(Fault::SymbolType);
     }
-    to(c, Mode::Skip(w, After::Symbol))
+    Ok(c.with(Mode::Skip(w, After::Symbol)))
 }
 
 // A hunk's first word.
-fn first(c: Cursor, w: u32) -> Next
-    ensures { result ≡ begin_of c w }
+fn first(c: Cursor, w: u32) -> Result<Cursor, Fault>
+    ensures { numbered result ≡ begin_of c w }
 {
     if w == NAME {
-        return to(c, Mode::NameLength);
+        return Ok(c.with(Mode::NameLength));
     }
     body(c, w)
 }
 
 // The reader takes the word w.
-pub fn step(file: &[u8], c: Cursor, w: u32) -> Next
+#[tactic(auto, using(crate::proofs::Choices::choices), unfolding(crate::specs::Reader::step_of))]
+pub fn step(file: &[u8], c: Cursor, w: u32) -> Result<Cursor, Fault>
     requires { CursorFits file.now c }
-    ensures { result ≡ step_of (total_of file.now) (space_of file.now) c w }
+    ensures { numbered result ≡ step_of (total_of file.now) (space_of file.now) c w }
 {
-    let m = c.mode;
-    match m {
+    match c.mode {
         Mode::Begin => first(c, w),
-        Mode::NameLength => skipped(c, w, After::Body),
+        Mode::NameLength => Ok(skip_at(c, w, After::Body)),
         Mode::Body => body(c, w),
         Mode::Length(kind) => body_length(file, c, kind, w),
-        Mode::Stored(i) => stored_from(c, i + 1),
+        Mode::Stored(i) => Ok(stored_at(c, i + 1)),
         Mode::Part => part(file, c, w),
-        Mode::Count => count(c, w),
+        Mode::Count => Ok(count(c, w)),
         Mode::Number(n) => number(file, c, n, w),
         Mode::Offset(n, k) => offset(c, n, k, w),
         Mode::Symbol => symbol(c, w),
-        Mode::DebugLength => skipped(c, w, After::Part),
-        Mode::Skip(n, a) => skipped(c, n, a),
-        Mode::End => Next::Bad(Fault::TRAILING_WORDS),
+        Mode::DebugLength => Ok(skip_at(c, w, After::Part)),
+        Mode::Skip(n, a) => Ok(skip_at(c, n, a)),
+        Mode::End => Err(Fault::TrailingWords),
     }
 }
 
 // A byte of the file, and the cursor there.
-#[derive(Drop)]
+#[derive(Clone, Copy, Debug)]
 pub struct Spot {
     pub cursor: Cursor,
     pub at: usize,
 }
 
 // After the words from `at` on that the reader takes whatever they are: words that are stored or passed over, as many
-// as there are.
+// as there are. No stored word follows them, unless the file ends there.
 pub fn past(file: &[u8], c: Cursor, at: usize) -> Spot
     requires { (CursorFits file.now c) × (length file.now % 4 ≡ 0) × (at % 4 ≡ 0) }
-    ensures { Leads file.now c at result.cursor result.at }
+    ensures leads { Leads file.now c at result.cursor result.at }
+    ensures all { (i : ℕ) → result.cursor.mode ≡ Mode.Stored i → length file.now ≤ result.at }
 {
     if file.len() <= at {
-        return Spot { cursor: c, at: at };
+        return Spot { cursor: c, at };
     }
     let left = (file.len() - at) / 4;
-    let m = c.mode;
-    match m {
+    match c.mode {
         Mode::Stored(i) => {
-            let n = least((c.stored - i) as usize, left);
+            let n = left.min((c.stored - i) as usize);
             Spot {
                 cursor: stored_at(c, i + n as u32),
                 at: at + 4 * n,
             }
         }
         Mode::Skip(l, a) => {
-            let n = least(l as usize + 1, left);
+            let n = left.min(l as usize + 1);
             Spot {
                 cursor: skip_at(c, (l as usize + 1 - n) as u32, a),
                 at: at + 4 * n,
             }
         }
-        _ => Spot { cursor: c, at: at },
+        _ => Spot { cursor: c, at },
     }
 }

@@ -1,6 +1,6 @@
 use Prim.Native.Nat.{◌-◌}
 use lib.ListN.{length}
-use Rattle.program.proofs.Walks.{Reads}
+use Rattle.program.specs.Runs.{Reads}
 use Rattle.program.proofs.check.hunks.Given as goal
 
 abbrev pub invariant-loop-at : goal.invariant-loop-at

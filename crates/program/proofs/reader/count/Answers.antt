@@ -1,9 +1,0 @@
--- `program::reader::count` meets its contract. Assumes nothing.
-use Rattle.answers.proofs.Tests.{choices}
-use Rattle.program.proofs.reader.count.Goals as goal
-
-pub returns-then-w-eq0 : goal.returns-then-w-eq0
-returns-then-w-eq0 c = search choices depth 8
-
-pub returns : goal.returns
-returns c = search choices depth 8
