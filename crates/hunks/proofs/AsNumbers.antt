@@ -5,11 +5,10 @@ use mathlib.Core.Path.{◌≡◌, sym, ◌∙◌}
 use mathlib.Core.List.{List}
 use mathlib.Core.Logic.{◌↔◌}
 use lib.ListN.{length}
+use Rattle.std.specs.Prelude.{Err}
 use Rattle.answers.specs.Members.{◌∈◌}
 use Rattle.answers.specs.declared.Refusal.{Refusal}
-use Rattle.program.specs.declared.check.Answer.{Answer}
-use Rattle.program.specs.declared.check.Answer.TheVariants.{Refused}
-use Rattle.program.specs.Check.{numbers_of}
+use Rattle.program.specs.Check.{Answer, numbers_of}
 use Rattle.loader.specs.Calls.{call_refusals}
 use Rattle.loader.specs.Verdicts.{Accepts}
 use Rattle.loader.proofs.Numbers.{load_number, move_number, load_zero, move_zero}
@@ -18,11 +17,11 @@ use Rattle.hunks.specs.Calls.{Loads, Moves}
 
 module _ (file m : List ℕ) (t : List Hunk) (w : List ℕ) (r : Answer) (m1 : List ℕ) (t1 : List Hunk) (w1 : List ℕ) where
   -- a refusal's number is one of these
-  pub load_listed : (bases : List ℕ) → Loads file bases m t w r m1 t1 w1 → (f : Refusal) → r ≡ Refused f
+  pub load_listed : (bases : List ℕ) → Loads file bases m t w r m1 t1 w1 → (f : Refusal) → r ≡ Err f
       → (numbers_of r).number ∈ call_refusals
   load_listed bases l f e = rw e (load_number file (length m) (length t) (length w) f bases (sym l.answer ∙ e))
 
-  pub move_listed : (old new : List ℕ) → Moves file old new m t w r m1 t1 w1 → (f : Refusal) → r ≡ Refused f
+  pub move_listed : (old new : List ℕ) → Moves file old new m t w r m1 t1 w1 → (f : Refusal) → r ≡ Err f
       → (numbers_of r).number ∈ call_refusals
   move_listed old new l f e = rw e (move_number file (length m) (length t) (length w) f old new (sym l.answer ∙ e))
 

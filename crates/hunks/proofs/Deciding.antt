@@ -4,10 +4,9 @@ use Prim.Native.Nat.{ℕ}
 use mathlib.Core.Path.{◌≡◌}
 use mathlib.Core.List.{List}
 use lib.ListN.{length, replicate}
+use Rattle.std.specs.Prelude.{Err}
 use Rattle.answers.specs.declared.Refusal.{Refusal}
-use Rattle.program.specs.declared.check.Answer.{Answer}
-use Rattle.program.specs.declared.check.Answer.TheVariants.{Refused}
-use Rattle.program.specs.Check.{numbers_of}
+use Rattle.program.specs.Check.{Answer, numbers_of}
 use Rattle.loader.proofs.Deciding as numbers
 use Rattle.hunks.specs.declared.Hunk.{Hunk}
 use Rattle.hunks.specs.Records.{numbers_in}
@@ -40,10 +39,10 @@ move_determined file old new m t w r r' m1 t1 w1 m2 t2 w2 a b =
 
 pub load_keeps : (file bases m : List ℕ) (t : List Hunk) (w : List ℕ) (f : Refusal) (m1 : List ℕ) (t1 : List Hunk)
     (w1 : List ℕ)
-    → Loads file bases m t w (Refused f) m1 t1 w1 → (m1 ≡ m) × (t1 ≡ t) × (w1 ≡ replicate (length w) 0)
+    → Loads file bases m t w (Err f) m1 t1 w1 → (m1 ≡ m) × (t1 ≡ t) × (w1 ≡ replicate (length w) 0)
 load_keeps file bases m t w f m1 t1 w1 l = (l.loaded, l.recorded, l.clean)
 
 pub move_keeps : (file old new m : List ℕ) (t : List Hunk) (w : List ℕ) (f : Refusal) (m1 : List ℕ) (t1 : List Hunk)
     (w1 : List ℕ)
-    → Moves file old new m t w (Refused f) m1 t1 w1 → (m1 ≡ m) × (t1 ≡ t) × (w1 ≡ replicate (length w) 0)
+    → Moves file old new m t w (Err f) m1 t1 w1 → (m1 ≡ m) × (t1 ≡ t) × (w1 ≡ replicate (length w) 0)
 move_keeps file old new m t w f m1 t1 w1 l = (l.shifted, l.recorded, l.clean)

@@ -6,8 +6,7 @@ use mathlib.Core.Path.{◌≡◌, sym, ap, ◌∙◌}
 use mathlib.Core.List.{List}
 use lib.ListN.{length}
 use Rattle.words.specs.Word.{Bytes}
-use Rattle.program.specs.declared.check.Answer.{Answer}
-use Rattle.program.specs.declared.check.Answer.TheVariants.{Accepted}
+use Rattle.program.specs.Check.{Answer, accepted}
 use Rattle.loader.specs.Table.{record_length}
 use Rattle.loader.specs.Calls.{load_answer, records_in}
 use Rattle.loader.specs.Moving.{SameRoom, LoadsAt}
@@ -35,9 +34,9 @@ module _ (file m : List ℕ) (t : List Hunk) (w : List ℕ) (x n : ℕ) where
     -- A load at A, moved to B, is a load at B: answer, memory, table and work area.
     pub load_move : (B : List ℕ) (y k : ℕ)
         → (m1 : List ℕ) (t1 : List Hunk) (w1 mB : List ℕ) (tB : List Hunk) (wB : List ℕ)
-        → Loads file A m t w (Accepted x n) m1 t1 w1 → Loads file B m t w (Accepted y k) mB tB wB
+        → Loads file A m t w (accepted x n) m1 t1 w1 → Loads file B m t w (accepted y k) mB tB wB
         → (w' m2 : List ℕ) (t2 : List Hunk) (w2 : List ℕ) (r : Answer) → length w' ≡ length w
-        → Moves file A B m1 t1 w' r m2 t2 w2 → (r ≡ Accepted y k) × (m2 ≡ mB) × (t2 ≡ tB) × (w2 ≡ wB)
+        → Moves file A B m1 t1 w' r m2 t2 w2 → (r ≡ accepted y k) × (m2 ≡ mB) × (t2 ≡ tB) × (w2 ≡ wB)
     load_move B y k m1 t1 w1 mB tB wB l lb w' m2 t2 w2 r lw v =
         let q =
         numbers.load_move file m (numbers_in t) w x n A (at_numbers A x n (sym l.answer)) B y k m1
@@ -55,7 +54,7 @@ module _ (file m : List ℕ) (t : List Hunk) (w : List ℕ) (x n : ℕ) where
           → SameRoom m t w m' t' w' → length w'' ≡ length w → length w''' ≡ length w
           → Moves file A B m' t' w' r1 m1 t1 w1 → Moves file B C m1 t1 w'' r2 m2 t2 w2
           → Moves file A C m' t' w''' r3 m3 t3 w3
-          → (r1 ≡ Accepted x n) × (r2 ≡ Accepted x n) × (r3 ≡ Accepted x n) × (m2 ≡ m3) × (t2 ≡ t3) × (w2 ≡ w3)
+          → (r1 ≡ accepted x n) × (r2 ≡ accepted x n) × (r3 ≡ accepted x n) × (m2 ≡ m3) × (t2 ≡ t3) × (w2 ≡ w3)
       move_move B C y k z j b c m' t' w' w'' w''' m1 t1 w1 m2 t2 w2 m3 t3 w3 r1 r2 r3 s lw lw' v1 v2 v3 =
           let q =
           numbers.move_move file m (numbers_in t) w x n A (at_numbers A x n a) B C y k z j (at_numbers B y k b)
@@ -67,7 +66,7 @@ module _ (file m : List ℕ) (t : List Hunk) (w : List ℕ) (x n : ℕ) where
 
       -- A to A changes no byte of memory.
       pub move_stays : (m' : List ℕ) (t' : List Hunk) (w' m1 : List ℕ) (t1 : List Hunk) (w1 : List ℕ) (r : Answer)
-          → Bytes m' → SameRoom m t w m' t' w' → Moves file A A m' t' w' r m1 t1 w1 → (r ≡ Accepted x n) × (m1 ≡ m')
+          → Bytes m' → SameRoom m t w m' t' w' → Moves file A A m' t' w' r m1 t1 w1 → (r ≡ accepted x n) × (m1 ≡ m')
       move_stays m' t' w' m1 t1 w1 r bytes s v =
           numbers.move_stays file m (numbers_in t) w x n A (at_numbers A x n a) m' (numbers_in t') w' m1 (numbers_in t1)
           w1 r bytes (room_numbers m' t' w' s) (move_numbers file A A m' t' w' r m1 t1 w1 v)
@@ -77,7 +76,7 @@ module _ (file m : List ℕ) (t : List Hunk) (w : List ℕ) (x n : ℕ) where
           → (m' : List ℕ) (t' : List Hunk) (w' w'' m1 : List ℕ) (t1 : List Hunk) (w1 m2 : List ℕ) (t2 : List Hunk)
           (w2 : List ℕ) (r1 r2 : Answer)
           → Bytes m' → SameRoom m t w m' t' w' → length w'' ≡ length w → Moves file A B m' t' w' r1 m1 t1 w1
-          → Moves file B A m1 t1 w'' r2 m2 t2 w2 → (r1 ≡ Accepted x n) × (r2 ≡ Accepted x n) × (m2 ≡ m')
+          → Moves file B A m1 t1 w'' r2 m2 t2 w2 → (r1 ≡ accepted x n) × (r2 ≡ accepted x n) × (m2 ≡ m')
       move_back B y k b m' t' w' w'' m1 t1 w1 m2 t2 w2 r1 r2 bytes s lw v1 v2 =
           numbers.move_back file m (numbers_in t) w x n A (at_numbers A x n a) B y k (at_numbers B y k b) m'
           (numbers_in t') w' w'' m1 (numbers_in t1) w1 m2 (numbers_in t2) w2 r1 r2 bytes (room_numbers m' t' w' s) lw

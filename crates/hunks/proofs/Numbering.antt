@@ -5,10 +5,9 @@ use mathlib.Core.List.{List, [], ◌∷◌, ◌++◌}
 use native.Mathlib.Omega.{arith}
 use lib.ListN.{length, get_or, take, drop}
 use lib.Seq.{drop-cons, drop-nil, take_all}
-use Rattle.program.specs.declared.check.Answer.{Answer}
-use Rattle.program.specs.declared.check.Answer.TheVariants.{Accepted, Refused}
+use Rattle.std.specs.Prelude.{Ok, Err}
 use Rattle.program.specs.Header.{total_of}
-use Rattle.program.specs.Check.{numbers_of}
+use Rattle.program.specs.Check.{Answer, accepted, numbers_of}
 use Rattle.program.specs.Cursors.{HeaderFits}
 use Rattle.loader.specs.Table.{record_length, records_of, table_of}
 use Rattle.loader.specs.Calls.{load_answer, move_answer, effect, records_in}
@@ -96,10 +95,10 @@ same_table (g ∷ s) (h ∷ t) e =
 -- ---- a load and a move, over the numbers of their tables
 
 as_numbers : (a : Answer) (file bases : List ℕ) (t t1 : List Hunk) → t1 ≡ kept a (hunks_of file bases t) t
-    → ((x n : ℕ) → a ≡ Accepted x n → HeaderFits file)
+    → ((x n : ℕ) → a ≡ accepted x n → HeaderFits file)
     → numbers_in t1 ≡ effect a (table_of file bases (numbers_in t)) (numbers_in t)
-as_numbers (Accepted x n) file bases t t1 e f = ap numbers_in e ∙ numbers_table file bases t (f x n refl)
-as_numbers (Refused r) file bases t t1 e f = ap numbers_in e
+as_numbers (Ok v) file bases t t1 e f = ap numbers_in e ∙ numbers_table file bases t (f v.hunks v.bytes refl)
+as_numbers (Err r) file bases t t1 e f = ap numbers_in e
 
 pub load_numbers : (file bases m : List ℕ) (t : List Hunk) (w : List ℕ) (r : Answer) (m1 : List ℕ) (t1 : List Hunk)
     (w1 : List ℕ)

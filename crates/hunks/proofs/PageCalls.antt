@@ -5,7 +5,7 @@ use Prim.Native.Nat.{ℕ}
 use mathlib.Core.Path.{◌≡◌, ◌∙◌}
 use mathlib.Core.List.{List}
 use lib.ListN.{length, get_or}
-use Rattle.program.specs.declared.check.Answer.TheVariants.{Accepted}
+use Rattle.program.specs.Check.{accepted}
 use Rattle.program.specs.Page.{Holds}
 use Rattle.program.specs.Page as page
 use Rattle.loader.specs.Memory.{amount_of, moved}
@@ -20,7 +20,7 @@ use Rattle.hunks.proofs.Numbering.{load_numbers, move_numbers}
 use Rattle.hunks.proofs.PageTables.{page_table}
 
 module _ (file m : List ℕ) (t : List Hunk) (w : List ℕ) (x n : ℕ) (m' : List ℕ) (t' : List Hunk) (w' : List ℕ) where
-  module _ (bases : List ℕ) (l : Loads file bases m t w (Accepted x n) m' t' w') where
+  module _ (bases : List ℕ) (l : Loads file bases m t w (accepted x n) m' t' w') where
     -- for any hunks that the file holds
     pub load_held : (hs : List page.Hunk) → Holds file hs → LoadedPage (page_records 0 0) hs bases m t x n m' t'
     load_held hs h =
@@ -55,7 +55,7 @@ module _ (file m : List ℕ) (t : List Hunk) (w : List ℕ) (x n : ℕ) (m' : Li
         targets.load_others file hs h m (numbers_in t) w x n m' (numbers_in t') w' bases
         (load_numbers file bases m t w _ m' t' w' l)
 
-  module _ (old new : List ℕ) (l : Moves file old new m t w (Accepted x n) m' t' w') where
+  module _ (old new : List ℕ) (l : Moves file old new m t w (accepted x n) m' t' w') where
     pub move_held : (hs : List page.Hunk) → Holds file hs → MovedPage (page_records 0 0) hs old new m t x n m' t'
     move_held hs h =
         let p =

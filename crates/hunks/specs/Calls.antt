@@ -1,9 +1,7 @@
 -- What a load and a move over a table of structs answer, said also by the answer's numbers, and what they leave. A
 -- refused call leaves memory and table; the work area comes back all 0.
-use Rattle.std.specs.Prelude.{ℕ, ◌≡◌, List, length, replicate}
-use Rattle.program.specs.declared.check.Answer.{Answer}
-use Rattle.program.specs.declared.check.Answer.TheVariants.{Accepted, Refused}
-use Rattle.program.specs.Check.{numbers_of}
+use Rattle.std.specs.Prelude.{Ok, Err, ℕ, ◌≡◌, List, length, replicate}
+use Rattle.program.specs.Check.{Answer, numbers_of}
 use Rattle.loader.specs.Memory.{load_of, move_of}
 use Rattle.loader.specs.Calls.{load_answer, move_answer, effect}
 use Rattle.hunks.specs.declared.Hunk.{Hunk}
@@ -11,8 +9,8 @@ use Rattle.hunks.specs.Records.{hunks_of}
 
 -- accepted: the new records; refused: the old
 abbrev pub kept : Answer → List Hunk → List Hunk → List Hunk
-kept (Accepted t n) new old = new
-kept (Refused r) new old = old
+kept (Ok v) new old = new
+kept (Err r) new old = old
 
 pub record Loads (file bases memory : List ℕ) (table : List Hunk) (work : List ℕ) (r : Answer)
     (memory' : List ℕ) (table' : List Hunk) (work' : List ℕ) : Type 0 where

@@ -1,9 +1,10 @@
 -- One act at a time: what it asks lies inside, and what it does. Assumes nothing.
+use Rattle.std.specs.Prelude.{Ok}
 use Rattle.std.proofs.Common.{◌≡◌, ℕ, zero, suc, ◌+◌, ◌*◌, ◌<◌, ◌≤◌, Bool, true, false, eqb, List, [], ◌∷◌, length, sym}
-use Rattle.std.proofs.Common.{refl, ap, ◌∙◌, subst, arith}
+use Rattle.std.proofs.Common.{refl, ◌∙◌, arith}
 use native.Mathlib.Decide.{dec_lt}
+use Rattle.program.specs.Runs.{Reads}
 use Rattle.program.specs.Types as type
-use Rattle.words.specs.Word.{add_at}
 use Rattle.words.specs.Shift.{Target, shift_all}
 use Rattle.words.proofs.Words.{length_set_word, length_add_at}
 use Rattle.answers.specs.Tests.{pick}
@@ -12,20 +13,15 @@ use Rattle.program.specs.declared.act.Act.TheVariants.{Quiet, Body, Store, Add}
 use Rattle.program.specs.declared.reader.Cursor.{Cursor}
 use Rattle.program.specs.declared.reader.Mode.{Mode}
 use Rattle.program.specs.declared.reader.Mode.TheVariants as mode
-use Rattle.program.specs.declared.reader.Next.{Next}
-use Rattle.program.specs.declared.reader.Next.TheVariants.{On}
 use Rattle.program.specs.Spaces.{Space}
-use Rattle.program.specs.Header.{total_of, space_of, size_of, memory_of}
-use Rattle.program.specs.Reader.{turn, step_of}
+use Rattle.program.specs.Header.{total_of, space_of, size_of}
+use Rattle.program.specs.Reader.{Next, turn, step_of}
 use Rattle.program.specs.Acts.{asks, act_of, pass}
 use Rattle.program.specs.Cursors.{HeaderFits, CursorFits, ModeFits, place_of}
 use Rattle.program.proofs.CursorsFit.{offset_in}
-use Rattle.program.proofs.Walks.{Reads}
-use Rattle.program.proofs.Passes.{Passing}
-use Rattle.program.proofs.Runs.{QuietOrStore}
-use Rattle.loader.specs.Memory.{loaded_of, store_one, target_one, targets, shift_one, amount_of}
+use Rattle.loader.specs.Memory.{loaded_of, store_one, target_one, targets, shift_one}
 use Rattle.loader.specs.Parts.{ActFits}
-use Rattle.loader.specs.Table.{record_length, with_numbers, record_one}
+use Rattle.loader.specs.Table.{record_length, record_one}
 use Rattle.loader.proofs.Copies.{length_with}
 
 -- ---- what a word asks for lies inside
@@ -58,7 +54,7 @@ module _ (file : List ℕ) (c : Cursor) (at w : ℕ) (d : Cursor) (s : CursorFit
   low = omega (arith, s.low, s.hunks, s.header.few)
 
   fits_in : (m : Mode) → ModeFits (total_of file) c.hunk c.stored m
-      → turn (total_of file) (space_of file) c w m ≡ On d → ActFits (loaded_of file) (total_of file) (asks c at w m)
+      → turn (total_of file) (space_of file) c w m ≡ Ok d → ActFits (loaded_of file) (total_of file) (asks c at w m)
   unfolding pick
   fits_in mode.Begin h e = go (eqb w type.name)
     where
@@ -79,19 +75,19 @@ module _ (file : List ℕ) (c : Cursor) (at w : ℕ) (d : Cursor) (s : CursorFit
   fits_in (mode.Skip n a) h e = tt
   fits_in mode.End h e = tt
 
-  pub act_fits : step_of (total_of file) (space_of file) c w ≡ On d
+  pub act_fits : step_of (total_of file) (space_of file) c w ≡ Ok d
       → ActFits (loaded_of file) (total_of file) (act_of c at w)
   unfolding step_of act_of
   act_fits = fits_in c.mode s.mode
 
-more_room : (m n t u : ℕ) (a : Act) → m ≤ n → t ≤ u → ActFits m t a → ActFits n u a
+pub more_room : (m n t u : ℕ) (a : Act) → m ≤ n → t ≤ u → ActFits m t a → ActFits n u a
 more_room m n t u Quiet h k f = tt
 more_room m n t u (Body x p z) h k f = (omega (arith, f.0), f.1)
 more_room m n t u (Store p w) h k f = omega arith
 more_room m n t u (Add p z b) h k f = (omega (arith, f.0), omega (arith, f.1))
 
 fits : (file : List ℕ) (c : Cursor) (at w : ℕ) (r : Next) (d : Cursor) (a : Act) (n t : ℕ) → CursorFits file c
-    → r ≡ step_of (total_of file) (space_of file) c w → r ≡ On d → a ≡ act_of c at w → loaded_of file ≤ n
+    → r ≡ step_of (total_of file) (space_of file) c w → r ≡ Ok d → a ≡ act_of c at w → loaded_of file ≤ n
     → total_of file ≤ t
     → ActFits n t a
 fits file c at w r d a n t s q e x h k =
@@ -99,33 +95,17 @@ fits file c at w r d a n t s q e x h k =
 
 -- the same in the loop of a pass, as its code asks it
 module _ (file : List ℕ) (c : Cursor) (at w : ℕ) (r : Next) (d : Cursor) (a : Act) (i : Reads file c at)
-    (q : r ≡ step_of (total_of file) (space_of file) c w) (e : r ≡ On d) (x : a ≡ act_of c at w) where
+    (q : r ≡ step_of (total_of file) (space_of file) c w) (e : r ≡ Ok d) (x : a ≡ act_of c at w) where
   pub reads_fits : (n t : ℕ) → loaded_of file ≤ n → total_of file ≤ t → ActFits n t a
   reads_fits n t = fits file c at w r d a n t i.fits q e x
-
-pub act_room : (g : List ℕ → Act → List ℕ) (file m₀ m : List ℕ) (c : Cursor) (at w : ℕ) (r : Next) (d : Cursor)
-    (a : Act) (t : ℕ)
-    → Passing g file m₀ m c at → r ≡ step_of (total_of file) (space_of file) c w → r ≡ On d → a ≡ act_of c at w
-    → loaded_of file ≤ length m₀ → total_of file ≤ t → ActFits (length m) t a
-act_room g file m₀ m c at w r d a t i q e x h k =
-    reads_fits file c at w r d a i.reads q e x (length m) t (omega (arith, i.long)) k
 
 place_low : (file : List ℕ) → HeaderFits file → (i : ℕ) → i ≤ total_of file → place_of (space_of file) i ≤ i * 262144
 unfolding place_of
 place_low file s zero h = omega arith
 place_low file s (suc i) h = omega (arith, place_low file s i (omega arith), (s.spaces i (omega arith)).size)
 
-loaded_low : (file : List ℕ) → HeaderFits file → loaded_of file ≤ 4294967296
+pub loaded_low : (file : List ℕ) → HeaderFits file → loaded_of file ≤ 4294967296
 loaded_low file s = omega (arith, place_low file s (total_of file) (omega arith), s.few)
-
-pub record_fits : (file : List ℕ) (c : Cursor) (at w : ℕ) (r : Next) (d : Cursor) (a : Act) → Reads file c at
-    → r ≡ step_of (total_of file) (space_of file) c w → r ≡ On d → a ≡ act_of c at w → HeaderFits file
-    → ActFits 4294967296 (total_of file) a
-record_fits file c at w r d a i q e x s =
-    reads_fits file c at w r d a i q e x 4294967296 (total_of file) (loaded_low file s) (omega arith)
-
-pub cursor_low : (file : List ℕ) (c : Cursor) → CursorFits file c → c.place ≤ 4294967296
-cursor_low file c s = omega (arith, s.low, s.hunks, s.header.few)
 
 -- ---- storing
 
@@ -136,26 +116,6 @@ length_store_one m (Store p w) = length_set_word m p w
 length_store_one m (Add p k b) = refl
 
 -- ---- adding
-
-module _ (n t : ℕ) (a : Act) (p k b : ℕ) (f : ActFits n t a) (e : a ≡ Add p k b) where
-  add_fits : (p + 4 ≤ n) × (k < t)
-  add_fits = subst (ActFits n t) e f
-
-  pub add_room : p + 4 ≤ n
-  add_room = add_fits.0
-
-  pub add_named : k < t
-  add_named = add_fits.1
-
-pub add_done : (m r : List ℕ) (f : ℕ → ℕ) (a : Act) (p k b : ℕ) → a ≡ Add p k b → r ≡ add_at m p (f k)
-    → r ≡ shift_one m f a
-add_done m r f a p k b e h = h ∙ sym (ap (shift_one m f) e)
-
-pub add_rest : (m : List ℕ) (f : ℕ → ℕ) (a : Act) → ((p k b : ℕ) → a ≡ Add p k b → ⊥) → m ≡ shift_one m f a
-add_rest m f Quiet h = refl
-add_rest m f (Body x p k) h = refl
-add_rest m f (Store p w) h = refl
-add_rest m f (Add p k b) h = absurd (h p k b refl)
 
 pub length_shift_one : (f : ℕ → ℕ) (m : List ℕ) (a : Act) → length (shift_one m f a) ≡ length m
 length_shift_one f m Quiet = refl
@@ -183,59 +143,8 @@ shift_pass f m n us e = e ∙ pass_shift f m us
 
 -- ---- recording
 
-module _ (file : List ℕ) (n : ℕ) (a : Act) (h p k : ℕ) (f : ActFits n (total_of file) a) (e : a ≡ Body h p k) where
-  body_fits : (h < total_of file) × (p < 4294967296)
-  body_fits = subst (ActFits n (total_of file)) e f
-
-  pub place_fits : p < 4294967296
-  place_fits = body_fits.1
-
-  pub space_there : HeaderFits file → 24 + 4 * h ≤ length file
-  space_there s = omega (arith, body_fits.0, s.long)
-
-  pub base_there : (bases : List ℕ) → total_of file ≤ length bases → h < length bases
-  base_there bases l = omega (arith, body_fits.0)
-
-  -- the record has room
-  pub record_there : (table : List ℕ) → record_length * total_of file ≤ length table
-      → record_length * h + record_length ≤ length table
-  record_there table l = omega (arith, body_fits.0)
-
-pub record_done : (file bases t r : List ℕ) (a : Act) (h p k s m : ℕ) → a ≡ Body h p k
-    → s ≡ size_of file h → m ≡ memory_of file h
-    → r ≡ with_numbers t (record_length * h) (k ∷ p ∷ s ∷ amount_of bases h ∷ m ∷ [])
-    → r ≡ record_one file bases t a
-record_done file bases t r a h p k s m e q n x = x ∙ rw (e, q, n)
-
-pub record_rest : (file bases t : List ℕ) (a : Act) → ((x p k : ℕ) → a ≡ Body x p k → ⊥) → t ≡ record_one file bases t a
-record_rest file bases t Quiet h = refl
-record_rest file bases t (Body x p k) h = absurd (h x p k refl)
-record_rest file bases t (Store p w) h = refl
-record_rest file bases t (Add p k b) h = refl
-
 pub length_record_one : (file bases t : List ℕ) (a : Act) → length (record_one file bases t a) ≡ length t
 length_record_one file bases t Quiet = refl
 length_record_one file bases t (Body h p k) = length_with t (record_length * h) _
 length_record_one file bases t (Store p w) = refl
 length_record_one file bases t (Add p k b) = refl
-
--- ---- passes that make nothing of stored words, and of words that ask for nothing
-
-pub quiet_shift : (f : ℕ → ℕ) (m : List ℕ) (a : Act) → QuietOrStore a → shift_one m f a ≡ m
-quiet_shift f m Quiet h = refl
-quiet_shift f m (Body i p k) h = refl
-quiet_shift f m (Store p w) h = refl
-quiet_shift f m (Add p k b) h = absurd h
-
-pub quiet_record : (file bases t : List ℕ) (a : Act) → QuietOrStore a → record_one file bases t a ≡ t
-quiet_record file bases t Quiet h = refl
-quiet_record file bases t (Body i p k) h = absurd h
-quiet_record file bases t (Store p w) h = refl
-quiet_record file bases t (Add p k b) h = refl
-
-pub quiet_target : (a : Act) (us : List Act) → QuietOrStore a → targets (a ∷ us) ≡ targets us
-unfolding targets
-quiet_target Quiet us h = refl
-quiet_target (Body i p k) us h = refl
-quiet_target (Store p w) us h = refl
-quiet_target (Add p k b) us h = absurd h

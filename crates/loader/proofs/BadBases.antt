@@ -1,5 +1,6 @@
 -- 40 is given if and only if a list of bases has another length, or at its first bad entry; and why an entry is bad.
 -- Assumes nothing.
+use Rattle.std.specs.Prelude.{Ok, Err}
 use Rattle.std.proofs.Common.{◌≡◌, ℕ, zero, suc, ◌+◌, ◌*◌, ◌%◌, ◌^◌, ◌<◌, ◌≤◌, Bool, true, false, eqb, ltb, ◌≢◌, ◌⊎◌}
 use Rattle.std.proofs.Common.{◌↔◌, List, length, sym, refl, ap, ◌∙◌, subst, inl, inr, arith, ltb-false, ltb-true}
 use Rattle.std.proofs.Common.{lt-ltb, eq-eqb, ne_eqb, eqb-true}
@@ -10,7 +11,6 @@ use Rattle.answers.specs.Numbers as fault
 use Rattle.answers.specs.Tests.{pick}
 use Rattle.answers.specs.Refusals.{refusal}
 use Rattle.answers.specs.declared.Refusal.{Refusal}
-use Rattle.answers.specs.declared.Tested.TheVariants.{Passed, Failed}
 use Rattle.answers.proofs.Tests.{pick_passed}
 use Rattle.answers.proofs.Clashes.{impossible}
 use Rattle.program.specs.Header.{total_of, size_of}
@@ -38,7 +38,7 @@ module _ (file bases : List ℕ) (from : ℕ) where
       (k : ℕ) × (i ≤ k) × (k < i + n) × (f ≡ refusal fault.bad_base (from + k)) × (entry_bad file bases k ≡ true)
       × ((j : ℕ) → i ≤ j → j < k → entry_bad file bases j ≡ false)
 
-  from_why : (i n : ℕ) (f : Refusal) → bases_from file bases from i n ≡ Failed f → Found i n f
+  from_why : (i n : ℕ) (f : Refusal) → bases_from file bases from i n ≡ Err f → Found i n f
   unfolding bases_from
   from_why i zero f h = not_failed h
   from_why i (suc n) f h =
@@ -47,8 +47,8 @@ module _ (file bases : List ℕ) (from : ℕ) where
       f h) (from_why (i + 1) n f)
     where
       go : ((entry_bad file bases i ≡ true) × (f ≡ refusal fault.bad_base (from + i)))
-          ⊎ ((entry_bad file bases i ≡ false) × (bases_from file bases from (i + 1) n ≡ Failed f))
-          → (bases_from file bases from (i + 1) n ≡ Failed f → Found (i + 1) n f) → Found i (suc n) f
+          ⊎ ((entry_bad file bases i ≡ false) × (bases_from file bases from (i + 1) n ≡ Err f))
+          → (bases_from file bases from (i + 1) n ≡ Err f → Found (i + 1) n f) → Found i (suc n) f
       go (inl x) g = (i, omega arith, omega arith, x.1, x.0, λ j a b. absurd (omega arith))
       go (inr x) g =
           let r = g x.1 in (
@@ -67,29 +67,29 @@ module _ (file bases : List ℕ) (from : ℕ) where
 
   from_then : (i n k : ℕ) → i ≤ k → k < i + n → entry_bad file bases k ≡ true
       → ((j : ℕ) → i ≤ j → j < k → entry_bad file bases j ≡ false)
-      → bases_from file bases from i n ≡ Failed (refusal fault.bad_base (from + k))
+      → bases_from file bases from i n ≡ Err (refusal fault.bad_base (from + k))
   unfolding bases_from
   from_then i zero k a b t g = absurd (omega arith)
   from_then i (suc n) k a b t g =
       go (dec_lt i k) (λ l. from_then (i + 1) n k (omega arith) (omega arith) t (λ j x y. g j (omega arith) y))
     where
-      go : Dec (i < k) → (i < k → bases_from file bases from (i + 1) n ≡ Failed (refusal fault.bad_base (from + k)))
-          → pick (entry_bad file bases i) (Failed (refusal fault.bad_base (from + i)))
-          (bases_from file bases from (i + 1) n) ≡ Failed (refusal fault.bad_base (from + k))
+      go : Dec (i < k) → (i < k → bases_from file bases from (i + 1) n ≡ Err (refusal fault.bad_base (from + k)))
+          → pick (entry_bad file bases i) (Err (refusal fault.bad_base (from + i)))
+          (bases_from file bases from (i + 1) n) ≡ Err (refusal fault.bad_base (from + k))
       go (yes l) r = pick_goes _ _ _ _ (g i (omega arith) l) (r l)
       go (no l) r =
           let e : k ≡ i = omega arith in
           pick_fails _ _ _ (subst (λ (z : ℕ). entry_bad file bases z ≡ true) e t)
-          ∙ ap (λ (z : ℕ). Failed (refusal fault.bad_base (from + z))) (sym e)
+          ∙ ap (λ (z : ℕ). Err (refusal fault.bad_base (from + z))) (sym e)
 
 module _ (file bases : List ℕ) (from : ℕ) (f : Refusal) where
-  bases_there : bases_fault file bases from ≡ Failed f → BasesWhy file bases from f
+  bases_there : bases_fault file bases from ≡ Err f → BasesWhy file bases from f
   unfolding bases_fault
   bases_there h =
       go (pick_else (eqb (length bases) (total_of file)) (bases_from file bases from 0 (total_of file))
       (refusal fault.bad_base from) f h)
     where
-      go : ((eqb (length bases) (total_of file) ≡ true) × (bases_from file bases from 0 (total_of file) ≡ Failed f))
+      go : ((eqb (length bases) (total_of file) ≡ true) × (bases_from file bases from 0 (total_of file) ≡ Err f))
           ⊎ ((eqb (length bases) (total_of file) ≡ false) × (f ≡ refusal fault.bad_base from))
           → BasesWhy file bases from f
       go (inl x) =
@@ -97,15 +97,15 @@ module _ (file bases : List ℕ) (from : ℕ) (f : Refusal) where
           inr (eqb-true _ _ x.0, (r.0, omega (arith, r.2), r.3, r.4, λ j b. r.5 j (omega arith) b))
       go (inr x) = inl (x.1, eqb-false _ _ x.0)
 
-  bases_back : BasesWhy file bases from f → bases_fault file bases from ≡ Failed f
+  bases_back : BasesWhy file bases from f → bases_fault file bases from ≡ Err f
   unfolding bases_fault pick
-  bases_back (inl x) = rw (ne_eqb _ _ x.1) (ap Failed (sym x.0))
+  bases_back (inl x) = rw (ne_eqb _ _ x.1) (ap Err (sym x.0))
   bases_back (inr x) =
       let r = x.1 in
       rw (eq-eqb _ _ x.0) (from_then file bases from 0 (total_of file) r.0 (omega arith) (omega (arith, r.1))
-      r.3 (λ j a b. r.4 j b) ∙ ap Failed (sym r.2))
+      r.3 (λ j a b. r.4 j b) ∙ ap Err (sym r.2))
 
-  pub bases_why : (bases_fault file bases from ≡ Failed f) ↔ BasesWhy file bases from f
+  pub bases_why : (bases_fault file bases from ≡ Err f) ↔ BasesWhy file bases from f
   bases_why = (bases_there, bases_back)
 
 -- ---- why it is bad
@@ -254,7 +254,7 @@ module _ (file bases : List ℕ) where
 -- ---- a list passes if and only if its count is right and no entry is bad, wherever it counts from
 
 module _ (file bases : List ℕ) (from : ℕ) where
-  from_passed : (i n : ℕ) → bases_from file bases from i n ≡ Passed → (k : ℕ) → i ≤ k → k < i + n
+  from_passed : (i n : ℕ) → bases_from file bases from i n ≡ Ok tt → (k : ℕ) → i ≤ k → k < i + n
       → entry_bad file bases k ≡ false
   unfolding bases_from
   from_passed i zero h k a b = absurd (omega arith)
@@ -270,14 +270,14 @@ module _ (file bases : List ℕ) (from : ℕ) where
       go (no l) e g = let q : i ≡ k = omega arith in subst (λ (z : ℕ). entry_bad file bases z ≡ false) q e
 
   from_good : (i n : ℕ) → ((k : ℕ) → i ≤ k → k < i + n → entry_bad file bases k ≡ false)
-      → bases_from file bases from i n ≡ Passed
+      → bases_from file bases from i n ≡ Ok tt
   unfolding bases_from
   from_good i zero g = refl
   from_good i (suc n) g =
       pick_goes _ _ _ _ (g i (omega arith) (omega arith))
       (from_good (i + 1) n (λ k a b. g k (omega arith) (omega arith)))
 
-  pub bases_exactly : (bases_fault file bases from ≡ Passed)
+  pub bases_exactly : (bases_fault file bases from ≡ Ok tt)
       ↔ ((length bases ≡ total_of file) × ((k : ℕ) → k < total_of file → entry_bad file bases k ≡ false))
   unfolding bases_fault pick
   bases_exactly = (
@@ -286,13 +286,13 @@ module _ (file bases : List ℕ) (from : ℕ) where
   )
     where
       go : (b : Bool) → eqb (length bases) (total_of file) ≡ b
-          → pick b (bases_from file bases from 0 (total_of file)) (Failed (refusal fault.bad_base from)) ≡ Passed
+          → pick b (bases_from file bases from 0 (total_of file)) (Err (refusal fault.bad_base from)) ≡ Ok tt
           → (length bases ≡ total_of file) × ((k : ℕ) → k < total_of file → entry_bad file bases k ≡ false)
       go true e q = (eqb-true _ _ e, λ k l. from_passed 0 (total_of file) q k (omega arith) (omega arith))
       go false e q = impossible cc
 
   -- every entry of such a list is at most 2^32; one past its end is 0
-  pub low_bases : bases_fault file bases from ≡ Passed → (k : ℕ) → amount_of bases k ≤ 2 ^ 32
+  pub low_bases : bases_fault file bases from ≡ Ok tt → (k : ℕ) → amount_of bases k ≤ 2 ^ 32
   low_bases h k = let g = bases_exactly.0 h in go (dec_lt k (total_of file)) g.0 g.1
     where
       go : Dec (k < total_of file) → length bases ≡ total_of file
@@ -302,6 +302,6 @@ module _ (file bases : List ℕ) (from : ℕ) where
 
 -- ---- a list of bases is good wherever it counts from
 
-pub fault_passed : (file bases : List ℕ) (from other : ℕ) → bases_fault file bases from ≡ Passed
-    → bases_fault file bases other ≡ Passed
+pub fault_passed : (file bases : List ℕ) (from other : ℕ) → bases_fault file bases from ≡ Ok tt
+    → bases_fault file bases other ≡ Ok tt
 fault_passed file bases from other h = (bases_exactly file bases other).1 ((bases_exactly file bases from).0 h)

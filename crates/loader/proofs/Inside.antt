@@ -1,4 +1,5 @@
 -- All that a sound file asks for lies inside: its targets, their hunks, its records. Assumes nothing.
+use Rattle.std.specs.Prelude.{Ok, Err}
 use Rattle.std.proofs.Common.{◌≡◌, ℕ, ◌+◌, ◌≤◌, List, [], ◌∷◌, length, drop, replicate, refl, ◌∙◌, arith, length-append}
 use Rattle.std.proofs.Common.{length-drop}
 use lib.ListN.{length-replicate}
@@ -7,10 +8,8 @@ use Rattle.words.proofs.Shifts.{Within, Keyed}
 use Rattle.program.specs.declared.act.Act.{Act}
 use Rattle.program.specs.declared.act.Act.TheVariants.{Quiet, Body, Store, Add}
 use Rattle.program.specs.declared.reader.Cursor.{Cursor}
-use Rattle.program.specs.declared.reader.Next.{Next}
-use Rattle.program.specs.declared.reader.Next.TheVariants.{On, Bad}
 use Rattle.program.specs.Header.{total_of, space_of, start_at}
-use Rattle.program.specs.Reader.{start, step_of}
+use Rattle.program.specs.Reader.{Next, start, step_of}
 use Rattle.program.specs.Check.{words_from}
 use Rattle.program.specs.Acts.{act_of, then, acts, acts_of, pass}
 use Rattle.program.specs.Cursors.{HeaderFits, CursorFits}
@@ -34,12 +33,12 @@ module _ (file : List ℕ) where
       go (step_of (total_of file) (space_of file) c w) refl (λ d e. inside (at + 4) d ws (step_fits file c w d s e))
     where
       go : (r : Next) → step_of (total_of file) (space_of file) c w ≡ r
-          → ((d : Cursor) → step_of (total_of file) (space_of file) c w ≡ On d
+          → ((d : Cursor) → step_of (total_of file) (space_of file) c w ≡ Ok d
           → Inside (loaded_of file) (total_of file) (acts (total_of file) (space_of file) (at + 4) d ws))
           → Inside (loaded_of file) (total_of file)
           (then r (act_of c at w) (λ d. acts (total_of file) (space_of file) (at + 4) d ws))
-      go (On d) e f = (act_fits file c at w d s e, f d e)
-      go (Bad v) e f = tt
+      go (Ok d) e f = (act_fits file c at w d s e, f d e)
+      go (Err v) e f = tt
 
   pub all_inside : HeaderFits file → Inside (loaded_of file) (total_of file) (acts_of file)
   all_inside s = inside (start_at file) start (words_from file (start_at file)) (start_fits file s)

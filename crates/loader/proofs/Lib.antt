@@ -3,8 +3,6 @@
 pub mod Acts
 -- runs of stored words
 pub mod StoredRuns
--- a work area of zeros
-pub mod Zeros
 -- marks in the work area
 pub mod Marking
 -- lists of bases
@@ -48,3 +46,5 @@ pub mod Numbers
 pub mod Targets
 -- an accepted call in the page's terms
 pub mod PageCalls
+-- the steps of a pass over a file
+pub mod Stepping

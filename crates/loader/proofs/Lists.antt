@@ -1,12 +1,10 @@
 -- A call that is lent lists of bases, a load one and a move two: its tests in their order, said once for any number
 -- of lists. Assumes nothing.
+use Rattle.std.specs.Prelude.{Ok, Err}
 use Rattle.std.proofs.Common.{◌≡◌, ℕ, ◌+◌, ◌⊎◌, ◌↔◌, List, [], ◌∷◌, refl, ap, inl, inr, arith}
 use Rattle.answers.specs.declared.Refusal.{Refusal}
-use Rattle.answers.specs.declared.Tested.TheVariants.{Passed, Failed}
-use Rattle.program.specs.declared.check.Answer.{Answer}
-use Rattle.program.specs.declared.check.Answer.TheVariants.{Accepted, Refused}
 use Rattle.program.specs.Header.{total_of}
-use Rattle.program.specs.Check.{check_of}
+use Rattle.program.specs.Check.{Answer, accepted, check_of}
 use Rattle.loader.specs.Memory.{loaded_of}
 use Rattle.loader.specs.Bases.{bases_fault}
 use Rattle.loader.specs.Near.{clash_of}
@@ -25,55 +23,55 @@ module _ (file : List ℕ) where
   -- all lists pass
   abbrev pub AllPass : ℕ → List (List ℕ) → Type 0
   AllPass from [] = Unit {0}
-  AllPass from (l ∷ ls) = (bases_fault file l from ≡ Passed) × AllPass (from + total_of file) ls
+  AllPass from (l ∷ ls) = (bases_fault file l from ≡ Ok tt) × AllPass (from + total_of file) ls
 
   -- one fails, and those before it pass
   abbrev pub FirstFails : ℕ → List (List ℕ) → Refusal → Type 0
   FirstFails from [] f = ⊥
   FirstFails from (l ∷ ls) f =
-      (bases_fault file l from ≡ Failed f)
-      ⊎ ((bases_fault file l from ≡ Passed) × FirstFails (from + total_of file) ls f)
+      (bases_fault file l from ≡ Err f)
+      ⊎ ((bases_fault file l from ≡ Ok tt) × FirstFails (from + total_of file) ls f)
 
-  lists_pass : (t n : ℕ) (a : Answer) (from : ℕ) (ls : List (List ℕ)) → lists_answer a from ls ≡ Accepted t n
-      → (a ≡ Accepted t n) × AllPass from ls
+  lists_pass : (t n : ℕ) (a : Answer) (from : ℕ) (ls : List (List ℕ)) → lists_answer a from ls ≡ accepted t n
+      → (a ≡ accepted t n) × AllPass from ls
   lists_pass t n a from [] h = (h, tt)
   lists_pass t n a from (l ∷ ls) h =
       let x = lists_pass t n (also a (bases_fault file l from)) (from + total_of file) ls h in
       let y = also_so a (bases_fault file l from) t n x.0 in
       (y.0, (y.1, x.1))
 
-  pass_lists : (t n : ℕ) (a : Answer) (from : ℕ) (ls : List (List ℕ)) → a ≡ Accepted t n → AllPass from ls
-      → lists_answer a from ls ≡ Accepted t n
+  pass_lists : (t n : ℕ) (a : Answer) (from : ℕ) (ls : List (List ℕ)) → a ≡ accepted t n → AllPass from ls
+      → lists_answer a from ls ≡ accepted t n
   pass_lists t n a from [] h g = h
   pass_lists t n a from (l ∷ ls) h g =
       pass_lists t n (also a (bases_fault file l from)) (from + total_of file) ls
       (also_both a (bases_fault file l from) t n h g.0) g.1
 
-  lists_why : (f : Refusal) (a : Answer) (from : ℕ) (ls : List (List ℕ)) → lists_answer a from ls ≡ Refused f
-      → (a ≡ Refused f) ⊎ (Accepts a × FirstFails from ls f)
+  lists_why : (f : Refusal) (a : Answer) (from : ℕ) (ls : List (List ℕ)) → lists_answer a from ls ≡ Err f
+      → (a ≡ Err f) ⊎ (Accepts a × FirstFails from ls f)
   lists_why f a from [] h = inl h
   lists_why f a from (l ∷ ls) h = go (lists_why f (also a (bases_fault file l from)) (from + total_of file) ls h)
     where
-      one : (a ≡ Refused f) ⊎ (Accepts a × (bases_fault file l from ≡ Failed f))
-          → (a ≡ Refused f) ⊎ (Accepts a × FirstFails from (l ∷ ls) f)
+      one : (a ≡ Err f) ⊎ (Accepts a × (bases_fault file l from ≡ Err f))
+          → (a ≡ Err f) ⊎ (Accepts a × FirstFails from (l ∷ ls) f)
       one (inl x) = inl x
       one (inr x) = inr (x.0, inl x.1)
 
-      go : (also a (bases_fault file l from) ≡ Refused f)
+      go : (also a (bases_fault file l from) ≡ Err f)
           ⊎ (Accepts (also a (bases_fault file l from)) × FirstFails (from + total_of file) ls f)
-          → (a ≡ Refused f) ⊎ (Accepts a × FirstFails from (l ∷ ls) f)
+          → (a ≡ Err f) ⊎ (Accepts a × FirstFails from (l ∷ ls) f)
       go (inl x) = one (also_refused a (bases_fault file l from) f x)
       go (inr x) = let y = accepts_so a (bases_fault file l from) x.0 in inr (y.0, inr (y.1, x.1))
 
-  refused_lists : (f : Refusal) (a : Answer) (from : ℕ) (ls : List (List ℕ)) → a ≡ Refused f
-      → lists_answer a from ls ≡ Refused f
+  refused_lists : (f : Refusal) (a : Answer) (from : ℕ) (ls : List (List ℕ)) → a ≡ Err f
+      → lists_answer a from ls ≡ Err f
   refused_lists f a from [] h = h
   refused_lists f a from (l ∷ ls) h =
       refused_lists f (also a (bases_fault file l from)) (from + total_of file) ls
       (also_stays a (bases_fault file l from) f h)
 
   fails_lists : (f : Refusal) (a : Answer) (from : ℕ) (ls : List (List ℕ)) → Accepts a → FirstFails from ls f
-      → lists_answer a from ls ≡ Refused f
+      → lists_answer a from ls ≡ Err f
   fails_lists f a from [] h g = absurd g
   fails_lists f a from (l ∷ ls) h (inl g) =
       refused_lists f (also a (bases_fault file l from)) (from + total_of file) ls
@@ -90,36 +88,36 @@ module _ (file : List ℕ) where
 
     -- accepted: every test passes
     pub call_passes : (t n : ℕ)
-        → (call_answer ≡ Accepted t n)
-        ↔ ((check_of file ≡ Accepted t n) × AllPass 0 lists
-        × (room_fault (total_of file) (loaded_of file) m r w ≡ Passed) × (clash_of file ≡ Passed))
+        → (call_answer ≡ accepted t n)
+        ↔ ((check_of file ≡ accepted t n) × AllPass 0 lists
+        × (room_fault (total_of file) (loaded_of file) m r w ≡ Ok tt) × (clash_of file ≡ Ok tt))
     call_passes t n = (there, back)
       where
-        there : call_answer ≡ Accepted t n
-            → (check_of file ≡ Accepted t n) × AllPass 0 lists
-            × (room_fault (total_of file) (loaded_of file) m r w ≡ Passed) × (clash_of file ≡ Passed)
+        there : call_answer ≡ accepted t n
+            → (check_of file ≡ accepted t n) × AllPass 0 lists
+            × (room_fault (total_of file) (loaded_of file) m r w ≡ Ok tt) × (clash_of file ≡ Ok tt)
         there h =
             let x = also_so _ (clash_of file) t n h in
             let y = also_so _ (room_fault (total_of file) (loaded_of file) m r w) t n x.0 in
             let z = lists_pass t n (check_of file) 0 lists y.0 in
             (z.0, z.1, y.1, x.1)
 
-        back : (check_of file ≡ Accepted t n) × AllPass 0 lists
-            × (room_fault (total_of file) (loaded_of file) m r w ≡ Passed) × (clash_of file ≡ Passed)
-            → call_answer ≡ Accepted t n
+        back : (check_of file ≡ accepted t n) × AllPass 0 lists
+            × (room_fault (total_of file) (loaded_of file) m r w ≡ Ok tt) × (clash_of file ≡ Ok tt)
+            → call_answer ≡ accepted t n
         back h =
             also_both _ _ t n (also_both _ _ t n (pass_lists t n (check_of file) 0 lists h.0 h.1) h.2) h.3
 
     -- refused: the first test that fails says why
     abbrev pub TestWhy : Refusal → Type 0
     TestWhy f =
-        (check_of file ≡ Refused f)
+        (check_of file ≡ Err f)
         ⊎ (Accepts (check_of file) × FirstFails 0 lists f)
-        ⊎ (Accepts (check_of file) × AllPass 0 lists × (room_fault (total_of file) (loaded_of file) m r w ≡ Failed f))
-        ⊎ (Accepts (check_of file) × AllPass 0 lists × (room_fault (total_of file) (loaded_of file) m r w ≡ Passed)
-        × (clash_of file ≡ Failed f))
+        ⊎ (Accepts (check_of file) × AllPass 0 lists × (room_fault (total_of file) (loaded_of file) m r w ≡ Err f))
+        ⊎ (Accepts (check_of file) × AllPass 0 lists × (room_fault (total_of file) (loaded_of file) m r w ≡ Ok tt)
+        × (clash_of file ≡ Err f))
 
-    pub call_fails : (f : Refusal) → (call_answer ≡ Refused f) ↔ TestWhy f
+    pub call_fails : (f : Refusal) → (call_answer ≡ Err f) ↔ TestWhy f
     call_fails f = (
       λ h. there (last_why file m r w f (lists_answer (check_of file) 0 lists) h),
       λ h. last_then file m r w f (lists_answer (check_of file) 0 lists) (back h),
@@ -131,7 +129,7 @@ module _ (file : List ℕ) where
         accepted : Accepts (check_of file) → AllPass 0 lists → Accepts (lists_answer (check_of file) 0 lists)
         accepted a g = (a.0, a.1, pass_lists a.0 a.1 (check_of file) 0 lists a.2 g)
 
-        first : (check_of file ≡ Refused f) ⊎ (Accepts (check_of file) × FirstFails 0 lists f) → TestWhy f
+        first : (check_of file ≡ Err f) ⊎ (Accepts (check_of file) × FirstFails 0 lists f) → TestWhy f
         first (inl x) = inl x
         first (inr x) = inr (inl x)
 

@@ -1,71 +1,40 @@
 -- The marks in the work area say which targets are too near. Assumes nothing.
-use Rattle.std.proofs.Common.{◌≡◌, ℕ, ◌+◌, ◌*◌, ◌%◌, ◌<◌, ◌≤◌, Bool, true, false, eqb, ltb, ◌⊎◌, List, [], ◌∷◌, length}
-use Rattle.std.proofs.Common.{get_or, sym, refl, ap, ◌∙◌, subst, inl, inr, ⊎_elim, arith, ltb-false, ltb-true}
+use Rattle.std.specs.Prelude.{Ok, Err, None}
+use Rattle.std.specs.Prelude as std
+use lib.ListN.{length-replicate, replicate-append-replicate}
+use Rattle.std.proofs.Common.{◌-◌, take, drop, replicate, length-take-le, take_at, drop_at}
+use Rattle.std.proofs.Common.{◌≡◌, ℕ, ◌+◌, ◌<◌, ◌≤◌, Bool, true, false, ltb, ◌⊎◌, List, [], ◌∷◌, ◌++◌, length}
+use Rattle.std.proofs.Common.{get_or, sym, refl, ap, ◌∙◌, inl, inr, ⊎_elim, arith, ltb-false, ltb-true}
 use native.Mathlib.Decide.{dec_lt}
-use Rattle.program.specs.Types as type
 use Rattle.answers.specs.Numbers as fault
-use Rattle.words.specs.Word.{word_at, set_word}
+use Rattle.words.specs.Word.{word_at, words_at, set_word}
 use Rattle.words.proofs.Words.{length_set_word, split, set_word_0, set_word_1, set_word_2, set_word_3, set_word_below}
 use Rattle.words.proofs.Words.{set_word_above}
 use Rattle.answers.specs.Tests.{pick}
 use Rattle.answers.specs.Refusals.{refusal}
-use Rattle.answers.specs.declared.Tested.TheVariants.{Passed, Failed}
 use Rattle.program.specs.declared.act.Act.{Act}
 use Rattle.program.specs.declared.act.Act.TheVariants.{Quiet, Body, Store, Add}
-use Rattle.program.specs.declared.reader.Cursor.{Cursor}
-use Rattle.program.specs.declared.reader.Mode.{Mode}
-use Rattle.program.specs.declared.reader.Mode.TheVariants as mode
-use Rattle.program.specs.declared.reader.Next.{Next}
-use Rattle.program.specs.declared.reader.Next.TheVariants.{On, Bad}
-use Rattle.program.specs.Header.{total_of, space_of}
-use Rattle.program.specs.Reader.{start, step_of}
-use Rattle.program.specs.Acts.{asks, act_of, acts_from}
-use Rattle.program.specs.Cursors.{HeaderFits}
-use Rattle.program.specs.Runs.{Leads}
-use Rattle.program.proofs.Walks.{Reads, reads_start, reads_on}
-use Rattle.program.proofs.Passes.{acts_on, acts_bad, acts_end}
-use Rattle.program.proofs.Runs.{leads_reads, leads_acts}
+use Rattle.program.specs.Acts.{acts_of}
+use Rattle.loader.specs.declared.steps.Step.{Step}
+use Rattle.loader.specs.declared.steps.Step.TheVariants as step
+use Rattle.loader.specs.declared.steps.Pass.{Pass}
 use Rattle.loader.specs.Memory.{loaded_of, targets}
 use Rattle.loader.specs.Near.{near, near_any, clash, clash_of}
-use Rattle.loader.specs.Parts.{ActFits, marks_one, Marks}
-use Rattle.loader.proofs.Acts.{quiet_target, reads_fits}
-
--- ---- one act
-
-pub mark_rest : (m : List ℕ) (a : Act) → ((p k b : ℕ) → a ≡ Add p k b → ⊥) → Marks m a false m
-mark_rest m Quiet h = record { marks = (refl, refl) }
-mark_rest m (Body x p k) h = record { marks = (refl, refl) }
-mark_rest m (Store p w) h = record { marks = (refl, refl) }
-mark_rest m (Add p k b) h = absurd (h p k b refl)
-
-pub mark_met : (m : List ℕ) (a : Act) (p k b w : ℕ) → a ≡ Add p k b → w ≡ word_at m p → (w ≡ 0 → ⊥) → Marks m a true m
-mark_met m a p k b w e q h =
-    record { marks = subst (λ (x : Act). marks_one m x true m) (sym e) ((λ z. h (q ∙ z)), refl) }
-
-pub mark_new : (m n : List ℕ) (a : Act) (p k b w : ℕ) → a ≡ Add p k b → w ≡ word_at m p → w ≡ 0
-    → n ≡ set_word m p 0x01010101 → Marks m a false n
-mark_new m n a p k b w e q h s = record { marks = subst (λ (x : Act). marks_one m x false n) (sym e) (sym q ∙ h, s) }
-
-length_mark : (m n : List ℕ) (a : Act) (r : Bool) → Marks m a r n → length n ≡ length m
-length_mark m n Quiet r h = ap length h.marks.1
-length_mark m n (Body x p k) r h = ap length h.marks.1
-length_mark m n (Store p w) r h = ap length h.marks.1
-length_mark m n (Add p k b) true h = ap length h.marks.1
-length_mark m n (Add p k b) false h = ap length h.marks.1 ∙ length_set_word m p 0x01010101
+use Rattle.loader.specs.Steps.{stores, spelled, asked, left, Gives}
 
 -- k is a byte of the word at q
 abbrev In : ℕ → ℕ → Type 0
 In k q = (q ≤ k) × (k < q + 4)
 
 -- some word of the list has the byte k
-abbrev Some : ℕ → List ℕ → Type 0
-Some k [] = ⊥
-Some k (q ∷ qs) = In k q ⊎ Some k qs
+abbrev Within : ℕ → List ℕ → Type 0
+Within k [] = ⊥
+Within k (q ∷ qs) = In k q ⊎ Within k qs
 
 -- the marks are 1 at the bytes of the words seen, and 0 elsewhere
 pub record Marked (work seen : List ℕ) : Type 0 where
-  pub set1 : (k : ℕ) → k < length work → Some k seen → get_or work k 0 ≡ 1
-  pub set0 : (k : ℕ) → (Some k seen → ⊥) → get_or work k 0 ≡ 0
+  pub set1 : (k : ℕ) → k < length work → Within k seen → get_or work k 0 ≡ 1
+  pub set0 : (k : ℕ) → (Within k seen → ⊥) → get_or work k 0 ≡ 0
 
 pub no_bool : {A : Type 0} → false ≡ true → A
 unfolding pick
@@ -95,7 +64,7 @@ shared {Q} p q h l f = go (dec_lt p q)
     go (yes x) = f q (omega arith, omega arith) (omega arith, omega arith)
     go (no x) = f p (omega arith, omega arith) (omega arith, omega arith)
 
-near_some : {Q : Type 0} (p : ℕ) (seen : List ℕ) → near_any p seen ≡ true → ((k : ℕ) → In k p → Some k seen → Q) → Q
+near_some : {Q : Type 0} (p : ℕ) (seen : List ℕ) → near_any p seen ≡ true → ((k : ℕ) → In k p → Within k seen → Q) → Q
 unfolding near_any pick
 near_some {Q} p [] h f = no_bool h
 near_some {Q} p (q ∷ qs) h f = go (near p q) (near_true p q) h (λ e. near_some p qs e (λ k x y. f k x (inr y)))
@@ -105,13 +74,13 @@ near_some {Q} p (q ∷ qs) h f = go (near p q) (near_true p q) h (λ e. near_som
     go true g e r = shared p q (g refl).0 (g refl).1 (λ k x y. f k x (inl y))
     go false g e r = r e
 
-near_none : (p : ℕ) (seen : List ℕ) → near_any p seen ≡ false → (k : ℕ) → In k p → Some k seen → ⊥
+near_none : (p : ℕ) (seen : List ℕ) → near_any p seen ≡ false → (k : ℕ) → In k p → Within k seen → ⊥
 unfolding near_any pick
 near_none p [] h k i s = s
 near_none p (q ∷ qs) h k i s = go (near p q) (near_false p q) h s (λ e. near_none p qs e k i)
   where
-    go : (b : Bool) → (b ≡ false → (q + 4 ≤ p) ⊎ (p + 4 ≤ q)) → pick b true (near_any p qs) ≡ false → Some k (q ∷ qs)
-        → (near_any p qs ≡ false → Some k qs → ⊥) → ⊥
+    go : (b : Bool) → (b ≡ false → (q + 4 ≤ p) ⊎ (p + 4 ≤ q)) → pick b true (near_any p qs) ≡ false → Within k (q ∷ qs)
+        → (near_any p qs ≡ false → Within k qs → ⊥) → ⊥
     go true g e s r = no_bool (sym e)
     go false g e (inl x) r =
         ⊎_elim (λ y. omega (arith, x.0, x.1, i.0, i.1)) (λ y. omega (arith, x.0, x.1, i.0, i.1)) (g refl)
@@ -172,7 +141,7 @@ module _ (work seen : List ℕ) (m : Marked work seen) (p : ℕ) (fits : p + 4 �
         set0 = λ k o. mark_out k (λ i. o (inl i)) ∙ m.set0 k (λ s. o (inr s));
       }
     where
-      go : (k : ℕ) → k < length work → Dec (k < p) → Dec (k < p + 4) → Some k (p ∷ seen)
+      go : (k : ℕ) → k < length work → Dec (k < p) → Dec (k < p + 4) → Within k (p ∷ seen)
           → get_or (set_word work p 0x01010101) k 0 ≡ 1
       go k l x y (inl i) = mark_in k i
       go k l (yes x) y (inr s) = mark_out k (λ i. omega (arith, i.0)) ∙ m.set1 k l s
@@ -181,130 +150,114 @@ module _ (work seen : List ℕ) (m : Marked work seen) (p : ℕ) (fits : p + 4 �
 
 -- ---- the loop
 
-pub record Clashes (file work₀ work : List ℕ) (c : Cursor) (at : ℕ) : Type 0 where
-  pub reads : Reads file c at
+targets_asked : (us : List Act) → targets (asked us) ≡ targets us
+unfolding targets
+targets_asked [] = refl
+targets_asked (Quiet ∷ us) = targets_asked us
+targets_asked (Body h p k ∷ us) = targets_asked us
+targets_asked (Store p w ∷ us) = targets_asked us
+targets_asked (Add p k b ∷ us) = ap (λ ts. record { loaded_at = p; key = k; byte = b } ∷ ts) (targets_asked us)
+
+targets_stores : (p : ℕ) (ws : List ℕ) (us : List Act) → targets (asked (stores p ws) ++ us) ≡ targets us
+unfolding targets
+targets_stores p [] us = refl
+targets_stores p (w ∷ ws) us = targets_stores (p + 4) ws us
+
+-- a step that adds nothing names no target
+targets_rest : (file : List ℕ) (x : Step) (us : List Act) → ((p k b : ℕ) → x ≡ step.Act (Add p k b) → ⊥)
+    → targets (asked (spelled file x) ++ us) ≡ targets us
+unfolding targets
+targets_rest file (step.Words p at n) us f = targets_stores p (words_at file at n) us
+targets_rest file (step.Act Quiet) us f = refl
+targets_rest file (step.Act (Body h p k)) us f = refl
+targets_rest file (step.Act (Store p w)) us f = refl
+targets_rest file (step.Act (Add p k b)) us f = absurd (f p k b refl)
+
+-- the targets seen are marked, and those that are left decide
+pub record Clashes (file work₀ work : List ℕ) (s : Pass) : Type 0 where
+  pub same : s.file.now ≡ file
   pub seen : List ℕ
   pub marked : Marked work seen
-  pub left : clash_of file ≡ clash seen (targets (acts_from file at c))
+  pub left : clash_of file ≡ clash seen (targets (left s))
   pub long : length work ≡ length work₀
   pub room : loaded_of file ≤ length work₀
 
-pub clash_start : (file work : List ℕ) (c : Cursor) (at t : ℕ) → HeaderFits file → length file % 4 ≡ 0 → c ≡ start
-    → t ≡ total_of file → at ≡ 20 + 4 * t → loaded_of file ≤ length work → ((k : ℕ) → get_or work k 0 ≡ 0)
-    → Clashes file work work c at
-clash_start file work c at t s v e k h m z =
+pub clash_start : (file work : List ℕ) (s : Pass) → s.file.now ≡ file → left s ≡ asked (acts_of file)
+    → loaded_of file ≤ length work → ((k : ℕ) → get_or work k 0 ≡ 0)
+    → Clashes file work work s
+clash_start file work s e h m z =
     record {
-      reads = reads_start file c at t s v e k h;
+      same = e;
       seen = [];
       marked = record { set1 = λ k l s. absurd s; set0 = λ k o. z k };
-      left = rw (e, h, k);
+      left = ap (clash []) (sym (ap targets h ∙ targets_asked (acts_of file)));
       long = refl;
       room = m;
     }
 
--- words that ask for no target leave the rest as it is
-clash_past : (file work₀ work : List ℕ) {c d : Cursor} {at to : ℕ} → Clashes file work₀ work c at
-    → Leads file c at d to → Clashes file work₀ work d to
-clash_past file work₀ work i k =
-    record {
-      reads = leads_reads file k i.reads;
-      seen = i.seen;
-      marked = i.marked;
-      left = i.left ∙ ap (clash i.seen) (leads_acts targets file quiet_target k i.reads);
-      long = i.long;
-      room = i.room;
-    }
-
--- an offset names its own byte
-abbrev byte_of : Act → ℕ → ℕ
-byte_of Quiet at = at
-byte_of (Body x p k) at = at
-byte_of (Store p w) at = at
-byte_of (Add p k b) at = b
-
-own_byte : (c : Cursor) (at w : ℕ) (m : Mode) → byte_of (asks c at w m) at ≡ at
-unfolding pick
-own_byte c at w mode.Begin = go (eqb w type.name)
-  where
-    go : (b : Bool) → byte_of (pick b Quiet (Body c.hunk c.place w)) at ≡ at
-    go true = refl
-    go false = refl
-own_byte c at w mode.NameLength = refl
-own_byte c at w mode.Body = refl
-own_byte c at w (mode.Length k) = refl
-own_byte c at w (mode.Stored i) = refl
-own_byte c at w mode.Part = refl
-own_byte c at w mode.Count = refl
-own_byte c at w (mode.Number n) = refl
-own_byte c at w (mode.Offset n k) = refl
-own_byte c at w mode.Symbol = refl
-own_byte c at w mode.DebugLength = refl
-own_byte c at w (mode.Skip n a) = refl
-own_byte c at w mode.End = refl
-
-act_byte : (c : Cursor) (at w : ℕ) (a : Act) → a ≡ act_of c at w → byte_of a at ≡ at
-unfolding act_of
-act_byte c at w a e = ap (λ (x : Act). byte_of x at) e ∙ own_byte c at w c.mode
-
-module _ (file work₀ work : List ℕ) (c : Cursor) (at : ℕ) (i : Clashes file work₀ work c at) where
-  met : (us : List Act) (n : List ℕ) (a : Act) (b : Bool) → byte_of a at ≡ at → ActFits (length work) type.most_hunks a
-      → marks_one work a b n → b ≡ true → clash i.seen (targets (a ∷ us)) ≡ Failed (refusal fault.near_targets at)
-  unfolding clash targets pick
-  met us n Quiet b y f k e = no_bool (sym k.0 ∙ e)
-  met us n (Body x p z) b y f k e = no_bool (sym k.0 ∙ e)
-  met us n (Store p z) b y f k e = no_bool (sym k.0 ∙ e)
-  met us n (Add p x z) false y f k e = no_bool e
-  met us n (Add p x z) true y f k e = rw (near_word work i.seen i.marked p f.0 k.0, y)
-
-  went : (d : Cursor) (n : List ℕ) (a : Act) (b : Bool) → Reads file d (at + 4) → length n ≡ length work₀
-      → ActFits (length work) type.most_hunks a → marks_one work a b n → b ≡ false
-      → clash_of file ≡ clash i.seen (targets (a ∷ acts_from file (at + 4) d)) → Clashes file work₀ n d (at + 4)
-  unfolding clash targets pick
-  went d n Quiet b r h f k y e =
-      record { reads = r; seen = i.seen; marked = rw k.1 i.marked; left = e; long = h; room = i.room }
-  went d n (Body x p z) b r h f k y e =
-      record { reads = r; seen = i.seen; marked = rw k.1 i.marked; left = e; long = h; room = i.room }
-  went d n (Store p z) b r h f k y e =
-      record { reads = r; seen = i.seen; marked = rw k.1 i.marked; left = e; long = h; room = i.room }
-  went d n (Add p x z) true r h f k y e = no_bool (sym y)
-  went d n (Add p x z) false r h f k y e =
-      record {
-        reads = r;
-        seen = p ∷ i.seen;
-        marked = rw k.1 (marked_on work i.seen i.marked p f.0);
-        left = e ∙ rw (far_word work i.seen i.marked p f.0 k.0);
-        long = h;
-        room = i.room;
-      }
-
-  pub mark_long : (a : Act) (b : Bool) (n : List ℕ) → Marks work a b n → length n ≡ length work₀
-  mark_long a b n k = length_mark work n a b k ∙ i.long
-
-  module _ (w : ℕ) (r : Next) (l : at < length file) (p : w ≡ word_at file at)
-      (q : r ≡ step_of (total_of file) (space_of file) c w) where
-    pub clash_bad : (v : ℕ) → r ≡ Bad v → Passed ≡ clash_of file
-    unfolding clash targets
-    clash_bad v e =
-        sym (i.left ∙ ap (λ us. clash i.seen (targets us)) (acts_bad file at c w r i.reads l p q v e))
-
-    module _ (d : Cursor) (a : Act) (e : r ≡ On d) (x : a ≡ act_of c at w) where
-      pub mark_fits : ActFits (length work) type.most_hunks a
-      mark_fits =
-          reads_fits file c at w r d a i.reads q e x (length work) type.most_hunks (omega (arith, i.long, i.room))
-          i.reads.fits.header.few
-
-      module _ (n : List ℕ) (b : Bool) (k : Marks work a b n) where
-        pub clash_met : b ≡ true → Failed (refusal fault.near_targets at) ≡ clash_of file
-        clash_met y =
-            sym (i.left ∙ ap (λ us. clash i.seen (targets us)) (acts_on file at c w r i.reads l p q d a e x)
-            ∙ met _ n a b (act_byte c at w a x) mark_fits k.marks y)
-
-        pub clash_turn : b ≡ false → (c' : Cursor) (to : ℕ) → Leads file d (at + 4) c' to → Clashes file work₀ n c' to
-        clash_turn y c' to =
-            clash_past file work₀ n
-            (went d n a b (reads_on file c at w r d i.reads l p q e) (mark_long a b n k) mark_fits k.marks y
-            (i.left ∙ ap (λ us. clash i.seen (targets us)) (acts_on file at c w r i.reads l p q d a e x)))
-
-  pub clash_end : length file ≤ at → Passed ≡ clash_of file
+module _ (file work₀ work : List ℕ) (s : Pass) (i : Clashes file work₀ work s) where
+  pub clash_end : (t : Pass) → Gives s None t → Ok tt ≡ clash_of file
   unfolding clash targets
-  clash_end h = sym (i.left ∙ ap (λ us. clash i.seen (targets us)) (acts_end file at c h))
+  clash_end t k = sym (i.left ∙ ap (λ us. clash i.seen (targets us)) k.steps)
+
+  module _ (t : Pass) (x : Step) (k : Gives s (std.Some x) t) where
+    pub clash_rest : ((p n b : ℕ) → x ≡ step.Act (Add p n b) → ⊥) → Clashes file work₀ work t
+    clash_rest f =
+        record {
+          same = k.same ∙ i.same;
+          seen = i.seen;
+          marked = i.marked;
+          left =
+              i.left ∙ ap (λ us. clash i.seen (targets us)) k.steps.0
+              ∙ ap (clash i.seen) (targets_rest s.file.now x (left t) f);
+          long = i.long;
+          room = i.room;
+        }
+
+    module _ (p n b : ℕ) (e : x ≡ step.Act (Add p n b)) where
+      pub mark_room : p + 4 ≤ length work
+      mark_room = let f = rw (e, i.same) at k.steps.1 in omega (arith, f.0.0, i.long, i.room)
+
+      -- the target is next
+      next : clash_of file ≡ clash i.seen (record { loaded_at = p; key = n; byte = b } ∷ targets (left t))
+      unfolding targets
+      next =
+          i.left ∙ ap (λ us. clash i.seen (targets us)) (k.steps.0 ∙ ap (λ y. asked (spelled s.file.now y) ++ left t) e)
+
+      module _ (w : ℕ) (q : w ≡ word_at work p) where
+        pub clash_met : (w ≡ 0 → ⊥) → Err (refusal fault.near_targets b) ≡ clash_of file
+        unfolding clash pick
+        clash_met z = sym (next ∙ rw (near_word work i.seen i.marked p mark_room (λ y. z (q ∙ y))))
+
+        pub clash_new : w ≡ 0 → (work' : List ℕ) → work' ≡ set_word work p 0x01010101 → Clashes file work₀ work' t
+        unfolding clash pick
+        clash_new z work' y =
+            record {
+              same = k.same ∙ i.same;
+              seen = p ∷ i.seen;
+              marked = rw y (marked_on work i.seen i.marked p mark_room);
+              left = next ∙ rw (far_word work i.seen i.marked p mark_room (sym q ∙ z));
+              long = ap length y ∙ length_set_word work p 0x01010101 ∙ i.long;
+              room = i.room;
+            }
+
+-- ---- what is marked is cleared
+
+-- of a work area of zeros the front was marked, as m, and then filled with zeros
+pub cleared : (w m r : List ℕ) (n : ℕ) → w ≡ replicate (length w) 0 → n ≤ length w → length m ≡ length (take n w)
+    → r ≡ replicate (length (take n (m ++ drop n w))) 0
+    → r ++ drop n (m ++ drop n w) ≡ replicate (length w) 0
+cleared w m r n z h l e =
+    let long : length m ≡ n = l ∙ length-take-le n w h in
+    let all : n + (length w - n) ≡ length w = omega arith in
+    let halves : w ≡ replicate n 0 ++ replicate (length w - n) 0 =
+    z ∙ sym (replicate-append-replicate n (length w - n) 0 ∙ ap (λ (j : ℕ). replicate j 0) all)
+    in
+    let front : r ≡ replicate n 0 =
+    e ∙ ap (λ (l : List ℕ). replicate (length l) 0) (take_at m (drop n w) n long) ∙ ap (λ (j : ℕ). replicate j 0) long
+    in
+    let back : drop n (m ++ drop n w) ≡ replicate (length w - n) 0 =
+    drop_at m (drop n w) n long ∙ ap (drop n) halves ∙ drop_at (replicate n 0) _ n (length-replicate n 0)
+    in
+    ap (λ (l : List ℕ). l ++ drop n (m ++ drop n w)) front
+    ∙ ap (λ (l : List ℕ). replicate n 0 ++ l) back ∙ sym halves ∙ z

@@ -1,5 +1,6 @@
 -- The laws of moving: a load at A moved to B is a load at B; A to B to C is A to C; A to A changes nothing; A to B to
 -- A restores. From accepted loads it follows that these moves are accepted. Assumes nothing.
+use Rattle.std.specs.Prelude.{Ok}
 use Rattle.std.proofs.Common.{◌≡◌, ℕ, ◌+◌, ◌-◌, ◌*◌, ◌%◌, ◌^◌, ◌≤◌, Bool, true, false, ◌⊎◌, List, [], ◌∷◌, ◌++◌, length}
 use Rattle.std.proofs.Common.{drop, replicate, sym, refl, ap, ◌∙◌, ap₂, inl, inr, ⊎_elim, arith, length-append}
 use Rattle.std.proofs.Common.{length-drop, length-take-le, drop_at}
@@ -13,11 +14,8 @@ use Rattle.words.proofs.Shifts.{shift_all_moved}
 use Rattle.answers.specs.Tests.{pick}
 use Rattle.answers.proofs.Tests.{pick_passed}
 use Rattle.answers.specs.Refusals.{refusal}
-use Rattle.answers.specs.declared.Tested.TheVariants.{Passed}
-use Rattle.program.specs.declared.check.Answer.{Answer}
-use Rattle.program.specs.declared.check.Answer.TheVariants.{Accepted}
 use Rattle.program.specs.Header.{total_of}
-use Rattle.program.specs.Check.{check_of}
+use Rattle.program.specs.Check.{Answer, accepted, check_of}
 use Rattle.program.specs.Acts.{acts_of}
 use Rattle.program.specs.Cursors.{HeaderFits}
 use Rattle.loader.specs.Memory.{loaded_of, targets_of, amount_of, bodies_of, load_of, moved, move_of}
@@ -48,14 +46,14 @@ far_one p q (x ∷ xs) h a = go (near p x) (near_false p x) h a (λ e. far_one p
     go false g e (inl s) f = ⊎_elim (λ l. inl (omega arith)) (λ l. inr (omega arith)) (g refl)
     go false g e (inr s) f = f e s
 
-far_all : (q : ℕ) (seen : List ℕ) (ts : List Target) → clash seen ts ≡ Passed → Among q seen → FarAll q ts
+far_all : (q : ℕ) (seen : List ℕ) (ts : List Target) → clash seen ts ≡ Ok tt → Among q seen → FarAll q ts
 unfolding clash
 far_all q seen [] h a = tt
 far_all q seen (t ∷ ts) h a =
     let p = pick_passed (near_any t.loaded_at seen) (refusal fault.near_targets t.byte) _ h in
     (far_one t.loaded_at q seen p.0 a, far_all q (t.loaded_at ∷ seen) ts p.1 (inr a))
 
-pub apart : (seen : List ℕ) (ts : List Target) → clash seen ts ≡ Passed → Apart ts
+pub apart : (seen : List ℕ) (ts : List Target) → clash seen ts ≡ Ok tt → Apart ts
 unfolding clash
 apart seen [] h = tt
 apart seen (t ∷ ts) h =
@@ -64,9 +62,9 @@ apart seen (t ∷ ts) h =
 
 -- ---- a move between bases at which loads are accepted is accepted
 
-module _ (file A B : List ℕ) (m r w t n u k : ℕ) (a : load_answer file A m r w ≡ Accepted t n)
-    (b : load_answer file B m r w ≡ Accepted u k) where
-  pub move_accepted : move_answer file A B m r w ≡ Accepted t n
+module _ (file A B : List ℕ) (m r w t n u k : ℕ) (a : load_answer file A m r w ≡ accepted t n)
+    (b : load_answer file B m r w ≡ accepted u k) where
+  pub move_accepted : move_answer file A B m r w ≡ accepted t n
   unfolding load_answer move_answer
   move_accepted =
       let x = also_so _ (clash_of file) t n a in
@@ -77,12 +75,12 @@ module _ (file A B : List ℕ) (m r w t n u k : ℕ) (a : load_answer file A m r
       (also_both _ _ t n y.0 (fault_passed file B 0 (total_of file) f.bases_good)) y.1) x.1
 
 -- the answers of two accepted loads of one file are one
-pub one_answer : (file A B : List ℕ) (m r w t n u k : ℕ) → load_answer file A m r w ≡ Accepted t n
-    → load_answer file B m r w ≡ Accepted u k → Accepted t n ≡ Accepted u k
+pub one_answer : (file A B : List ℕ) (m r w t n u k : ℕ) → load_answer file A m r w ≡ accepted t n
+    → load_answer file B m r w ≡ accepted u k → accepted t n ≡ accepted u k
 one_answer file A B m r w t n u k a b =
     let f = (load_facts file A m r w t n _ refl a).file_accepted in
     let g = (load_facts file B m r w u k _ refl b).file_accepted in
-    ap₂ Accepted (f.hunks ∙ sym g.hunks) (f.bytes ∙ sym g.bytes)
+    ap₂ accepted (f.hunks ∙ sym g.hunks) (f.bytes ∙ sym g.bytes)
 
 -- ---- memory
 
@@ -103,7 +101,7 @@ two_steps a b c h k =
 abbrev Low : List ℕ → Type 0
 Low l = (k : ℕ) → amount_of l k ≤ 2 ^ 32
 
-module _ (file : List ℕ) (s : HeaderFits file) (c : clash_of file ≡ Passed) (m : List ℕ) (h : loaded_of file ≤ length m)
+module _ (file : List ℕ) (s : HeaderFits file) (c : clash_of file ≡ Ok tt) (m : List ℕ) (h : loaded_of file ≤ length m)
   where
     fits : Within (length m) (targets_of file)
     fits = within_more (loaded_of file) (length m) (targets_of file) h (within_targets file s)
@@ -159,9 +157,9 @@ module _ (file m t w : List ℕ) (x n : ℕ) where
   -- what an accepted move leaves
   moved_to : (A B : List ℕ) (y k : ℕ) → LoadsAt file A m (records_in t) w x n → LoadsAt file B m (records_in t) w y k
       → (m' t' w' m1 t1 w1 : List ℕ) (r : Answer) → SameRoom m t w m' t' w' → Moves file A B m' t' w' r m1 t1 w1
-      → (r ≡ Accepted x n) × (m1 ≡ move_of file A B m') × (t1 ≡ table_of file B t') × (w1 ≡ replicate (length w) 0)
+      → (r ≡ accepted x n) × (m1 ≡ move_of file A B m') × (t1 ≡ table_of file B t') × (w1 ≡ replicate (length w) 0)
   moved_to A B y k a b m' t' w' m1 t1 w1 r s v =
-      let e : r ≡ Accepted x n =
+      let e : r ≡ accepted x n =
       v.answer ∙ rw (s.memory, s.table, s.work)
       (move_accepted file A B (length m) (records_in t) (length w) x n y k a b) in
       (e, v.shifted ∙ rw e, v.recorded ∙ rw e, v.clean ∙ ap (λ j. replicate j 0) s.work)
@@ -189,7 +187,7 @@ module _ (file m t w : List ℕ) (x n : ℕ) where
           work = ap length e ∙ length-replicate (length w) 0;
         }
 
-    pub load_room : (m1 t1 w1 : List ℕ) → Loads file A m t w (Accepted x n) m1 t1 w1 → SameRoom m t w m1 t1 w1
+    pub load_room : (m1 t1 w1 : List ℕ) → Loads file A m t w (accepted x n) m1 t1 w1 → SameRoom m t w m1 t1 w1
     load_room m1 t1 w1 l =
         record {
           memory =
@@ -200,9 +198,9 @@ module _ (file m t w : List ℕ) (x n : ℕ) where
         }
 
     -- A load at A, moved to B, is a load at B: answer, memory, table and work area.
-    pub load_move : (B : List ℕ) (y k : ℕ) → (m1 t1 w1 mB tB wB : List ℕ) → Loads file A m t w (Accepted x n) m1 t1 w1
-        → Loads file B m t w (Accepted y k) mB tB wB → (w' m2 t2 w2 : List ℕ) (r : Answer) → length w' ≡ length w
-        → Moves file A B m1 t1 w' r m2 t2 w2 → (r ≡ Accepted y k) × (m2 ≡ mB) × (t2 ≡ tB) × (w2 ≡ wB)
+    pub load_move : (B : List ℕ) (y k : ℕ) → (m1 t1 w1 mB tB wB : List ℕ) → Loads file A m t w (accepted x n) m1 t1 w1
+        → Loads file B m t w (accepted y k) mB tB wB → (w' m2 t2 w2 : List ℕ) (r : Answer) → length w' ≡ length w
+        → Moves file A B m1 t1 w' r m2 t2 w2 → (r ≡ accepted y k) × (m2 ≡ mB) × (t2 ≡ tB) × (w2 ≡ wB)
     load_move B y k m1 t1 w1 mB tB wB l lb w' m2 t2 w2 r lw v =
         let room = load_room m1 t1 w1 l in
         let b : LoadsAt file B m (records_in t) w y k = sym lb.answer in
@@ -222,10 +220,10 @@ module _ (file m t w : List ℕ) (x n : ℕ) where
         → (m' t' w' w'' w''' m1 t1 w1 m2 t2 w2 m3 t3 w3 : List ℕ) (r1 r2 r3 : Answer) → SameRoom m t w m' t' w'
         → length w'' ≡ length w → length w''' ≡ length w → Moves file A B m' t' w' r1 m1 t1 w1
         → Moves file B C m1 t1 w'' r2 m2 t2 w2 → Moves file A C m' t' w''' r3 m3 t3 w3
-        → (r1 ≡ Accepted x n) × (r2 ≡ Accepted x n) × (r3 ≡ Accepted x n) × (m2 ≡ m3) × (t2 ≡ t3) × (w2 ≡ w3)
+        → (r1 ≡ accepted x n) × (r2 ≡ accepted x n) × (r3 ≡ accepted x n) × (m2 ≡ m3) × (t2 ≡ t3) × (w2 ≡ w3)
     move_move B C y k z j b c m' t' w' w'' w''' m1 t1 w1 m2 t2 w2 m3 t3 w3 r1 r2 r3 s lw lw' v1 v2 v3 =
         let p = moved_to A B y k a b m' t' w' m1 t1 w1 r1 s v1 in
-        let same : Accepted x n ≡ Accepted y k = one_answer file A B (length m) (records_in t) (length w) x n y k a b in
+        let same : accepted x n ≡ accepted y k = one_answer file A B (length m) (records_in t) (length w) x n y k a b in
         let b' : LoadsAt file B m (records_in t) w x n = b ∙ sym same in
         let room = move_room B m' t' w' w1 s p.3 B in
         let q =
@@ -249,7 +247,7 @@ module _ (file m t w : List ℕ) (x n : ℕ) where
 
     -- A to A changes no byte of memory.
     pub move_stays : (m' t' w' m1 t1 w1 : List ℕ) (r : Answer) → Bytes m' → SameRoom m t w m' t' w'
-        → Moves file A A m' t' w' r m1 t1 w1 → (r ≡ Accepted x n) × (m1 ≡ m')
+        → Moves file A A m' t' w' r m1 t1 w1 → (r ≡ accepted x n) × (m1 ≡ m')
     move_stays m' t' w' m1 t1 w1 r bytes s v =
         let p = moved_to A A x n a a m' t' w' m1 t1 w1 r s v in
         (p.0, p.1 ∙ memory_stays file A m' low bytes)
@@ -258,10 +256,10 @@ module _ (file m t w : List ℕ) (x n : ℕ) where
     pub move_back : (B : List ℕ) (y k : ℕ) → LoadsAt file B m (records_in t) w y k
         → (m' t' w' w'' m1 t1 w1 m2 t2 w2 : List ℕ) (r1 r2 : Answer) → Bytes m' → SameRoom m t w m' t' w'
         → length w'' ≡ length w → Moves file A B m' t' w' r1 m1 t1 w1 → Moves file B A m1 t1 w'' r2 m2 t2 w2
-        → (r1 ≡ Accepted x n) × (r2 ≡ Accepted x n) × (m2 ≡ m')
+        → (r1 ≡ accepted x n) × (r2 ≡ accepted x n) × (m2 ≡ m')
     move_back B y k b m' t' w' w'' m1 t1 w1 m2 t2 w2 r1 r2 bytes s lw v1 v2 =
         let p = moved_to A B y k a b m' t' w' m1 t1 w1 r1 s v1 in
-        let same : Accepted x n ≡ Accepted y k = one_answer file A B (length m) (records_in t) (length w) x n y k a b in
+        let same : accepted x n ≡ accepted y k = one_answer file A B (length m) (records_in t) (length w) x n y k a b in
         let b' : LoadsAt file B m (records_in t) w x n = b ∙ sym same in
         let room = move_room B m' t' w' w1 s p.3 B in
         let q =

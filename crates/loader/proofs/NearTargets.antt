@@ -1,4 +1,5 @@
 -- 42 is given exactly at the first target that is too near one before it. Assumes nothing.
+use Rattle.std.specs.Prelude.{Ok, Err}
 use Rattle.std.proofs.Common.{◌≡◌, ℕ, ◌+◌, ◌<◌, Bool, true, false, ltb, ◌⊎◌, ◌↔◌, List, [], ◌∷◌, ◌++◌, sym, refl, ap}
 use Rattle.std.proofs.Common.{◌∙◌, subst, inl, inr, ⊎_elim, arith, ltb-true, lt-ltb}
 use Rattle.answers.specs.Numbers as fault
@@ -8,7 +9,6 @@ use Rattle.words.proofs.Shifts.{FarAll, Apart}
 use Rattle.answers.specs.Tests.{pick}
 use Rattle.answers.specs.Refusals.{refusal}
 use Rattle.answers.specs.declared.Refusal.{Refusal}
-use Rattle.answers.specs.declared.Tested.TheVariants.{Passed, Failed}
 use Rattle.answers.proofs.Tests.{pick_passed}
 use Rattle.program.proofs.Answers.{not_failed}
 use Rattle.loader.specs.Near.{near, near_any, clash}
@@ -24,7 +24,7 @@ pub record ClashWhy (ts : List Target) (f : Refusal) : Type 0 where
   pub after : List Target
   pub split : ts ≡ before ++ (target ∷ after)
   pub said : f ≡ refusal fault.near_targets target.byte
-  pub first : clash [] before ≡ Passed
+  pub first : clash [] before ≡ Ok tt
   pub other : Target
   pub among : (other ∈ before)
   pub below : target.loaded_at < other.loaded_at + 4
@@ -60,13 +60,13 @@ Clashes seen ts f =
     × (vs : List Target)
     × (ts ≡ us ++ (t ∷ vs))
     × (f ≡ refusal fault.near_targets t.byte)
-    × (clash seen us ≡ Passed)
+    × (clash seen us ≡ Ok tt)
     × (q : ℕ)
     × Before seen us q
     × (t.loaded_at < q + 4)
     × (q < t.loaded_at + 4)
 
-clash_from : (seen : List ℕ) (ts : List Target) (f : Refusal) → clash seen ts ≡ Failed f → Clashes seen ts f
+clash_from : (seen : List ℕ) (ts : List Target) (f : Refusal) → clash seen ts ≡ Err f → Clashes seen ts f
 unfolding clash
 clash_from seen [] f h = not_failed h
 clash_from seen (s ∷ ts) f h =
@@ -79,8 +79,8 @@ clash_from seen (s ∷ ts) f h =
     earlier us q (inr x) = inr (x.0, inr x.1, x.2)
 
     go : ((near_any s.loaded_at seen ≡ true) × (f ≡ refusal fault.near_targets s.byte))
-        ⊎ ((near_any s.loaded_at seen ≡ false) × (clash (s.loaded_at ∷ seen) ts ≡ Failed f))
-        → (clash (s.loaded_at ∷ seen) ts ≡ Failed f → Clashes (s.loaded_at ∷ seen) ts f) → Clashes seen (s ∷ ts) f
+        ⊎ ((near_any s.loaded_at seen ≡ false) × (clash (s.loaded_at ∷ seen) ts ≡ Err f))
+        → (clash (s.loaded_at ∷ seen) ts ≡ Err f → Clashes (s.loaded_at ∷ seen) ts f) → Clashes seen (s ∷ ts) f
     go (inl x) g =
         let r = near_there s.loaded_at seen x.0 in ([], s, ts, refl, x.1, refl, r.0, inl r.1, r.2, r.3)
     go (inr x) g =
@@ -97,9 +97,9 @@ clash_from seen (s ∷ ts) f h =
           r.9,
         )
 
-clash_then : (seen : List ℕ) (us : List Target) (t : Target) (vs : List Target) (q : ℕ) → clash seen us ≡ Passed
+clash_then : (seen : List ℕ) (us : List Target) (t : Target) (vs : List Target) (q : ℕ) → clash seen us ≡ Ok tt
     → Before seen us q → t.loaded_at < q + 4 → q < t.loaded_at + 4
-    → clash seen (us ++ (t ∷ vs)) ≡ Failed (refusal fault.near_targets t.byte)
+    → clash seen (us ++ (t ∷ vs)) ≡ Err (refusal fault.near_targets t.byte)
 unfolding clash
 clash_then seen [] t vs q c b h k = pick_fails _ _ _ (near_back t.loaded_at q seen (old b) h k)
   where
@@ -118,7 +118,7 @@ clash_then seen (s ∷ us) t vs q c b h k =
     later (inr (u, inr m, d)) = inr (u, m, d)
 
 module _ (ts : List Target) (f : Refusal) where
-  clash_there : clash [] ts ≡ Failed f → ClashWhy ts f
+  clash_there : clash [] ts ≡ Err f → ClashWhy ts f
   clash_there h = let r = clash_from [] ts f h in go r r.7
     where
       go : (r : Clashes [] ts f) → Before [] r.0 r.6 → ClashWhy ts f
@@ -138,14 +138,14 @@ module _ (ts : List Target) (f : Refusal) where
             above = omega (arith, r.9, e);
           }
 
-  clash_back : ClashWhy ts f → clash [] ts ≡ Failed f
+  clash_back : ClashWhy ts f → clash [] ts ≡ Err f
   clash_back r =
       ap (clash []) r.split
       ∙ clash_then [] r.before r.target r.after r.other.loaded_at r.first
       (inr (r.other, r.among, refl)) r.below r.above
-      ∙ ap Failed (sym r.said)
+      ∙ ap Err (sym r.said)
 
-  pub clash_why : (clash [] ts ≡ Failed f) ↔ ClashWhy ts f
+  pub clash_why : (clash [] ts ≡ Err f) ↔ ClashWhy ts f
   clash_why = (clash_there, clash_back)
 
 -- targets pass if and only if no two share a byte
@@ -160,7 +160,7 @@ none_near p seen g = go (near_any p seen) refl
     go false e = refl
 
 clash_passes : (seen : List ℕ) (ts : List Target) → Apart ts → ((q : ℕ) → Among q seen → FarAll q ts)
-    → clash seen ts ≡ Passed
+    → clash seen ts ≡ Ok tt
 unfolding clash
 clash_passes seen [] a g = refl
 clash_passes seen (t ∷ ts) a g =
@@ -171,5 +171,5 @@ clash_passes seen (t ∷ ts) a g =
     far q (inl e) = subst (λ (z : ℕ). FarAll z ts) (sym e) a.0
     far q (inr x) = (g q x).1
 
-pub apart_exactly : (ts : List Target) → (clash [] ts ≡ Passed) ↔ Apart ts
+pub apart_exactly : (ts : List Target) → (clash [] ts ≡ Ok tt) ↔ Apart ts
 apart_exactly ts = (apart [] ts, λ a. clash_passes [] ts a (λ q x. absurd x))

@@ -1,5 +1,6 @@
 -- What hunks, written out, ask for: each its record, its stored words and its targets with their bytes in the file,
 -- in order. Assumes nothing.
+use Rattle.std.specs.Prelude.{Ok, Err}
 use Rattle.std.proofs.Common.{◌≡◌, ℕ, suc, ◌+◌, ◌-◌, ◌*◌, ◌/◌, ◌%◌, ◌<◌, ◌≤◌, false, eqb, ◌≢◌, List, [], ◌∷◌, ◌++◌}
 use Rattle.std.proofs.Common.{length, refl, ap, ◌∙◌, append_assoc, arith, length-append, le-ltb, lt-ltb, eq-eqb, ne_eqb}
 use borrow.Author.Tests.{lt-leb}
@@ -13,15 +14,13 @@ use Rattle.program.specs.declared.reader.After.TheVariants as after
 use Rattle.program.specs.declared.reader.Cursor.{Cursor}
 use Rattle.program.specs.declared.reader.Mode.{Mode}
 use Rattle.program.specs.declared.reader.Mode.TheVariants as mode
-use Rattle.program.specs.declared.reader.Next.{Next}
-use Rattle.program.specs.declared.reader.Next.TheVariants.{On, Bad}
 use Rattle.program.specs.Page.{Name, Body, Group, Symbol, Part, Hunk, none, named, code, stores, bss, relocation}
 use Rattle.program.specs.Page.{symbols, debug, joined, name_words, body_words, group_words, symbol_words, part_words}
 use Rattle.program.specs.Page.{hunk_words, written, Each, body_count, stored_words, OffsetFits, GroupFits, SymbolFits}
 use Rattle.program.specs.Page.{PartFits, HunkFits, Program}
 use Rattle.program.specs.Spaces.{Space}
 use Rattle.program.specs.Header.{total_of, space_of, start_at}
-use Rattle.program.specs.Reader.{resume, skip, stored_from, turn, step_of}
+use Rattle.program.specs.Reader.{Next, resume, skip, stored_from, turn, step_of}
 use Rattle.program.specs.Acts.{asks, act_of, then, acts, acts_of}
 use Rattle.program.proofs.Spaces.{size_same}
 use Rattle.program.proofs.Taken.{cursor, AllSpaces, spaces_le}
@@ -74,14 +73,14 @@ module _ (t : ℕ) (space : ℕ → Space) where
   Gives c at ws l = plain (acts t space at c ws) ≡ l
 
   abbrev Goes : Next → ℕ → List ℕ → List Act → Type 0
-  Goes (On d) at ws l = Gives d at ws l
-  Goes (Bad v) at ws l = ⊥
+  Goes (Ok d) at ws l = Gives d at ws l
+  Goes (Err v) at ws l = ⊥
 
   goes : (r : Next) (at : ℕ) (ws : List ℕ) (a : Act) (l : List Act) → Goes r (at + 4) ws l
       → plain (then r a (λ d. acts t space (at + 4) d ws)) ≡ plain1 a l
   unfolding plain
-  goes (On d) at ws a l g = ap (plain1 a) g
-  goes (Bad v) at ws a l g = absurd g
+  goes (Ok d) at ws a l g = ap (plain1 a) g
+  goes (Err v) at ws a l g = absurd g
 
   step : (c : Cursor) (w at : ℕ) (ws : List ℕ) (l : List Act) → Goes (turn t space c w c.mode) (at + 4) ws l
       → plain (acts t space at c (w ∷ ws)) ≡ plain1 (asks c at w c.mode) l

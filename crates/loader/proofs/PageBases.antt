@@ -1,10 +1,10 @@
 -- A list of bases in the terms of the page: when it is good, and which of its entries 40 names. Assumes nothing.
+use Rattle.std.specs.Prelude.{Ok, Err}
 use Rattle.std.proofs.Common.{◌≡◌, ℕ, zero, suc, ◌+◌, ◌<◌, ◌≤◌, ◌↔◌, List, [], ◌∷◌, length, sym, ap, ◌∙◌, inl, inr}
 use Rattle.std.proofs.Common.{arith}
 use Rattle.answers.specs.Numbers as fault
 use Rattle.answers.specs.Refusals.{refusal}
 use Rattle.answers.specs.declared.Refusal.{Refusal}
-use Rattle.answers.specs.declared.Tested.TheVariants.{Passed, Failed}
 use Rattle.program.specs.Page.{Hunk, Holds}
 use Rattle.program.specs.Spaces.{Space}
 use Rattle.program.specs.Header.{total_of, space_of, size_of}
@@ -75,10 +75,10 @@ module _ (file : List ℕ) (hs : List Hunk) (held : Holds file hs) where
     )
 
     -- A list of bases passes if and only if it is good, wherever it counts from.
-    pub good_exactly : (from : ℕ) → (bases_fault file bases from ≡ Passed) ↔ GoodBases hs bases
+    pub good_exactly : (from : ℕ) → (bases_fault file bases from ≡ Ok tt) ↔ GoodBases hs bases
     good_exactly from = (there, back)
       where
-        there : bases_fault file bases from ≡ Passed → GoodBases hs bases
+        there : bases_fault file bases from ≡ Ok tt → GoodBases hs bases
         there h =
             let r = (bases_exactly file bases from).0 h in
             record {
@@ -87,7 +87,7 @@ module _ (file : List ℕ) (hs : List Hunk) (held : Holds file hs) where
                   ((entry_good file bases i).0 (r.1 i (omega (arith, l, held_total))));
             }
 
-        back : GoodBases hs bases → bases_fault file bases from ≡ Passed
+        back : GoodBases hs bases → bases_fault file bases from ≡ Ok tt
         back g =
             (bases_exactly file bases from).1 (
               g.count ∙ sym held_total,
@@ -97,7 +97,7 @@ module _ (file : List ℕ) (hs : List Hunk) (held : Holds file hs) where
 
     -- 40 is given exactly for a wrong count, or at the first bad entry.
     pub bad_exactly : (from p : ℕ)
-        → (bases_fault file bases from ≡ Failed (refusal fault.bad_base p)) ↔ BadBases hs bases from p
+        → (bases_fault file bases from ≡ Err (refusal fault.bad_base p)) ↔ BadBases hs bases from p
     bad_exactly from p = (
       λ h. there ((bases_why file bases from (refusal fault.bad_base p)).0 h),
       λ h. (bases_why file bases from (refusal fault.bad_base p)).1 (back h),

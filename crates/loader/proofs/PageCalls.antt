@@ -1,8 +1,8 @@
 -- An accepted load and an accepted move in one statement each, in the terms of the page. Assumes nothing.
 use Rattle.std.proofs.Common.{◌≡◌, ℕ, ◌*◌, List, ◌++◌, length, drop, sym, ap, ◌∙◌, ap₂}
-use Rattle.program.specs.declared.check.Answer.TheVariants.{Accepted}
+use Rattle.program.proofs.Answers.{accepted_same}
 use Rattle.program.specs.Page.{Hunk, Holds, total}
-use Rattle.program.specs.Check.{check_of}
+use Rattle.program.specs.Check.{accepted, check_of}
 use Rattle.program.proofs.Pages.{is_total, page_accepted, accepted_page}
 use Rattle.loader.specs.Table.{record_length, table_of}
 use Rattle.loader.specs.Calls.{records_in, Loads, Moves}
@@ -11,10 +11,10 @@ use Rattle.loader.proofs.Deciding.{load_exactly, move_exactly}
 use Rattle.loader.proofs.PageLoads.{length_numbers, page_records_lem, page_loads, page_moves}
 
 -- the numbers of an accepted file
-numbers : (file : List ℕ) (hs : List Hunk) (x n : ℕ) → Holds file hs → check_of file ≡ Accepted x n
+numbers : (file : List ℕ) (hs : List Hunk) (x n : ℕ) → Holds file hs → check_of file ≡ accepted x n
     → (x ≡ length hs) × (n ≡ 4 * total hs)
 numbers file hs x n h c =
-    let e : Accepted x n ≡ Accepted (length hs) (4 * total hs) = sym c ∙ page_accepted file hs h in ((cc), (cc))
+    accepted_same x n (length hs) (4 * total hs) (sym c ∙ page_accepted file hs h)
 
 page_table : (file : List ℕ) (hs : List Hunk) → Holds file hs → (bases t : List ℕ)
     → table_of file bases t ≡ record_numbers 0 0 hs bases ++ drop (length (record_numbers 0 0 hs bases)) t
@@ -25,11 +25,11 @@ page_table file hs h bases t =
     ∙ ap (λ (k : ℕ). record_numbers 0 0 hs bases ++ drop k t) (sym (length_numbers 0 0 hs bases))
 
 module _ (file m t w : List ℕ) (x n : ℕ) (m' t' w' : List ℕ) where
-  load_checked : (bases : List ℕ) → Loads file bases m t w (Accepted x n) m' t' w' → check_of file ≡ Accepted x n
+  load_checked : (bases : List ℕ) → Loads file bases m t w (accepted x n) m' t' w' → check_of file ≡ accepted x n
   load_checked bases l = ((load_exactly file (length m) (records_in t) (length w) x n bases).0 (sym l.answer)).0
 
   -- for any hunks that the file holds
-  pub load_held : (bases : List ℕ) → Loads file bases m t w (Accepted x n) m' t' w' → (hs : List Hunk) → Holds file hs
+  pub load_held : (bases : List ℕ) → Loads file bases m t w (accepted x n) m' t' w' → (hs : List Hunk) → Holds file hs
       → LoadedPage (record_numbers 0 0) hs bases m t x n m' t'
   load_held bases l hs h =
       let k = numbers file hs x n h (load_checked bases l) in
@@ -41,17 +41,17 @@ module _ (file m t w : List ℕ) (x n : ℕ) (m' t' w' : List ℕ) where
       }
 
   -- and it holds some
-  pub load_page : (bases : List ℕ) → Loads file bases m t w (Accepted x n) m' t' w'
+  pub load_page : (bases : List ℕ) → Loads file bases m t w (accepted x n) m' t' w'
       → (hs : List Hunk) × Holds file hs × LoadedPage (record_numbers 0 0) hs bases m t x n m' t'
   load_page bases l =
       let p = accepted_page file x n (load_checked bases l) in (p.0, p.1, load_held bases l p.0 p.1)
 
-  move_checked : (old new : List ℕ) → Moves file old new m t w (Accepted x n) m' t' w' → check_of file ≡ Accepted x n
+  move_checked : (old new : List ℕ) → Moves file old new m t w (accepted x n) m' t' w' → check_of file ≡ accepted x n
   move_checked old new l =
       let a = ((move_exactly file (length m) (records_in t) (length w) x n old new).0 (sym l.answer)).0 in
       ((load_exactly file (length m) (records_in t) (length w) x n old).0 a).0
 
-  pub move_held : (old new : List ℕ) → Moves file old new m t w (Accepted x n) m' t' w' → (hs : List Hunk)
+  pub move_held : (old new : List ℕ) → Moves file old new m t w (accepted x n) m' t' w' → (hs : List Hunk)
       → Holds file hs → MovedPage (record_numbers 0 0) hs old new m t x n m' t'
   move_held old new l hs h =
       let k = numbers file hs x n h (move_checked old new l) in
@@ -62,7 +62,7 @@ module _ (file m t w : List ℕ) (x n : ℕ) (m' t' w' : List ℕ) where
         table = l.recorded ∙ page_table file hs h new t;
       }
 
-  pub move_page : (old new : List ℕ) → Moves file old new m t w (Accepted x n) m' t' w'
+  pub move_page : (old new : List ℕ) → Moves file old new m t w (accepted x n) m' t' w'
       → (hs : List Hunk) × Holds file hs × MovedPage (record_numbers 0 0) hs old new m t x n m' t'
   move_page old new l =
       let p = accepted_page file x n (move_checked old new l) in (p.0, p.1, move_held old new l p.0 p.1)

@@ -1,5 +1,6 @@
 -- 42 in the terms of the page: it is given at the first target that is near an earlier one of its hunk, at its byte
 -- in the file. Assumes nothing.
+use Rattle.std.specs.Prelude.{Ok, Err}
 use Rattle.std.proofs.Common.{◌≡◌, ℕ, ◌+◌, ◌<◌, ◌↔◌, List, [], ◌∷◌, ◌++◌, map, sym, refl, ap, ◌∙◌, subst, ap₂, inl, inr}
 use Rattle.std.proofs.Common.{arith}
 use mathlib.Core.List.{map-append}
@@ -10,7 +11,6 @@ use Rattle.words.proofs.Words.{Far}
 use Rattle.words.proofs.Shifts.{FarAll, Apart}
 use Rattle.answers.specs.Refusals.{refusal}
 use Rattle.answers.specs.declared.Refusal.{Refusal}
-use Rattle.answers.specs.declared.Tested.TheVariants.{Passed, Failed}
 use Rattle.answers.proofs.Clashes.{impossible}
 use Rattle.program.specs.Page.{Hunk, Each, Holds}
 use Rattle.loader.specs.Memory.{targets_of}
@@ -114,7 +114,7 @@ module _ (file : List ℕ) (hs : List Hunk) (held : Holds file hs) where
   triples = page_targets file hs held.fits held.whole held.words
 
   -- No target is refused if and only if no two targets of one hunk are near.
-  pub spaced_exactly : (clash_of file ≡ Passed) ↔ Spaced (file_targets hs)
+  pub spaced_exactly : (clash_of file ≡ Ok tt) ↔ Spaced (file_targets hs)
   spaced_exactly = (
     λ c. apart_spaced (file_targets hs) (subst Apart triples ((apart_exactly (targets_of file)).0 c)),
     λ s. (apart_exactly (targets_of file)).1 (subst Apart (sym triples) (spaced_apart (file_targets hs) named s)),
@@ -168,7 +168,7 @@ module _ (file : List ℕ) (hs : List Hunk) (held : Holds file hs) where
 
   -- 42 is given exactly at the first target that is near an earlier one of its hunk, at its byte in the file.
   pub near_exactly : (f : Refusal)
-      → (clash_of file ≡ Failed f) ↔ ((p : ℕ) × (f ≡ refusal fault.near_targets p) × FirstNear hs p)
+      → (clash_of file ≡ Err f) ↔ ((p : ℕ) × (f ≡ refusal fault.near_targets p) × FirstNear hs p)
   near_exactly f = (
     λ h. near_there f ((clash_why (targets_of file) f).0 h),
     λ h. (clash_why (targets_of file) f).1 (near_back f h.0 h.1 h.2),

@@ -1,16 +1,16 @@
 -- A load and a move in the terms of the page: when a call is accepted, and when each of 40, 41 and 42 is given, and
 -- where. Each is said once, of a call that is lent lists of bases. Assumes nothing.
+use Rattle.std.specs.Prelude.{Ok, Err}
 use Rattle.std.proofs.Common.{◌≡◌, ℕ, ◌+◌, ◌*◌, ◌↔◌, List, [], ◌∷◌, length, sym, refl, ap, ◌∙◌, subst, ap₂, inl, inr}
 use Rattle.std.proofs.Common.{arith}
 use Rattle.answers.specs.Numbers as fault
 use Rattle.answers.specs.Refusals.{refusal}
 use Rattle.answers.specs.declared.Refusal.{Refusal}
-use Rattle.answers.specs.declared.Tested.TheVariants.{Passed, Failed}
-use Rattle.program.specs.declared.check.Answer.TheVariants.{Accepted, Refused}
+use Rattle.program.proofs.Answers.{accepted_same}
 use Rattle.program.specs.Page.{Hunk, Holds, Each, total}
 use Rattle.program.specs.Header.{total_of}
 use Rattle.answers.proofs.Members.{unlisted}
-use Rattle.program.specs.Check.{check_refusals, check_of}
+use Rattle.program.specs.Check.{accepted, check_refusals, check_of}
 use Rattle.program.proofs.Pages.{page_accepted, accepted_page}
 use Rattle.loader.specs.Memory.{loaded_of}
 use Rattle.loader.specs.Bases.{bases_fault}
@@ -75,7 +75,7 @@ module _ (file : List ℕ) (hs : List Hunk) (held : Holds file hs) where
         ap₂ (λ (t n : ℕ). room_fault t n m r w) (held_total file hs held)
         (page_loaded file hs held.fits held.whole held.words)
 
-    room_exactly : (room_fault (total_of file) (loaded_of file) m r w ≡ Passed) ↔ Room (length hs) (4 * total hs) m r w
+    room_exactly : (room_fault (total_of file) (loaded_of file) m r w ≡ Ok tt) ↔ Room (length hs) (4 * total hs) m r w
     room_exactly = (
       λ h. let x =
           room_passed (length hs) (4 * total hs) m r w (sym same_room ∙ h) in record {
@@ -87,7 +87,7 @@ module _ (file : List ℕ) (hs : List Hunk) (held : Holds file hs) where
     )
 
     short_exactly : (f : Refusal)
-        → (room_fault (total_of file) (loaded_of file) m r w ≡ Failed f)
+        → (room_fault (total_of file) (loaded_of file) m r w ≡ Err f)
         ↔ ((f ≡ refusal fault.short_room 0) × Short (length hs) (4 * total hs) m r w)
     short_exactly f = (
       λ h. (room_why (length hs) (4 * total hs) m r w f).0 (sym same_room ∙ h),
@@ -95,7 +95,7 @@ module _ (file : List ℕ) (hs : List Hunk) (held : Holds file hs) where
     )
 
 -- a list that fails gives 40
-list_40 : (file bases : List ℕ) (from : ℕ) (f : Refusal) → bases_fault file bases from ≡ Failed f
+list_40 : (file bases : List ℕ) (from : ℕ) (f : Refusal) → bases_fault file bases from ≡ Err f
     → f ≡ refusal fault.bad_base f.place
 list_40 file bases from f h = go ((bases_why file bases from f).0 h)
   where
@@ -118,37 +118,36 @@ module _ (file : List ℕ) (lists : List (List ℕ)) (m r w : ℕ) where
   -- A call is accepted if and only if the file holds hunks, every list of bases is good, there is room, and no two
   -- targets of one hunk are near.
   pub call_accepted : (t n : ℕ)
-      → (call_answer file lists m r w ≡ Accepted t n) ↔ ((hs : List Hunk) × Holds file hs × Takes hs lists m r w t n)
+      → (call_answer file lists m r w ≡ accepted t n) ↔ ((hs : List Hunk) × Holds file hs × Takes hs lists m r w t n)
   call_accepted t n = (there, back)
     where
-      there : call_answer file lists m r w ≡ Accepted t n → (hs : List Hunk) × Holds file hs × Takes hs lists m r w t n
+      there : call_answer file lists m r w ≡ accepted t n → (hs : List Hunk) × Holds file hs × Takes hs lists m r w t n
       there a =
           let x = (call_passes file lists m r w t n).0 a in
           let g = accepted_page file t n x.0 in
-          let e : Accepted t n ≡ Accepted (length g.0) (4 * total g.0) =
-          sym x.0 ∙ page_accepted file g.0 g.1 in (
+          let e = accepted_same t n (length g.0) (4 * total g.0) (sym x.0 ∙ page_accepted file g.0 g.1) in (
             g.0,
             g.1,
             record {
-              hunks = (cc);
-              bytes = (cc);
+              hunks = e.0;
+              bytes = e.1;
               bases = all_good file g.0 g.1 0 lists x.1;
               room = (room_exactly file g.0 g.1 m r w).0 x.2;
               spaced = (spaced_exactly file g.0 g.1).0 x.3;
             },
           )
 
-      back : (hs : List Hunk) × Holds file hs × Takes hs lists m r w t n → call_answer file lists m r w ≡ Accepted t n
+      back : (hs : List Hunk) × Holds file hs × Takes hs lists m r w t n → call_answer file lists m r w ≡ accepted t n
       back (hs, h, y) =
           (call_passes file lists m r w t n).1 (
-            page_accepted file hs h ∙ sym (ap₂ Accepted y.hunks y.bytes),
+            page_accepted file hs h ∙ sym (ap₂ accepted y.hunks y.bytes),
             good_all file hs h 0 lists y.bases,
             (room_exactly file hs h m r w).1 y.room,
             (spaced_exactly file hs h).1 y.spaced,
           )
 
   -- A call is refused if and only if the file has a fault of its own, or 40, 41 or 42 is to be given.
-  pub call_refused : (f : Refusal) → (call_answer file lists m r w ≡ Refused f) ↔ CallWhy file lists m r w f
+  pub call_refused : (f : Refusal) → (call_answer file lists m r w ≡ Err f) ↔ CallWhy file lists m r w f
   call_refused f = (λ a. there ((call_fails file lists m r w f).0 a), λ h. (call_fails file lists m r w f).1 (back h))
     where
       there : TestWhy file lists m r w f → CallWhy file lists m r w f
@@ -209,7 +208,7 @@ module _ (file : List ℕ) (lists : List (List ℕ)) (m r w : ℕ) where
 
     -- 40 exactly for a list with another count, at its entry 0, or at the first bad entry; a list counts on from the
     -- one before.
-    pub call_40 : (call_answer file lists m r w ≡ Refused (refusal fault.bad_base p))
+    pub call_40 : (call_answer file lists m r w ≡ Err (refusal fault.bad_base p))
         ↔ ((hs : List Hunk) × Holds file hs × Refuses40 hs lists p)
     call_40 = (
       λ a. go ((call_refused (refusal fault.bad_base p)).0 a),
@@ -225,7 +224,7 @@ module _ (file : List ℕ) (lists : List (List ℕ)) (m r w : ℕ) where
         go (inr (hs, h, q, inr (inr (e, y)))) = absurd (omega (arith, number_of e))
 
     -- 41 if and only if every list is good, and memory, records or work area is short.
-    pub call_41 : (call_answer file lists m r w ≡ Refused (refusal fault.short_room p))
+    pub call_41 : (call_answer file lists m r w ≡ Err (refusal fault.short_room p))
         ↔ ((hs : List Hunk) × Holds file hs × Refuses41 hs lists m r w p)
     call_41 = (
       λ a. go ((call_refused (refusal fault.short_room p)).0 a),
@@ -243,7 +242,7 @@ module _ (file : List ℕ) (lists : List (List ℕ)) (m r w : ℕ) where
 
     -- 42 if and only if every list is good and there is room, at the first target that is near an earlier one of its
     -- hunk.
-    pub call_42 : (call_answer file lists m r w ≡ Refused (refusal fault.near_targets p))
+    pub call_42 : (call_answer file lists m r w ≡ Err (refusal fault.near_targets p))
         ↔ ((hs : List Hunk) × Holds file hs × Refuses42 hs lists m r w p)
     call_42 = (
       λ a. go ((call_refused (refusal fault.near_targets p)).0 a),
@@ -263,49 +262,49 @@ module _ (file : List ℕ) (lists : List (List ℕ)) (m r w : ℕ) where
 
 module _ (file bases : List ℕ) (m r w : ℕ) where
   pub load_accepted : (t n : ℕ)
-      → (load_answer file bases m r w ≡ Accepted t n)
+      → (load_answer file bases m r w ≡ accepted t n)
       ↔ ((hs : List Hunk) × Holds file hs × Takes hs (bases ∷ []) m r w t n)
   load_accepted t n = rw (load_call file bases m r w) (call_accepted file (bases ∷ []) m r w t n)
 
-  pub load_refused : (f : Refusal) → (load_answer file bases m r w ≡ Refused f) ↔ CallWhy file (bases ∷ []) m r w f
+  pub load_refused : (f : Refusal) → (load_answer file bases m r w ≡ Err f) ↔ CallWhy file (bases ∷ []) m r w f
   load_refused f = rw (load_call file bases m r w) (call_refused file (bases ∷ []) m r w f)
 
   pub load_40_exactly : (p : ℕ)
-      → (load_answer file bases m r w ≡ Refused (refusal fault.bad_base p))
+      → (load_answer file bases m r w ≡ Err (refusal fault.bad_base p))
       ↔ ((hs : List Hunk) × Holds file hs × Refuses40 hs (bases ∷ []) p)
   load_40_exactly p = rw (load_call file bases m r w) (call_40 file (bases ∷ []) m r w p)
 
   pub load_41_exactly : (p : ℕ)
-      → (load_answer file bases m r w ≡ Refused (refusal fault.short_room p))
+      → (load_answer file bases m r w ≡ Err (refusal fault.short_room p))
       ↔ ((hs : List Hunk) × Holds file hs × Refuses41 hs (bases ∷ []) m r w p)
   load_41_exactly p = rw (load_call file bases m r w) (call_41 file (bases ∷ []) m r w p)
 
   pub load_42_exactly : (p : ℕ)
-      → (load_answer file bases m r w ≡ Refused (refusal fault.near_targets p))
+      → (load_answer file bases m r w ≡ Err (refusal fault.near_targets p))
       ↔ ((hs : List Hunk) × Holds file hs × Refuses42 hs (bases ∷ []) m r w p)
   load_42_exactly p = rw (load_call file bases m r w) (call_42 file (bases ∷ []) m r w p)
 
 module _ (file old new : List ℕ) (m r w : ℕ) where
   pub move_accepted : (t n : ℕ)
-      → (move_answer file old new m r w ≡ Accepted t n)
+      → (move_answer file old new m r w ≡ accepted t n)
       ↔ ((hs : List Hunk) × Holds file hs × Takes hs (old ∷ new ∷ []) m r w t n)
   move_accepted t n = rw (move_call file old new m r w) (call_accepted file (old ∷ new ∷ []) m r w t n)
 
-  pub move_refused : (f : Refusal) → (move_answer file old new m r w ≡ Refused f)
+  pub move_refused : (f : Refusal) → (move_answer file old new m r w ≡ Err f)
       ↔ CallWhy file (old ∷ new ∷ []) m r w f
   move_refused f = rw (move_call file old new m r w) (call_refused file (old ∷ new ∷ []) m r w f)
 
   pub move_40_exactly : (p : ℕ)
-      → (move_answer file old new m r w ≡ Refused (refusal fault.bad_base p))
+      → (move_answer file old new m r w ≡ Err (refusal fault.bad_base p))
       ↔ ((hs : List Hunk) × Holds file hs × Refuses40 hs (old ∷ new ∷ []) p)
   move_40_exactly p = rw (move_call file old new m r w) (call_40 file (old ∷ new ∷ []) m r w p)
 
   pub move_41_exactly : (p : ℕ)
-      → (move_answer file old new m r w ≡ Refused (refusal fault.short_room p))
+      → (move_answer file old new m r w ≡ Err (refusal fault.short_room p))
       ↔ ((hs : List Hunk) × Holds file hs × Refuses41 hs (old ∷ new ∷ []) m r w p)
   move_41_exactly p = rw (move_call file old new m r w) (call_41 file (old ∷ new ∷ []) m r w p)
 
   pub move_42_exactly : (p : ℕ)
-      → (move_answer file old new m r w ≡ Refused (refusal fault.near_targets p))
+      → (move_answer file old new m r w ≡ Err (refusal fault.near_targets p))
       ↔ ((hs : List Hunk) × Holds file hs × Refuses42 hs (old ∷ new ∷ []) m r w p)
   move_42_exactly p = rw (move_call file old new m r w) (call_42 file (old ∷ new ∷ []) m r w p)

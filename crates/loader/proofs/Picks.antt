@@ -1,22 +1,21 @@
 -- What a choice between a fault and the next test says, and the other way. Assumes nothing.
+use Rattle.std.specs.Prelude.{Result, Err}
 use Rattle.std.proofs.Common.{◌≡◌, Bool, true, false, ◌⊎◌, refl, inl, inr}
 use Rattle.answers.specs.Tests.{pick}
 use Rattle.answers.specs.declared.Refusal.{Refusal}
-use Rattle.answers.specs.declared.Tested.{Tested}
-use Rattle.answers.specs.declared.Tested.TheVariants.{Failed}
 use Rattle.loader.proofs.Marking.{no_bool}
 
-pub pick_failed : (b : Bool) (g : Refusal) (h : Tested) (f : Refusal) → pick b (Failed g) h ≡ Failed f
-    → ((b ≡ true) × (f ≡ g)) ⊎ ((b ≡ false) × (h ≡ Failed f))
+pub pick_failed : (b : Bool) (g : Refusal) (h : Result Unit Refusal) (f : Refusal) → pick b (Err g) h ≡ Err f
+    → ((b ≡ true) × (f ≡ g)) ⊎ ((b ≡ false) × (h ≡ Err f))
 unfolding pick
 pick_failed true g h f e = let q : f ≡ g = cc in inl (refl, q)
 pick_failed false g h f e = inr (refl, e)
 
-pub pick_fails : (b : Bool) (f : Refusal) (h : Tested) → b ≡ true → pick b (Failed f) h ≡ Failed f
+pub pick_fails : (b : Bool) (f : Refusal) (h : Result Unit Refusal) → b ≡ true → pick b (Err f) h ≡ Err f
 unfolding pick
 pick_fails b f h e = rw e
 
-pub pick_goes : (b : Bool) (g : Refusal) (h k : Tested) → b ≡ false → h ≡ k → pick b (Failed g) h ≡ k
+pub pick_goes : (b : Bool) (g : Refusal) (h k : Result Unit Refusal) → b ≡ false → h ≡ k → pick b (Err g) h ≡ k
 unfolding pick
 pick_goes b g h k e q = rw e q
 
@@ -39,13 +38,13 @@ unfolding pick
 pick_and true c h = (refl, h)
 pick_and false c h = no_bool h
 
-pub pick_any : (b : Bool) (f : Refusal) (h : Tested) → h ≡ Failed f → pick b (Failed f) h ≡ Failed f
+pub pick_any : (b : Bool) (f : Refusal) (h : Result Unit Refusal) → h ≡ Err f → pick b (Err f) h ≡ Err f
 unfolding pick
 pick_any true f h e = refl
 pick_any false f h e = e
 
-pub pick_else : (b : Bool) (h : Tested) (g f : Refusal) → pick b h (Failed g) ≡ Failed f
-    → ((b ≡ true) × (h ≡ Failed f)) ⊎ ((b ≡ false) × (f ≡ g))
+pub pick_else : (b : Bool) (h : Result Unit Refusal) (g f : Refusal) → pick b h (Err g) ≡ Err f
+    → ((b ≡ true) × (h ≡ Err f)) ⊎ ((b ≡ false) × (f ≡ g))
 unfolding pick
 pick_else true h g f e = inl (refl, e)
 pick_else false h g f e = let q : f ≡ g = cc in inr (refl, q)

@@ -7,7 +7,7 @@ use Rattle.words.specs.Word.{word_at}
 use Rattle.words.specs.Shift.{shift_all}
 use Rattle.words.proofs.Words.{word_at_same_bytes}
 use Rattle.words.proofs.Shifts.{OffAll, Added, length_shift_all, shift_all_off, shift_all_added}
-use Rattle.program.specs.declared.check.Answer.TheVariants.{Accepted}
+use Rattle.program.specs.Check.{accepted}
 use Rattle.program.specs.Page.{Hunk, Each, Holds, total}
 use Rattle.loader.specs.Memory.{targets_of, amount_of, bodies_of, moved}
 use Rattle.loader.specs.Calls.{records_in, Loads, Moves}
@@ -53,7 +53,7 @@ module _ (file : List ℕ) (hs : List Hunk) (held : Holds file hs) where
       shift_all_off m (targets_of file) f k (subst (OffAll k) (sym theirs) (off_bare k (file_targets hs) o))
 
   module _ (m t w : List ℕ) (x n : ℕ) (m' t' w' : List ℕ) where
-    module _ (bases : List ℕ) (l : Loads file bases m t w (Accepted x n) m' t' w') where
+    module _ (bases : List ℕ) (l : Loads file bases m t w (accepted x n) m' t' w') where
       -- at each target: the stored word and the base of its hunk
       pub load_words : Adds (image_of hs) m' (file_targets hs) (amount_of bases)
       load_words =
@@ -78,7 +78,7 @@ module _ (file : List ℕ) (hs : List Hunk) (held : Holds file hs) where
           ∙ others_stay (bodies_of file m) (amount_of bases) k o
           ∙ ap (λ (u : List ℕ). get_or u k 0) (page_bodies file hs held.fits held.whole held.words m)
 
-    module _ (old new : List ℕ) (l : Moves file old new m t w (Accepted x n) m' t' w') where
+    module _ (old new : List ℕ) (l : Moves file old new m t w (accepted x n) m' t' w') where
       -- at each target: what stood there, and new minus old base
       pub move_words : Adds m m' (file_targets hs) (moved old new)
       move_words =

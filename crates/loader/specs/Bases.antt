@@ -1,11 +1,11 @@
 -- Bases: as many as hunks, multiples of 4, each hunk below 2^32, and no address shared with an earlier one
 -- (docs/FORMAT.md, "Bases and room"; refusal 40).
-use Rattle.std.specs.Prelude.{ℕ, zero, suc, ◌+◌, ◌*◌, ◌%◌, ◌^◌, Bool, true, false, List, length, ◌==◌, nat_lt}
+use Rattle.std.specs.Prelude.{Result, Ok, Err, ℕ, zero, suc, ◌+◌, ◌*◌, ◌%◌, ◌^◌, Bool, true, false, List, length}
+use Rattle.std.specs.Prelude.{◌==◌, nat_lt}
 use Rattle.answers.specs.Numbers as fault
 use Rattle.answers.specs.Tests.{pick}
+use Rattle.answers.specs.declared.Refusal.{Refusal}
 use Rattle.answers.specs.Refusals.{refusal}
-use Rattle.answers.specs.declared.Tested.{Tested}
-use Rattle.answers.specs.declared.Tested.TheVariants.{Passed, Failed}
 use Rattle.program.specs.Header.{total_of, size_of}
 use Rattle.loader.specs.Memory.{amount_of}
 
@@ -36,13 +36,13 @@ entry_bad file bases i =
     true
 
 -- n entries from i on; entries count from `from`
-unfoldable pub bases_from : List ℕ → List ℕ → ℕ → ℕ → ℕ → Tested
-bases_from file bases from i zero = Passed
+unfoldable pub bases_from : List ℕ → List ℕ → ℕ → ℕ → ℕ → Result Unit Refusal
+bases_from file bases from i zero = Ok tt
 bases_from file bases from i (suc n) =
-    pick (entry_bad file bases i) (Failed (refusal fault.bad_base (from + i))) (bases_from file bases from (i + 1) n)
+    pick (entry_bad file bases i) (Err (refusal fault.bad_base (from + i))) (bases_from file bases from (i + 1) n)
 
-unfoldable pub bases_fault : List ℕ → List ℕ → ℕ → Tested
+unfoldable pub bases_fault : List ℕ → List ℕ → ℕ → Result Unit Refusal
 bases_fault file bases from =
     pick (length bases == total_of file)
     (bases_from file bases from 0 (total_of file))
-    (Failed (refusal fault.bad_base from))
+    (Err (refusal fault.bad_base from))

@@ -1,16 +1,13 @@
 -- What a load and a move answer, and what they leave: the file's own faults, then bases, room, near targets
 -- (docs/FORMAT.md, "The program file" and "Numbers"). A refused call leaves memory and table; the work area comes
 -- back all 0.
-use Rattle.std.specs.Prelude.{◌≡◌, ℕ, ◌/◌, List, [], ◌∷◌, ◌++◌, length, replicate, nat_lt}
+use Rattle.std.specs.Prelude.{Result, Ok, Err, ◌≡◌, ℕ, ◌/◌, List, [], ◌∷◌, ◌++◌, length, replicate, nat_lt}
 use Rattle.answers.specs.Numbers as fault
 use Rattle.answers.specs.Tests.{pick}
+use Rattle.answers.specs.declared.Refusal.{Refusal}
 use Rattle.answers.specs.Refusals.{refusal}
-use Rattle.answers.specs.declared.Tested.{Tested}
-use Rattle.answers.specs.declared.Tested.TheVariants.{Passed, Failed}
-use Rattle.program.specs.declared.check.Answer.{Answer}
-use Rattle.program.specs.declared.check.Answer.TheVariants.{Accepted, Refused}
 use Rattle.program.specs.Header.{total_of}
-use Rattle.program.specs.Check.{numbers_of, check_refusals, check_of}
+use Rattle.program.specs.Check.{Answer, numbers_of, check_refusals, check_of}
 use Rattle.loader.specs.Memory.{loaded_of, load_of, move_of}
 use Rattle.loader.specs.Table.{record_length, table_of}
 use Rattle.loader.specs.Bases.{bases_fault}
@@ -21,17 +18,17 @@ abbrev pub call_refusals : List ℕ
 call_refusals = check_refusals ++ (fault.bad_base ∷ fault.short_room ∷ fault.near_targets ∷ [])
 
 -- n bytes of memory and of work area, and t records
-abbrev pub room_fault : ℕ → ℕ → ℕ → ℕ → ℕ → Tested
+abbrev pub room_fault : ℕ → ℕ → ℕ → ℕ → ℕ → Result Unit Refusal
 room_fault t n memory records work =
-    pick (nat_lt memory n) (Failed (refusal fault.short_room 0))
-    (pick (nat_lt records t) (Failed (refusal fault.short_room 0))
-    (pick (nat_lt work n) (Failed (refusal fault.short_room 0)) Passed))
+    pick (nat_lt memory n) (Err (refusal fault.short_room 0))
+    (pick (nat_lt records t) (Err (refusal fault.short_room 0))
+    (pick (nat_lt work n) (Err (refusal fault.short_room 0)) (Ok tt)))
 
 -- a further test of what is accepted so far
-abbrev pub also : Answer → Tested → Answer
-also (Accepted t n) Passed = Accepted t n
-also (Accepted t n) (Failed r) = Refused r
-also (Refused r) h = Refused r
+abbrev pub also : Answer → Result Unit Refusal → Answer
+also (Ok v) (Ok u) = Ok v
+also (Ok v) (Err r) = Err r
+also (Err r) h = Err r
 
 -- of memory and work area by their lengths, and of the table by its records
 abbrev pub last_tests : List ℕ → Answer → ℕ → ℕ → ℕ → Answer
@@ -51,8 +48,8 @@ move_answer file old new memory records work =
 
 -- accepted: the new contents; refused: the old
 abbrev pub effect : Answer → List ℕ → List ℕ → List ℕ
-effect (Accepted t n) new old = new
-effect (Refused r) new old = old
+effect (Ok v) new old = new
+effect (Err r) new old = old
 
 -- ---- the promises: the calls are lent a table of numbers; the answer is said also by its numbers
 

@@ -17,5 +17,7 @@ pub mod Pages
 pub mod Verdicts
 -- what the laws of moving speak of
 pub mod Moving
+-- the steps of a pass over a file
+pub mod Steps
 -- what the parts of the code ask and tell each other
 pub mod Parts

@@ -1,7 +1,7 @@
 -- What the laws of moving speak of, however a table holds its records: equal room, and loads that are accepted
 -- (docs/FORMAT.md, "Bases and room").
 use Rattle.std.specs.Prelude.{◌≡◌, ℕ, List, length}
-use Rattle.program.specs.declared.check.Answer.TheVariants.{Accepted}
+use Rattle.program.specs.Check.{accepted}
 use Rattle.loader.specs.Calls.{load_answer}
 
 -- room of one size: memory, table and work area as long as those
@@ -12,4 +12,4 @@ pub record SameRoom {R : Type 0} (m : List ℕ) (t : List R) (w m' : List ℕ) (
 
 -- a load is accepted at these bases in this room, with a table of so many records
 abbrev pub LoadsAt : List ℕ → List ℕ → List ℕ → ℕ → List ℕ → ℕ → ℕ → Type 0
-LoadsAt file bases m records w x n = load_answer file bases (length m) records (length w) ≡ Accepted x n
+LoadsAt file bases m records w x n = load_answer file bases (length m) records (length w) ≡ accepted x n

@@ -1,22 +1,19 @@
--- What the parts of the code ask and tell each other: the core, which is lent a number of records and hands their
--- numbers back, the passes, and the marks. Nothing that a call promises is said here; that is Calls.
-use Rattle.std.specs.Prelude.{◌≡◌, ℕ, ◌+◌, ◌*◌, ◌%◌, ◌<◌, ◌≤◌, Bool, true, false, List, [], ◌∷◌, ◌++◌, length, take}
-use Rattle.std.specs.Prelude.{drop, replicate, ◌≢◌}
-use Rattle.words.specs.Word.{word_at, set_word}
+-- What the parts of the code ask and tell each other: the passes, and the core of a load and of a move, which is lent a
+-- number of records and hands their numbers back. Nothing that a call promises is said here; that is Calls.
+use Rattle.answers.specs.declared.Refusal.{Refusal}
+use Rattle.loader.specs.Bases.{bases_fault}
+use Rattle.std.specs.Prelude.{Result, Ok, Err, Option, None, Some, ◌≡◌, ℕ, ◌+◌, ◌*◌, ◌%◌, ◌<◌, ◌≤◌, List, [], ◌∷◌, ◌++◌}
+use Rattle.std.specs.Prelude.{length, take, drop, replicate}
+use Rattle.words.specs.Word.{set_word}
 use Rattle.program.specs.Types as type
 use Rattle.program.specs.declared.act.Act.{Act}
 use Rattle.program.specs.declared.act.Act.TheVariants.{Quiet, Body, Store, Add}
-use Rattle.program.specs.declared.check.Answer.{Answer}
-use Rattle.program.specs.declared.check.Answer.TheVariants.{Accepted, Refused}
-use Rattle.program.specs.declared.reader.Cursor.{Cursor}
-use Rattle.program.specs.declared.reader.Mode.TheVariants.{Stored}
-use Rattle.program.specs.declared.reader.Next.TheVariants.{On}
-use Rattle.program.specs.Header.{total_of, space_of}
-use Rattle.program.specs.Reader.{step_of}
-use Rattle.program.specs.Acts.{act_of, acts_of}
+use Rattle.program.specs.Check.{Answer}
+use Rattle.program.specs.Header.{total_of}
+use Rattle.program.specs.Acts.{acts_of}
 use Rattle.program.specs.Cursors.{HeaderFits}
 use Rattle.loader.specs.declared.calls.Outcome.{Outcome}
-use Rattle.loader.specs.Memory.{loaded_of, store_one, load_of, move_of}
+use Rattle.loader.specs.Memory.{loaded_of, load_of, move_of}
 use Rattle.loader.specs.Table.{record_length, table_room, with_records}
 use Rattle.loader.specs.Calls.{load_answer, move_answer, effect}
 
@@ -40,32 +37,6 @@ ActFits n t (Add p k b) = (p + 4 ≤ n) × (k < t)
 unfoldable pub with_words : List ℕ → ℕ → List ℕ → List ℕ
 with_words m p [] = m
 with_words m p (w ∷ ws) = with_words (set_word m p w) (p + 4) ws
-
--- the reader takes words from the cursor c at byte `at` on, up to the cursor d at byte `to`, and what they ask to
--- store makes n of memory m
-pub data Stores (file : List ℕ) : List ℕ → Cursor → ℕ → List ℕ → Cursor → ℕ → Type 0 where
-  here : {m : List ℕ} {c : Cursor} {at : ℕ} → Stores file m c at m c at
-  along : {m n : List ℕ} {c d e : Cursor} {at to : ℕ}
-      → at < length file
-      → step_of (total_of file) (space_of file) c (word_at file at) ≡ On d
-      → Stores file (store_one m (act_of c at (word_at file at))) d (at + 4) n e to
-      → Stores file m c at n e to
-
--- the same, so far that no stored word comes next, unless the file ends there
-pub record StoresPast (file m : List ℕ) (c : Cursor) (at : ℕ) (n : List ℕ) (d : Cursor) (to : ℕ) : Type 0 where
-  pub stores : Stores file m c at n d to
-  pub rests : (i : ℕ) → d.mode ≡ Stored i → length file ≤ to
-
--- what the marking of one act does to the work area
-abbrev pub marks_one : List ℕ → Act → Bool → List ℕ → Type 0
-marks_one m Quiet r n = (r ≡ false) × (n ≡ m)
-marks_one m (Body h p k) r n = (r ≡ false) × (n ≡ m)
-marks_one m (Store p w) r n = (r ≡ false) × (n ≡ m)
-marks_one m (Add p k b) true n = (word_at m p ≢ 0) × (n ≡ m)
-marks_one m (Add p k b) false n = (word_at m p ≡ 0) × (n ≡ set_word m p 0x01010101)
-
-pub record Marks (m : List ℕ) (a : Act) (r : Bool) (n : List ℕ) : Type 0 where
-  pub marks : marks_one m a r n
 
 -- ---- the core
 
@@ -91,24 +62,52 @@ abbrev pub handed : List ℕ → List ℕ → Answer → List ℕ
 handed file bases a =
     effect a (with_records file bases (replicate table_room 0) (acts_of file)) (replicate table_room 0)
 
-pub record LoadsCore (file bases memory work : List ℕ) (records : ℕ)
+-- a call brings a program to bases: from no old ones, as a load, or from old ones, as a move
+
+-- tests one after the other
+abbrev pub and_then : Result Unit Refusal → Result Unit Refusal → Result Unit Refusal
+and_then (Ok u) h = h
+and_then (Err r) h = Err r
+
+-- the test of its lists of bases
+abbrev pub lists_fault : List ℕ → Option (List ℕ) → List ℕ → Result Unit Refusal
+lists_fault file None to = bases_fault file to 0
+lists_fault file (Some old) to = and_then (bases_fault file old 0) (bases_fault file to (total_of file))
+
+-- what it answers
+abbrev pub answer_of : List ℕ → Option (List ℕ) → List ℕ → ℕ → ℕ → ℕ → Answer
+answer_of file None to memory records work = load_answer file to memory records work
+answer_of file (Some old) to memory records work = move_answer file old to memory records work
+
+-- what it makes of memory
+abbrev pub placed_of : List ℕ → Option (List ℕ) → List ℕ → List ℕ → List ℕ
+placed_of file None to m = load_of file to m
+placed_of file (Some old) to m = move_of file old to m
+
+-- there are as many old bases as new ones
+abbrev pub SameLength : Option (List ℕ) → List ℕ → Type 0
+SameLength None to = Unit
+SameLength (Some old) to = length old ≡ length to
+
+pub record Places (file : List ℕ) (old : Option (List ℕ)) (to memory work : List ℕ) (records : ℕ)
     (o : Outcome) (memory' work' : List ℕ) : Type 0 where
-  pub answer : o.answer ≡ load_answer file bases (length memory) records (length work)
-  pub loaded : memory' ≡ effect o.answer (load_of file bases memory) memory
-  pub numbers : o.records ≡ handed file bases o.answer
+  pub answer : o.answer ≡ answer_of file old to (length memory) records (length work)
+  pub placed : memory' ≡ effect o.answer (placed_of file old to memory) memory
+  pub numbers : o.records ≡ handed file to o.answer
   pub clean : work' ≡ replicate (length work) 0
 
-pub record MovesCore (file old new memory work : List ℕ) (records : ℕ)
-    (o : Outcome) (memory' work' : List ℕ) : Type 0 where
-  pub answer : o.answer ≡ move_answer file old new (length memory) records (length work)
-  pub shifted : memory' ≡ effect o.answer (move_of file old new memory) memory
-  pub numbers : o.records ≡ handed file new o.answer
-  pub clean : work' ≡ replicate (length work) 0
+abbrev pub LoadsCore : (file bases memory work : List ℕ) → ℕ → Outcome → (memory' work' : List ℕ) → Type 0
+LoadsCore file bases memory work records o memory' work' =
+    Places file None bases memory work records o memory' work'
+
+abbrev pub MovesCore : (file old new memory work : List ℕ) → ℕ → Outcome → (memory' work' : List ℕ) → Type 0
+MovesCore file old new memory work records o memory' work' =
+    Places file (Some old) new memory work records o memory' work'
 
 -- an accepted outcome's records have room in a table of so many numbers
 abbrev pub FillsBy : Answer → ℕ → Type 0
-FillsBy (Accepted t n) room = (t ≤ type.most_hunks) × (record_length * t ≤ room)
-FillsBy (Refused r) room = Unit
+FillsBy (Ok v) room = (v.hunks ≤ type.most_hunks) × (record_length * v.hunks ≤ room)
+FillsBy (Err r) room = Unit
 
 pub record Fills (o : Outcome) (room : ℕ) : Type 0 where
   pub fills : FillsBy o.answer room
@@ -116,8 +115,8 @@ pub record Fills (o : Outcome) (room : ℕ) : Type 0 where
 
 -- and are written to its front
 abbrev pub filled_by : Answer → List ℕ → List ℕ → List ℕ
-filled_by (Accepted t n) numbers table = take (record_length * t) numbers ++ drop (record_length * t) table
-filled_by (Refused r) numbers table = table
+filled_by (Ok v) numbers table = take (record_length * v.hunks) numbers ++ drop (record_length * v.hunks) table
+filled_by (Err r) numbers table = table
 
 abbrev pub filled : Outcome → List ℕ → List ℕ
 filled o table = filled_by o.answer o.records table

@@ -1,20 +1,18 @@
 -- What the answers of a load and a move say, in the terms of the page: when a call is accepted, and when 40, 41 and
 -- 42 are given (docs/FORMAT.md, "The program file" and "Numbers").
-use Rattle.std.specs.Prelude.{◌≡◌, ℕ, ◌+◌, ◌*◌, ◌%◌, ◌^◌, ◌<◌, ◌≤◌, ◌≢◌, ◌⊎◌, List, [], ◌∷◌, ◌++◌, length}
+use Rattle.std.specs.Prelude.{Err, ◌≡◌, ℕ, ◌+◌, ◌*◌, ◌%◌, ◌^◌, ◌<◌, ◌≤◌, ◌≢◌, ◌⊎◌, List, [], ◌∷◌, ◌++◌, length}
 use Rattle.answers.specs.Numbers as fault
 use Rattle.answers.specs.Refusals.{refusal}
 use Rattle.answers.specs.Members.{◌∈◌}
 use Rattle.answers.specs.declared.Refusal.{Refusal}
-use Rattle.program.specs.declared.check.Answer.{Answer}
-use Rattle.program.specs.declared.check.Answer.TheVariants.{Accepted, Refused}
 use Rattle.program.specs.Page.{Hunk, Each, Holds, total}
-use Rattle.program.specs.Check.{check_of}
+use Rattle.program.specs.Check.{Answer, accepted, check_of}
 use Rattle.loader.specs.Memory.{amount_of}
 use Rattle.loader.specs.Pages.{PageTarget, file_targets, size_at}
 
 -- an answer that accepts
 abbrev pub Accepts : Answer → Type 0
-Accepts a = (t : ℕ) × (n : ℕ) × (a ≡ Accepted t n)
+Accepts a = (t : ℕ) × (n : ℕ) × (a ≡ accepted t n)
 
 -- ---- 40: bases, where hunk k takes `size k` words
 
@@ -125,5 +123,5 @@ RefusesCall hs lists memory records work p f =
 -- any refusal: of the file; else, of the hunks that it holds, 40, 41 or 42 at a place
 abbrev pub CallWhy : List ℕ → List (List ℕ) → ℕ → ℕ → ℕ → Refusal → Type 0
 CallWhy file lists memory records work f =
-    (check_of file ≡ Refused f)
+    (check_of file ≡ Err f)
     ⊎ ((hs : List Hunk) × Holds file hs × (p : ℕ) × RefusesCall hs lists memory records work p f)

@@ -2,31 +2,13 @@
 ghost use Rattle.std.specs.Prelude.{◌≡◌, ◌<◌, ◌≤◌, length};
 ghost use Rattle.program.specs.Header.{total_of};
 ghost use Rattle.program.specs.Cursors.{HeaderFits};
-ghost use Rattle.loader.specs.Bases.{larger, smaller, top_of, shares, entry_bad, bases_fault};
+ghost use Rattle.loader.specs.Bases.{top_of, overlap, shares, entry_bad, bases_fault};
 
-use answers::{Fault, Refusal, Tested};
+use answers::{Fault, Refusal};
 use program::header::{size, total};
 
 // One past the last address.
 const TOP: u64 = 0x100000000;
-
-fn larger_of(a: u64, b: u64) -> u64
-    ensures { result ≡ larger a b }
-{
-    if a < b {
-        return b;
-    }
-    a
-}
-
-fn smaller_of(a: u64, b: u64) -> u64
-    ensures { result ≡ smaller a b }
-{
-    if a < b {
-        return a;
-    }
-    b
-}
 
 // The first address after hunk i at its base.
 fn top(file: &[u8], bases: &[u32], i: usize) -> u64
@@ -36,17 +18,24 @@ fn top(file: &[u8], bases: &[u32], i: usize) -> u64
     bases[i] as u64 + 4 * size(file, i as u32) as u64
 }
 
+// Whether hunks i and j share an address.
+fn overlap(file: &[u8], bases: &[u32], i: usize, j: usize) -> bool
+    requires { (HeaderFits file.now) × (i < total_of file.now) × (j < total_of file.now)
+        × (length bases.now ≡ total_of file.now) }
+    ensures { result ≡ overlap file.now bases.now i j }
+{
+    let low = bases[i].max(bases[j]) as u64;
+    let high = top(file, bases, i).min(top(file, bases, j));
+    low < high
+}
+
 // Whether hunk i shares an address with one before it.
 fn shares_any(file: &[u8], bases: &[u32], i: usize) -> bool
     requires { (HeaderFits file.now) × (i < total_of file.now) × (length bases.now ≡ total_of file.now) }
     ensures { result ≡ shares file.now bases.now i i }
 {
-    let mut j = i;
-    while 0 < j {
-        j -= 1;
-        let low = larger_of(bases[i] as u64, bases[j] as u64);
-        let high = smaller_of(top(file, bases, i), top(file, bases, j));
-        if low < high {
+    for j in (0..i).rev() {
+        if overlap(file, bases, i, j) {
             return true;
         }
     }
@@ -54,6 +43,7 @@ fn shares_any(file: &[u8], bases: &[u32], i: usize) -> bool
 }
 
 // Whether entry i of a list of bases is bad.
+#[tactic(auto, using(program::proofs::Choices::choices), unfolding(crate::specs::Bases::entry_bad))]
 fn entry_bad(file: &[u8], bases: &[u32], i: usize) -> bool
     requires { (HeaderFits file.now) × (i < total_of file.now) × (length bases.now ≡ total_of file.now) }
     ensures { result ≡ entry_bad file.now bases.now i }
@@ -68,26 +58,18 @@ fn entry_bad(file: &[u8], bases: &[u32], i: usize) -> bool
 }
 
 // The first bad entry of a list of bases; entries count from `from`.
-pub(crate) fn bases_fault(file: &[u8], bases: &[u32], from: usize) -> Tested
+pub(crate) fn bases_fault(file: &[u8], bases: &[u32], from: usize) -> Result<(), Refusal>
     requires { (HeaderFits file.now) × (from ≤ 64) }
     ensures { result ≡ bases_fault file.now bases.now from }
 {
     let t = total(file) as usize;
     if bases.len() != t {
-        return Tested::Failed(Refusal {
-            number: Fault::BAD_BASE,
-            place: from,
-        });
+        return Err(Fault::BadBase.at(from));
     }
-    let mut i: usize = 0;
-    while i < t {
+    for i in 0..t {
         if entry_bad(file, bases, i) {
-            return Tested::Failed(Refusal {
-                number: Fault::BAD_BASE,
-                place: from + i,
-            });
+            return Err(Fault::BadBase.at(from + i));
         }
-        i += 1;
     }
-    Tested::Passed
+    Ok(())
 }

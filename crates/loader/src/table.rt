@@ -6,9 +6,9 @@ ghost use Rattle.program.specs.Cursors.{HeaderFits};
 ghost use Rattle.loader.specs.Parts.{ActFits};
 ghost use Rattle.loader.specs.Table.{record_length, with_numbers, record_one, with_records};
 
-use program::act::{Act, act_of};
-use program::header::{WORDS, memory, size, total};
-use program::reader::{Next, begin, past, step};
+use crate::steps::{Step, steps};
+use program::act::Act;
+use program::header::{memory, size};
 
 // How many numbers a record has.
 pub const RECORD_LENGTH: usize = 5;
@@ -21,11 +21,7 @@ pub(crate) fn put_numbers(numbers: &[u32], table: &mut [u32], at: usize)
     requires { at + length numbers.now ≤ length table.old }
     ensures { table.new ≡ with_numbers table.old at numbers.now }
 {
-    let mut i: usize = 0;
-    while i < numbers.len() {
-        table[at + i] = numbers[i];
-        i += 1;
-    }
+    words::copy(numbers, &mut table[at..at + numbers.len()]);
 }
 
 // Writes the record of a hunk that begins.
@@ -34,9 +30,15 @@ fn write_act(file: &[u8], bases: &[u32], table: &mut [u32], a: Act)
         × (total_of file.now ≤ length bases.now) × (record_length * total_of file.now ≤ length table.old) }
     ensures { table.new ≡ record_one file.now bases.now table.old a }
 {
-    if let Act::Body(h, p, k) = a {
-        let i = h as usize;
-        let record = [k, p as u32, size(file, h), bases[i], memory(file, h)];
+    if let Act::Body { hunk, place, kind } = a {
+        let i = hunk as usize;
+        let record = [
+            kind,
+            place as u32,
+            size(file, hunk),
+            bases[i],
+            memory(file, hunk),
+        ];
         put_numbers(&record, table, RECORD_LENGTH * i);
     }
 }
@@ -48,17 +50,9 @@ pub(crate) fn write_all(file: &[u8], bases: &[u32], table: &mut [u32])
     ensures { table.new ≡ with_records file.now bases.now table.old
         (acts_of file.now) }
 {
-    let mut c = begin();
-    let mut at = 4 * WORDS + 4 * total(file) as usize;
-    while at < file.len() {
-        let w = words::word(file, at);
-        let n = step(file, c, w);
-        let Next::On(d) = n else {
-            return;
-        };
-        let s = past(file, d, at + 4);
-        write_act(file, bases, table, act_of(c, at, w));
-        c = s.cursor;
-        at = s.at;
+    for step in steps(file) {
+        if let Step::Act(a) = step {
+            write_act(file, bases, table, a);
+        }
     }
 }

@@ -1,10 +1,7 @@
-use Rattle.std.proofs.Common.{◌≡◌, ◌-◌, ◌≤◌}
+use Rattle.std.proofs.Common.{◌≡◌, ◌-◌}
 use Rattle.loader.specs.Bases.{bases_from, bases_fault}
 use Rattle.loader.proofs.bases.bases_fault.Given as goal
 
+-- the entries that are left decide
 abbrev pub invariant-loop-i : goal.invariant-loop-i
-invariant-loop-i l = (l.i ≤ l.t)
-    × (bases_fault l.file l.bases l.from ≡ bases_from l.file l.bases l.from l.i (l.t - l.i))
-
-abbrev pub decreases-loop-i : goal.decreases-loop-i
-decreases-loop-i l = l.t - l.i
+invariant-loop-i l = bases_fault l.file l.bases l.from ≡ bases_from l.file l.bases l.from l.i (l.t - l.i)

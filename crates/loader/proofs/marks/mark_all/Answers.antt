@@ -1,45 +1,35 @@
 -- `loader::marks::mark_all` meets its contract: the marks are those of the targets seen. Assumes nothing.
-use Rattle.program.proofs.Runs.{turn_less, turn_aligned, turn_fits}
-use Rattle.loader.proofs.Acts.{cursor_low}
-use Rattle.loader.proofs.Marking.{clash_start, mark_long, mark_fits, clash_bad, clash_met, clash_turn}
-use Rattle.loader.proofs.Marking.{clash_end}
+use Rattle.std.proofs.Common.{sym, ap, ◌∙◌}
+use Rattle.std.specs.Prelude.{Err}
+use Rattle.loader.specs.declared.steps.Step.TheVariants as step
+use Rattle.loader.proofs.Stepping.{same_act}
+use Rattle.loader.proofs.Marking.{clash_start, clash_end, clash_rest, clash_met, clash_new}
 use Rattle.loader.proofs.marks.mark_all.Goals as goal
 
-pub loop-at-init : goal.loop-at-init
-loop-at-init c = search clash_start depth 7
+pub loop-step-init : goal.loop-step-init
+loop-step-init c =
+    rw c.into_iter-step-iterator.ensures.into_iter_gives
+    (clash_start _ _ _ c.steps-step-items.ensures.file c.steps-step-items.ensures.all c.requires.2 c.requires.3)
 
-pub step-n-requires : goal.step-n-requires
-step-n-requires c = search
+pub returns-then-word-ne0 : goal.returns-then-word-ne0
+returns-then-word-ne0 c =
+    ap Err c.at.ensures
+    ∙ clash_met _ _ _ _ c.loop-step.invariant _ _ c.in-Some.ensures.steps _ _ _ (c.in-Act.is ∙ ap step.Act c.in-Add.is)
+    _ c.word.ensures c.if-word-ne0.true
 
-pub shape_of-work-in_default : goal.shape_of-work-in_default
-shape_of-work-in_default c = search
+pub loop-step-preserved-in-Add : goal.loop-step-preserved-in-Add
+loop-step-preserved-in-Add c =
+    clash_new _ _ _ _ c.loop-step.invariant _ _ c.in-Some.ensures.steps _ _ _ (c.in-Act.is ∙ ap step.Act c.in-Add.is)
+    _ c.word.ensures c.if-word-ne0.false _ c.mark.ensures
 
-pub returns-in_default : goal.returns-in_default
-returns-in_default c = search clash_bad depth 9
+pub loop-step-preserved-in_default-a : goal.loop-step-preserved-in_default-a
+loop-step-preserved-in_default-a c =
+    clash_rest _ _ _ _ c.loop-step.invariant _ _ c.in-Some.ensures.steps
+    (λ p k b e. c.in_default-a.not-Add p k b (same_act (sym c.in-Act.is ∙ e)))
 
-pub act_of-requires : goal.act_of-requires
-act_of-requires c = search cursor_low
-
-pub mark_act-requires : goal.mark_act-requires
-mark_act-requires c = search mark_fits depth 7
-
-pub shape_of-work-then-mark_act : goal.shape_of-work-then-mark_act
-shape_of-work-then-mark_act c = search mark_long
-
-pub returns-then-mark_act : goal.returns-then-mark_act
-returns-then-mark_act c = search clash_met depth 9
-
-pub past-s-requires : goal.past-s-requires
-past-s-requires c = (search turn_fits depth 7, search, search turn_aligned)
-
-pub loop-at-smaller : goal.loop-at-smaller
-loop-at-smaller c = search turn_less
-
-pub loop-at-preserved : goal.loop-at-preserved
-loop-at-preserved c = search clash_turn depth 9
-
-pub shape_of-work : goal.shape_of-work
-shape_of-work c = search
+pub loop-step-preserved : goal.loop-step-preserved
+loop-step-preserved c =
+    clash_rest _ _ _ _ c.loop-step.invariant _ _ c.in-Some.ensures.steps (λ p k b e. c.in_default.not-Act _ e)
 
 pub returns : goal.returns
-returns c = search clash_end
+returns c = clash_end _ _ _ _ c.loop-step.invariant _ c.in-None.ensures.steps

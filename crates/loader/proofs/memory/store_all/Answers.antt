@@ -1,38 +1,22 @@
--- `loader::memory::store_all` meets its contract: a pass that stores. Assumes nothing.
-use Rattle.program.proofs.Passes.{passing_fits, passing_bad, passing_end, passing_room}
-use Rattle.program.proofs.Runs.{turn_aligned}
-use Rattle.loader.proofs.StoredRuns.{all_start, all_within, all_turn, store_less}
+-- `loader::memory::store_all` meets its contract. Assumes nothing.
+use Rattle.std.proofs.Common.{refl}
+use Rattle.loader.specs.Memory.{store_one}
+use Rattle.loader.proofs.Acts.{length_store_one}
+use Rattle.loader.proofs.Stepping.{passing_step, passing_end, step_unstored}
+use Rattle.loader.proofs.Stepping.{pass_run, pass_unstored}
 use Rattle.loader.proofs.memory.store_all.Goals as goal
 
-pub loop-at-init : goal.loop-at-init
-loop-at-init c = search all_start depth 7
+pub loop-step-preserved-in-Words : goal.loop-step-preserved-in-Words
+loop-step-preserved-in-Words c =
+    passing_step store_one (λ x. refl) length_store_one _ _ _ _ c.loop-step.invariant _ _ _ c.in-Some.ensures.steps
+    (pass_run _ _ _ _ _ _ _ c.in-Words.is c.store_run.ensures)
 
-pub step-n-requires : goal.step-n-requires
-step-n-requires c = search
-
-pub shape_of-memory-in_default : goal.shape_of-memory-in_default
-shape_of-memory-in_default c = search
-
-pub returns-in_default : goal.returns-in_default
-returns-in_default c = search passing_bad depth 9
-
-pub store_past-s-requires : goal.store_past-s-requires
-store_past-s-requires c = (
-  search passing_fits depth 7,
-  search,
-  search turn_aligned,
-  search all_within,
-  search passing_room,
-)
-
-pub loop-at-smaller : goal.loop-at-smaller
-loop-at-smaller c = search store_less depth 7
-
-pub loop-at-preserved : goal.loop-at-preserved
-loop-at-preserved c = search all_turn depth 9
-
-pub shape_of-memory : goal.shape_of-memory
-shape_of-memory c = search
+pub loop-step-preserved : goal.loop-step-preserved
+loop-step-preserved c =
+    passing_step store_one (λ x. refl) length_store_one _ _ _ _ c.loop-step.invariant _ _ _ c.in-Some.ensures.steps
+    (pass_unstored _ _ _ c.in_default.not-Words
+    (λ p w e. step_unstored _ _ _ p w c.in-Some.ensures.steps e))
 
 pub returns : goal.returns
-returns c = search passing_end depth 9
+returns c =
+    passing_end store_one (λ x. refl) length_store_one _ _ _ _ c.loop-step.invariant _ c.in-None.ensures.steps

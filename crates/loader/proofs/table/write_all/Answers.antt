@@ -1,38 +1,28 @@
--- `loader::table::write_all` meets its contract: a pass that records. Assumes nothing.
-use Rattle.program.proofs.Passes.{passing_start, passing_fits, passing_bad, passing_end, passing_room}
-use Rattle.program.proofs.Runs.{turn_less, turn_aligned, passing_turn}
-use Rattle.loader.proofs.Acts.{quiet_record, record_fits, cursor_low, length_record_one}
+-- `loader::table::write_all` meets its contract. Assumes nothing.
+use Rattle.std.proofs.Common.{refl, arith}
+use Rattle.loader.proofs.Acts.{length_record_one, loaded_low}
+use Rattle.loader.proofs.Stepping.{passing_step, passing_end, step_room, pass_one, pass_rest}
 use Rattle.loader.proofs.table.write_all.Goals as goal
 
-pub loop-at-init : goal.loop-at-init
-loop-at-init c = search passing_start depth 7
-
-pub step-n-requires : goal.step-n-requires
-step-n-requires c = search
-
-pub shape_of-table-in_default : goal.shape_of-table-in_default
-shape_of-table-in_default c = search
-
-pub returns-in_default : goal.returns-in_default
-returns-in_default c = search passing_bad depth 9
-
-pub act_of-requires : goal.act_of-requires
-act_of-requires c = search cursor_low
-
 pub write_act-requires : goal.write_act-requires
-write_act-requires c = (search, search record_fits depth 7, search, search passing_room)
+write_act-requires c =
+    let i = c.loop-step.invariant in (
+      search,
+      step_room _ _ _ _ _ _ _ c.in-Some.ensures.steps c.in-Act.is i.same (loaded_low _ c.requires.0) (omega arith),
+      search,
+      omega (arith, i.long),
+    )
 
-pub past-s-requires : goal.past-s-requires
-past-s-requires c = (search passing_fits depth 7, search, search turn_aligned)
+pub loop-step-preserved-in-Act : goal.loop-step-preserved-in-Act
+loop-step-preserved-in-Act c =
+    passing_step _ (λ x. refl) (length_record_one _ _) _ _ _ _ c.loop-step.invariant _ _ _ c.in-Some.ensures.steps
+    (pass_one _ _ _ _ _ _ c.in-Act.is c.write_act.ensures)
 
-pub loop-at-smaller : goal.loop-at-smaller
-loop-at-smaller c = search turn_less
-
-pub loop-at-preserved : goal.loop-at-preserved
-loop-at-preserved c = search (passing_turn, quiet_record, length_record_one) depth 9
-
-pub shape_of-table : goal.shape_of-table
-shape_of-table c = search
+pub loop-step-preserved : goal.loop-step-preserved
+loop-step-preserved c =
+    passing_step _ (λ x. refl) (length_record_one _ _) _ _ _ _ c.loop-step.invariant _ _ _ c.in-Some.ensures.steps
+    (pass_rest _ (λ x p w. refl) _ _ _ c.in_default.not-Act)
 
 pub returns : goal.returns
-returns c = search passing_end depth 9
+returns c =
+    passing_end _ (λ x. refl) (length_record_one _ _) _ _ _ _ c.loop-step.invariant _ c.in-None.ensures.steps
