@@ -2,12 +2,13 @@
 use Prim.Native.Nat.{ℕ}
 use mathlib.Core.Path.{◌≡◌, ap, subst, ◌∙◌}
 use mathlib.Core.List.{List}
+use Rattle.std.specs.Prelude.{Result}
 use Rattle.volume.specs.Disks.{disk_of}
-use Rattle.audit.specs.declared.audit.Audited.{Audited}
+use Rattle.answers.specs.declared.Refusal.{Refusal}
+use Rattle.audit.specs.declared.audit.Report.{Report}
 use Rattle.audit.specs.Audits.{Audits}
-use Rattle.reading.specs.declared.read.Reading.{Reading}
 use Rattle.reading.specs.Reads.{Reads}
-use Rattle.program.specs.declared.check.Answer.{Answer}
+use Rattle.program.specs.Check.{Answer}
 use Rattle.hunks.specs.declared.Hunk.{Hunk}
 use Rattle.hunks.specs.Calls.{Loads, Moves}
 use Rattle.jufferdeeg.specs.declared.volumes.AuditNumbers.{AuditNumbers}
@@ -16,7 +17,7 @@ use Rattle.jufferdeeg.specs.declared.programs.ProgramNumbers.{ProgramNumbers}
 use Rattle.jufferdeeg.specs.Volumes.{audit_numbers, read_numbers, AuditsImage, ReadsImage}
 use Rattle.jufferdeeg.specs.Programs.{program_numbers, LoadsNumbers, MovesNumbers}
 
-pub audits : (b : ℕ) (s : List ℕ) (n : ℕ) (a : Audited) (r : AuditNumbers) (claim' : List ℕ)
+pub audits : (b : ℕ) (s : List ℕ) (n : ℕ) (a : Result Report Refusal) (r : AuditNumbers) (claim' : List ℕ)
     → Audits (disk_of b s) s n a claim' → r ≡ audit_numbers a → AuditsImage b s n r claim'
 audits b s n a r claim' h e =
     record {
@@ -24,8 +25,9 @@ audits b s n a r claim' h e =
       call = subst (λ x. Audits (disk_of b s) s n x claim') h.answer h;
     }
 
-pub reads : (b : ℕ) (s path : List ℕ) (o : ℕ) (output : List ℕ) (a : Reading) (r : ReadNumbers) (output' : List ℕ)
-    → Reads (disk_of b s) s path o output a output' → r ≡ read_numbers a → ReadsImage b s path o output r output'
+pub reads : (b : ℕ) (s path : List ℕ) (o : ℕ) (output : List ℕ) (a : Result ℕ Refusal) (r : ReadNumbers)
+    (output' : List ℕ) → Reads (disk_of b s) s path o output a output' → r ≡ read_numbers a
+    → ReadsImage b s path o output r output'
 reads b s path o output a r output' h e =
     record {
       answer = e ∙ ap read_numbers h.answer;

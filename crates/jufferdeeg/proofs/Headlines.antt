@@ -6,11 +6,11 @@ use mathlib.Core.Logic.{◌≢◌, ◌⊎◌, ◌↔◌}
 use mathlib.Core.Bool.{false}
 use mathlib.Core.List.{List, [], ◌∷◌, ◌++◌}
 use lib.ListN.{length, get_or, take, drop, replicate}
+use Rattle.std.specs.Prelude.{Result, Ok, Err}
 use Rattle.answers.specs.Numbers as fault
 use Rattle.answers.specs.Members.{◌∈◌}
 use Rattle.answers.specs.Refusals.{refusal}
 use Rattle.answers.specs.declared.Refusal.{Refusal}
-use Rattle.answers.specs.declared.Tested.TheVariants.{Passed}
 use Rattle.answers.specs.Tests.{pick}
 use Rattle.reach.specs.References.{Reached}
 use Rattle.words.specs.Word.{Bytes, word_at}
@@ -30,8 +30,6 @@ use Rattle.walk.proofs.Broken as broken
 use Rattle.volume.specs.Stars.{stars, Hold}
 use Rattle.volume.proofs.Stars as starred
 use Rattle.audit.specs.declared.audit.Report.{Report}
-use Rattle.audit.specs.declared.audit.Audited.{Audited}
-use Rattle.audit.specs.declared.audit.Audited.TheVariants as audited
 use Rattle.audit.specs.Audits as audit
 use Rattle.audit.specs.Verdicts.{Claimed, Reported, FirstWrong, test_of, Says}
 use Rattle.audit.proofs.Accepting as accepting
@@ -46,8 +44,6 @@ use Rattle.lookup.proofs.Deciding as finding
 use Rattle.lookup.proofs.Refusing as missing
 use Rattle.lookup.proofs.Compared as counting
 use Rattle.lookup.proofs.Bridge as bridge
-use Rattle.reading.specs.declared.read.Reading.{Reading}
-use Rattle.reading.specs.declared.read.Reading.TheVariants as reading
 use Rattle.reading.specs.Bytes.{file_bytes}
 use Rattle.reading.specs.FileTests.{blocks_fault}
 use Rattle.reading.specs.Reads as read
@@ -57,8 +53,7 @@ use Rattle.reading.proofs.Answers as answers
 use Rattle.reading.proofs.Refusing as unread
 use Rattle.reading.proofs.Readings as readings
 use Rattle.reading.proofs.OnTrees as reads
-use Rattle.program.specs.declared.check.Answer.{Answer}
-use Rattle.program.specs.declared.check.Answer.TheVariants.{Accepted, Refused}
+use Rattle.program.specs.Check.{Answer, accepted}
 use Rattle.program.specs.Page as contents
 use Rattle.program.specs.Check.{check_refusals, check_of, numbers_of}
 use Rattle.program.specs.Verdicts as programs
@@ -93,15 +88,15 @@ use Rattle.jufferdeeg.proofs.Spoken as spoken
 
 module _ (d : Disk) (s : List ℕ) (n : ℕ) where
   -- accepted if and only if a volume
-  pub accepted_exactly : claim_bytes d ≤ n → ((r : Report) × (audit.audit_of d s n ≡ audited.Accepted r)) ↔ Volume d s
+  pub accepted_exactly : claim_bytes d ≤ n → ((r : Report) × (audit.audit_of d s n ≡ Ok r)) ↔ Volume d s
   accepted_exactly h = accepting.accepted_exactly d s n h
 
   -- the claim area says which blocks are reached, and the report counts what it says
-  pub accepted_claims : (r : Audited) (claim : List ℕ) → audit.Audits d s n r claim → (p : Report)
-      → r ≡ audited.Accepted p → Claimed d s n claim
+  pub accepted_claims : (r : Result Report Refusal) (claim : List ℕ) → audit.Audits d s n r claim → (p : Report)
+      → r ≡ Ok p → Claimed d s n claim
   accepted_claims r claim a p e = accepting.accepted_claims d s n r claim a p e
 
-  pub accepted_report : (p : Report) → audit.audit_of d s n ≡ audited.Accepted p → Reported d s p
+  pub accepted_report : (p : Report) → audit.audit_of d s n ≡ Ok p → Reported d s p
   accepted_report p e = accepting.accepted_report d s n p e
 
   -- each refusal if and only if its test says so
@@ -120,11 +115,12 @@ module _ (d : Disk) (s : List ℕ) (n : ℕ) where
   audit_refused_17 k = refusing.refused_17 d s n k
 
   -- a refused audit clears the claim area
-  pub audit_refused_claims : (r : Audited) (claim : List ℕ) → audit.Audits d s n r claim → (x : Refusal)
-      → r ≡ audited.Refused x → claim ≡ replicate n 0
+  pub audit_refused_claims : (r : Result Report Refusal) (claim : List ℕ) → audit.Audits d s n r claim → (x : Refusal)
+      → r ≡ Err x → claim ≡ replicate n 0
   audit_refused_claims r claim a x e = accepting.refused_claims d s n r claim a x e
 
-  pub audit_determined : (r r' : Audited) (c c' : List ℕ) → audit.Audits d s n r c → audit.Audits d s n r' c'
+  pub audit_determined : (r r' : Result Report Refusal) (c c' : List ℕ) → audit.Audits d s n r c
+      → audit.Audits d s n r' c'
       → (audit.numbers_of r ≡ audit.numbers_of r') × (r ≡ r') × (c ≡ c')
   audit_determined r r' c c' a a' = accepting.audit_determined d s n r r' c c' a a'
 
@@ -140,7 +136,7 @@ disk_size = disks.disk_size
 -- disk fits; 3 if and only if one does and the tag is that of none
 module _ (b : ℕ) (s : List ℕ) (n : ℕ) where
   pub accepted_volume : claim_bytes (disk_of b s) ≤ n
-      → ((r : Report) × (audit.audit_of (disk_of b s) s n ≡ audited.Accepted r)) ↔ IsVolume b s
+      → ((r : Report) × (audit.audit_of (disk_of b s) s n ≡ Ok r)) ↔ IsVolume b s
   accepted_volume h = accepting.accepted_volume b s n h
 
   pub audit_refused_unfit : (k : ℕ)
@@ -163,16 +159,16 @@ module _ (d : Disk) (s path : List ℕ) where
   -- a directory is found if and only if each component is the first equal name of a directory, in the one before it;
   -- a file if and only if the last component is one there
   pub directory_exactly : (k n : ℕ)
-      → (lookup.find_of d s path ≡ found.Directory k n)
+      → (lookup.find_of d s path ≡ Ok (found.Directory k n))
       ↔ (lookups.Opened d s path × Trail d s (root_of d) (components path) k n)
   directory_exactly k n = missing.directory_exactly d s path k n
 
-  pub file_exactly : (k z n : ℕ) → (lookup.find_of d s path ≡ found.File k z n) ↔ lookups.IsFile d s path k z n
+  pub file_exactly : (k z n : ℕ) → (lookup.find_of d s path ≡ Ok (found.File k z n)) ↔ lookups.IsFile d s path k z n
   file_exactly k z n = missing.file_exactly d s path k z n
 
   -- a path compares at most as many entries for each of its components as a chain may have
   pub found_few : (k z n : ℕ)
-      → (lookup.find_of d s path ≡ found.Directory k n) ⊎ (lookup.find_of d s path ≡ found.File k z n)
+      → (lookup.find_of d s path ≡ Ok (found.Directory k n)) ⊎ (lookup.find_of d s path ≡ Ok (found.File k z n))
       → n ≤ length (components path) * chain_limit d
   found_few k z n e = counting.found_few d s path k z n e
 
@@ -184,31 +180,32 @@ module _ (d : Disk) (s path : List ℕ) where
   pub find_refused_exactly : (v k : ℕ) → (lookup.find_of d s path ≡ lookup.refuse v k) ↔ lookups.Refuses d s path v k
   find_refused_exactly v k = missing.refused_exactly d s path v k
 
-  pub find_determined : (r r' : Found) → lookup.Finds d s path r → lookup.Finds d s path r'
+  pub find_determined : (r r' : Result Found Refusal) → lookup.Finds d s path r → lookup.Finds d s path r'
       → (lookup.numbers_of r ≡ lookup.numbers_of r') × (r ≡ r')
   find_determined r r' a a' = finding.find_determined d s path r r' a a'
 
   -- bytes if and only if the path leads to a whole file; then the output holds its bytes from the offset on, and
   -- after them what it held; a refusal if and only if `Refuses` holds
-  pub read_exactly : (o n m : ℕ) → (read.read_of d s path o n ≡ reading.Bytes m) ↔ outcomes.Gives d s path o n m
+  pub read_exactly : (o n m : ℕ) → (read.read_of d s path o n ≡ Ok m) ↔ outcomes.Gives d s path o n m
   read_exactly o n m = answers.read_exactly d s path o n m
 
-  pub read_output : (o m k z c : ℕ) (output output' : List ℕ) → read.Reads d s path o output (reading.Bytes m) output'
-      → lookup.find_of d s path ≡ found.File k z c → outcomes.Filled (file_bytes d s k) o output m output'
+  pub read_output : (o m k z c : ℕ) (output output' : List ℕ) → read.Reads d s path o output (Ok m) output'
+      → lookup.find_of d s path ≡ Ok (found.File k z c) → outcomes.Filled (file_bytes d s k) o output m output'
   read_output o m k z c output output' r e = answers.read_output d s path o m k z c output output' r e
 
   pub read_refused_exactly : (o n v k : ℕ)
       → (read.read_of d s path o n ≡ read.refuse v k) ↔ outcomes.Refuses d s path v k
   read_refused_exactly o n v k = unread.refused_exactly d s path o n v k
 
-  pub read_determined : (o : ℕ) (output : List ℕ) (r r' : Reading) (a a' : List ℕ) → read.Reads d s path o output r a
+  pub read_determined : (o : ℕ) (output : List ℕ) (r r' : Result ℕ Refusal) (a a' : List ℕ)
+      → read.Reads d s path o output r a
       → read.Reads d s path o output r' a' → (read.numbers_of r ≡ read.numbers_of r') × (r ≡ r') × (a ≡ a')
   read_determined o output r r' a a' h h' = readings.read_determined d s path o output r r' a a' h h'
 
   -- in a tree a found file is read whole
-  pub tree_read_whole : Tree d s → (k z c : ℕ) → lookup.find_of d s path ≡ found.File k z c → (output : List ℕ)
-      → z ≤ length output → (r : Reading) (output' : List ℕ) → read.Reads d s path 0 output r output'
-      → (r ≡ reading.Bytes z) × (length (file_bytes d s k) ≡ z) × (output' ≡ file_bytes d s k ++ drop z output)
+  pub tree_read_whole : Tree d s → (k z c : ℕ) → lookup.find_of d s path ≡ Ok (found.File k z c) → (output : List ℕ)
+      → z ≤ length output → (r : Result ℕ Refusal) (output' : List ℕ) → read.Reads d s path 0 output r output'
+      → (r ≡ Ok z) × (length (file_bytes d s k) ≡ z) × (output' ≡ file_bytes d s k ++ drop z output)
   tree_read_whole v k z c e output h r output' w = reads.tree_read_whole d s v path k z c e output output' r h w
 
 module _ (d : Disk) (s : List ℕ) where
@@ -217,7 +214,7 @@ module _ (d : Disk) (s : List ℕ) where
   compared_most t name p f = counting.first_few d s t name p f
 
   -- the tests of a file's blocks pass if and only if it is whole: as the law says, with all of its blocks
-  pub tested_exactly : (h : ℕ) → (blocks_fault d s h ≡ Passed) ↔ outcomes.FileWhole d s h
+  pub tested_exactly : (h : ℕ) → (blocks_fault d s h ≡ Ok tt) ↔ outcomes.FileWhole d s h
   tested_exactly h = passing.tested_exactly d s h
 
   -- in a tree every reached entry lies below the root by the names of directories; it is found by its path, and a
@@ -226,14 +223,14 @@ module _ (d : Disk) (s : List ℕ) where
   reached_lies v k r = bridge.reached_lies d s v k r
 
   pub reached_found : Tree d s → (k : ℕ) (h : Lies s (root_of d) k) → length (path_of s (root_of d) k h) ≤ longest_path
-      → (n : ℕ) × (lookup.find_of d s (path_of s (root_of d) k h) ≡ pick (directory s k) (found.Directory k n)
-      (found.File k (size_of s k) n))
+      → (n : ℕ) × (lookup.find_of d s (path_of s (root_of d) k h) ≡ pick (directory s k) (Ok (found.Directory k n))
+      (Ok (found.File k (size_of s k) n)))
   reached_found v k h l = bridge.reached_found d s v k h l
 
   pub reached_read : Tree d s → (k : ℕ) (h : Lies s (root_of d) k) → directory s k ≡ false
-      → length (path_of s (root_of d) k h) ≤ longest_path → (output output' : List ℕ) (r : Reading)
+      → length (path_of s (root_of d) k h) ≤ longest_path → (output output' : List ℕ) (r : Result ℕ Refusal)
       → size_of s k ≤ length output → read.Reads d s (path_of s (root_of d) k h) 0 output r output'
-      → (r ≡ reading.Bytes (size_of s k)) × (length (file_bytes d s k) ≡ size_of s k)
+      → (r ≡ Ok (size_of s k)) × (length (file_bytes d s k) ≡ size_of s k)
       × (output' ≡ file_bytes d s k ++ drop (size_of s k) output)
   reached_read v k h e l output output' r m q = reads.reached_read d s v k h e l output output' r m q
 
@@ -275,7 +272,7 @@ stars_hold = starred.stars_hold
 
 module _ (file : List ℕ) where
   -- accepted if and only if it is hunks written out, within the limits
-  pub page : ((t : ℕ) × (n : ℕ) × (check_of file ≡ Accepted t n)) ↔ ((hs : List contents.Hunk) × contents.Holds file hs)
+  pub page : ((t : ℕ) × (n : ℕ) × (check_of file ≡ accepted t n)) ↔ ((hs : List contents.Hunk) × contents.Holds file hs)
   page = pages.page file
 
   -- there is one list of hunks at most that it holds
@@ -283,13 +280,13 @@ module _ (file : List ℕ) where
   holds_same hs hs' h h' = unique.holds_same file hs hs' h h'
 
   -- refused if and only if `Says` holds of the file and the refusal
-  pub check_refused_exactly : (f : Refusal) → (check_of file ≡ Refused f) ↔ programs.Says file f
+  pub check_refused_exactly : (f : Refusal) → (check_of file ≡ Err f) ↔ programs.Says file f
   check_refused_exactly f = faults.refused_exactly file f
 
   -- 43 is given at byte p if and only if the first word of the header that is missing or wrong stands there, is a
   -- size word, and sets bits 30 and 31
   pub check_both_memories : Bytes file → (p : ℕ)
-      → (check_of file ≡ Refused (refusal fault.both_memories p)) ↔ programs.BothMemories file p
+      → (check_of file ≡ Err (refusal fault.both_memories p)) ↔ programs.BothMemories file p
   check_both_memories bytes p = faults.both_exactly file bytes p
 
   -- the file's word at the byte of each target is its offset in its hunk
@@ -300,22 +297,22 @@ module _ (file : List ℕ) where
   -- a load, which is lent one list of bases: accepted if and only if the file holds hunks and `Takes` holds of them;
   -- refused if and only if `CallWhy` holds
   pub load_accepted_exactly : (bases : List ℕ) (m r w t n : ℕ)
-      → (load_answer file bases m r w ≡ Accepted t n)
+      → (load_answer file bases m r w ≡ accepted t n)
       ↔ ((hs : List contents.Hunk) × contents.Holds file hs × Takes hs (bases ∷ []) m r w t n)
   load_accepted_exactly bases m r w t n = verdicts.load_accepted file bases m r w t n
 
   pub load_refused_exactly : (bases : List ℕ) (m r w : ℕ) (f : Refusal)
-      → (load_answer file bases m r w ≡ Refused f) ↔ CallWhy file (bases ∷ []) m r w f
+      → (load_answer file bases m r w ≡ Err f) ↔ CallWhy file (bases ∷ []) m r w f
   load_refused_exactly bases m r w f = verdicts.load_refused file bases m r w f
 
   -- a move, which is lent the old list and the new: likewise
   pub move_accepted_exactly : (old new : List ℕ) (m r w t n : ℕ)
-      → (move_answer file old new m r w ≡ Accepted t n)
+      → (move_answer file old new m r w ≡ accepted t n)
       ↔ ((hs : List contents.Hunk) × contents.Holds file hs × Takes hs (old ∷ new ∷ []) m r w t n)
   move_accepted_exactly old new m r w t n = verdicts.move_accepted file old new m r w t n
 
   pub move_refused_exactly : (old new : List ℕ) (m r w : ℕ) (f : Refusal)
-      → (move_answer file old new m r w ≡ Refused f) ↔ CallWhy file (old ∷ new ∷ []) m r w f
+      → (move_answer file old new m r w ≡ Err f) ↔ CallWhy file (old ∷ new ∷ []) m r w f
   move_refused_exactly old new m r w f = verdicts.move_refused file old new m r w f
 
 -- ---- loading and moving
@@ -323,30 +320,30 @@ module _ (file : List ℕ) where
 -- an accepted load or move, in the terms of the page
 module _ (file m : List ℕ) (t : List Hunk) (w : List ℕ) (x n : ℕ) (m1 : List ℕ) (t1 : List Hunk) (w1 : List ℕ) where
   -- the file holds hunks, and memory and table are theirs
-  pub load_page : (bases : List ℕ) → Loads file bases m t w (Accepted x n) m1 t1 w1
+  pub load_page : (bases : List ℕ) → Loads file bases m t w (accepted x n) m1 t1 w1
       → (hs : List contents.Hunk) × contents.Holds file hs × LoadedPage (page_records 0 0) hs bases m t x n m1 t1
   load_page = calls.load_page file m t w x n m1 t1 w1
 
-  pub move_page : (old new : List ℕ) → Moves file old new m t w (Accepted x n) m1 t1 w1
+  pub move_page : (old new : List ℕ) → Moves file old new m t w (accepted x n) m1 t1 w1
       → (hs : List contents.Hunk) × contents.Holds file hs × MovedPage (page_records 0 0) hs old new m t x n m1 t1
   move_page = calls.move_page file m t w x n m1 t1 w1
 
   -- a load adds the base of its hunk to each target's stored word; a move adds new minus old base to what stood there
-  pub load_words : (bases : List ℕ) → Loads file bases m t w (Accepted x n) m1 t1 w1 → (hs : List contents.Hunk)
+  pub load_words : (bases : List ℕ) → Loads file bases m t w (accepted x n) m1 t1 w1 → (hs : List contents.Hunk)
       → contents.Holds file hs → Adds (image_of hs) m1 (file_targets hs) (amount_of bases)
   load_words = calls.load_words file m t w x n m1 t1 w1
 
-  pub move_words : (old new : List ℕ) → Moves file old new m t w (Accepted x n) m1 t1 w1 → (hs : List contents.Hunk)
+  pub move_words : (old new : List ℕ) → Moves file old new m t w (accepted x n) m1 t1 w1 → (hs : List contents.Hunk)
       → contents.Holds file hs → Adds m m1 (file_targets hs) (moved old new)
   move_words = calls.move_words file m t w x n m1 t1 w1
 
   -- outside the targets a load leaves the hunks' bytes, and after them what stood there; a move leaves every byte as
   -- it was
-  pub load_others : (bases : List ℕ) → Loads file bases m t w (Accepted x n) m1 t1 w1 → (hs : List contents.Hunk)
+  pub load_others : (bases : List ℕ) → Loads file bases m t w (accepted x n) m1 t1 w1 → (hs : List contents.Hunk)
       → contents.Holds file hs → (k : ℕ) → Outside k (file_targets hs) → get_or m1 k 0 ≡ get_or (with_hunks hs m) k 0
   load_others = calls.load_others file m t w x n m1 t1 w1
 
-  pub move_others_stay : (old new : List ℕ) → Moves file old new m t w (Accepted x n) m1 t1 w1
+  pub move_others_stay : (old new : List ℕ) → Moves file old new m t w (accepted x n) m1 t1 w1
       → (hs : List contents.Hunk) → contents.Holds file hs
       → (length m1 ≡ length m) × ((k : ℕ) → Outside k (file_targets hs) → get_or m1 k 0 ≡ get_or m k 0)
   move_others_stay = calls.move_others_stay file m t w x n m1 t1 w1
@@ -355,9 +352,9 @@ module _ (file m : List ℕ) (t : List Hunk) (w : List ℕ) where
   -- a load at A moved to B is a load at B
   pub load_move : (A B : List ℕ) (x n y k : ℕ)
       → (m1 : List ℕ) (t1 : List Hunk) (w1 mB : List ℕ) (tB : List Hunk) (wB : List ℕ)
-      → Loads file A m t w (Accepted x n) m1 t1 w1 → Loads file B m t w (Accepted y k) mB tB wB
+      → Loads file A m t w (accepted x n) m1 t1 w1 → Loads file B m t w (accepted y k) mB tB wB
       → (w' m2 : List ℕ) (t2 : List Hunk) (w2 : List ℕ) (r : Answer) → length w' ≡ length w
-      → Moves file A B m1 t1 w' r m2 t2 w2 → (r ≡ Accepted y k) × (m2 ≡ mB) × (t2 ≡ tB) × (w2 ≡ wB)
+      → Moves file A B m1 t1 w' r m2 t2 w2 → (r ≡ accepted y k) × (m2 ≡ mB) × (t2 ≡ tB) × (w2 ≡ wB)
   load_move A B x n y k = moving.load_move file m t w x n A B y k
 
   -- A to B to C is A to C, on memory with any contents
@@ -368,13 +365,13 @@ module _ (file m : List ℕ) (t : List Hunk) (w : List ℕ) where
       → SameRoom m t w m' t' w' → length w'' ≡ length w → length w''' ≡ length w
       → Moves file A B m' t' w' r1 m1 t1 w1 → Moves file B C m1 t1 w'' r2 m2 t2 w2
       → Moves file A C m' t' w''' r3 m3 t3 w3
-      → (r1 ≡ Accepted x n) × (r2 ≡ Accepted x n) × (r3 ≡ Accepted x n) × (m2 ≡ m3) × (t2 ≡ t3) × (w2 ≡ w3)
+      → (r1 ≡ accepted x n) × (r2 ≡ accepted x n) × (r3 ≡ accepted x n) × (m2 ≡ m3) × (t2 ≡ t3) × (w2 ≡ w3)
   move_move A B C x n y k z j a b c = moving.move_move file m t w x n A a B C y k z j b c
 
   -- A to A changes no byte of memory
   pub move_stays : (A : List ℕ) (x n : ℕ) → LoadsAt file A m (length t) w x n
       → (m' : List ℕ) (t' : List Hunk) (w' m1 : List ℕ) (t1 : List Hunk) (w1 : List ℕ) (r : Answer) → Bytes m'
-      → SameRoom m t w m' t' w' → Moves file A A m' t' w' r m1 t1 w1 → (r ≡ Accepted x n) × (m1 ≡ m')
+      → SameRoom m t w m' t' w' → Moves file A A m' t' w' r m1 t1 w1 → (r ≡ accepted x n) × (m1 ≡ m')
   move_stays A x n a = moving.move_stays file m t w x n A a
 
   -- A to B and back brings every byte back
@@ -383,7 +380,7 @@ module _ (file m : List ℕ) (t : List Hunk) (w : List ℕ) where
       (w2 : List ℕ) (r1 r2 : Answer)
       → Bytes m' → SameRoom m t w m' t' w' → length w'' ≡ length w
       → Moves file A B m' t' w' r1 m1 t1 w1 → Moves file B A m1 t1 w'' r2 m2 t2 w2
-      → (r1 ≡ Accepted x n) × (r2 ≡ Accepted x n) × (m2 ≡ m')
+      → (r1 ≡ accepted x n) × (r2 ≡ accepted x n) × (m2 ≡ m')
   move_back A B x n y k a b = moving.move_back file m t w x n A a B y k b
 
   -- two outcomes that a promise allows for one input are the same
@@ -405,11 +402,11 @@ module _ (file m : List ℕ) (t : List Hunk) (w : List ℕ) where
 
   -- a refused load or move changes no byte of memory and no record
   pub load_keeps : (bases : List ℕ) (f : Refusal) (m1 : List ℕ) (t1 : List Hunk) (w1 : List ℕ)
-      → Loads file bases m t w (Refused f) m1 t1 w1 → (m1 ≡ m) × (t1 ≡ t) × (w1 ≡ replicate (length w) 0)
+      → Loads file bases m t w (Err f) m1 t1 w1 → (m1 ≡ m) × (t1 ≡ t) × (w1 ≡ replicate (length w) 0)
   load_keeps bases = deciding.load_keeps file bases m t w
 
   pub move_keeps : (old new : List ℕ) (f : Refusal) (m1 : List ℕ) (t1 : List Hunk) (w1 : List ℕ)
-      → Moves file old new m t w (Refused f) m1 t1 w1 → (m1 ≡ m) × (t1 ≡ t) × (w1 ≡ replicate (length w) 0)
+      → Moves file old new m t w (Err f) m1 t1 w1 → (m1 ≡ m) × (t1 ≡ t) × (w1 ≡ replicate (length w) 0)
   move_keeps old new = deciding.move_keeps file old new m t w
 
 -- ---- what a C program sees: each exported call, by its numbers and by what it leaves

@@ -7,6 +7,7 @@ use mathlib.Core.Logic.{◌≢◌, ◌↔◌, ◌⊎◌, inl, inr}
 use mathlib.Core.List.{List, [], ◌∷◌}
 use lib.ListN.{length, replicate}
 use native.Mathlib.Omega.{arith}
+use Rattle.std.specs.Prelude.{Result, Ok, Err}
 use Rattle.answers.specs.Numbers as fault
 use Rattle.answers.specs.Members.{◌∈◌}
 use Rattle.answers.specs.Refusals.{refusal}
@@ -14,8 +15,6 @@ use Rattle.answers.specs.declared.Refusal.{Refusal}
 use Rattle.volume.specs.Disks.{root_of, claim_bytes, disk_of, Fits, Unfit, NoTag}
 use Rattle.volume.specs.Law.{IsVolume}
 use Rattle.audit.specs.declared.audit.Report.{Report}
-use Rattle.audit.specs.declared.audit.Audited.{Audited}
-use Rattle.audit.specs.declared.audit.Audited.TheVariants as audited
 use Rattle.audit.specs.Audits as audit
 use Rattle.audit.specs.Verdicts.{test_of, Says}
 use Rattle.audit.proofs.Answers.{answers_exactly}
@@ -30,15 +29,12 @@ use Rattle.lookup.specs.Trails.{Trail}
 use Rattle.lookup.specs.Verdicts as lookups
 use Rattle.lookup.proofs.Refusing as finding
 use Rattle.lookup.proofs.AsNumbers as lookup-numbers
-use Rattle.reading.specs.declared.read.Reading.{Reading}
-use Rattle.reading.specs.declared.read.Reading.TheVariants as reading
 use Rattle.reading.specs.Reads as read
 use Rattle.reading.specs.Outcomes as outcomes
 use Rattle.reading.proofs.Answers.{read_exactly}
 use Rattle.reading.proofs.Refusing as unread
 use Rattle.reading.proofs.AsNumbers as read-numbers
-use Rattle.program.specs.declared.check.Answer.{Answer}
-use Rattle.program.specs.declared.check.Answer.TheVariants.{Accepted, Refused}
+use Rattle.program.specs.Check.{Answer, accepted}
 use Rattle.program.specs.Page as contents
 use Rattle.program.specs.Check.{numbers_of, check_refusals, check_of, Checks}
 use Rattle.program.specs.Verdicts.{Says as Faults}
@@ -65,17 +61,18 @@ use Rattle.jufferdeeg.specs.Programs.{program_numbers, check_numbers, loads_as, 
 -- ---- the audit of an image s with a claim area of n bytes, which names b blocks
 
 -- a number other than 0, with its place, is a refusal's
-audit_says : (x : Audited) (v k : ℕ) → v ≢ 0
+audit_says : (x : Result Report Refusal) (v k : ℕ) → v ≢ 0
     → (((audit_numbers x).number ≡ v) × ((audit_numbers x).place ≡ k)) ↔ (x ≡ audit.refuse v k)
 audit_says x v k z = (there x, λ e. rw e (refl, refl))
   where
-    there : (y : Audited) → ((audit_numbers y).number ≡ v) × ((audit_numbers y).place ≡ k) → y ≡ audit.refuse v k
-    there (audited.Accepted p) (a, b) = absurd (z (sym a))
-    there (audited.Refused f) (a, b) = ap₂ audit.refuse a b
+    there : (y : Result Report Refusal) → ((audit_numbers y).number ≡ v) × ((audit_numbers y).place ≡ k)
+        → y ≡ audit.refuse v k
+    there (Ok p) (a, b) = absurd (z (sym a))
+    there (Err f) (a, b) = ap₂ audit.refuse a b
 
 module _ (b : ℕ) (s : List ℕ) (n : ℕ) (r : AuditNumbers) (claim' : List ℕ) (a : AuditsImage b s n r claim') where
   -- the number is 0 if and only if the answer is one that accepts
-  audit_accepts : (r.number ≡ 0) ↔ ((p : Report) × (audit.audit_of (disk_of b s) s n ≡ audited.Accepted p))
+  audit_accepts : (r.number ≡ 0) ↔ ((p : Report) × (audit.audit_of (disk_of b s) s n ≡ Ok p))
   audit_accepts = rw a.answer (audit-numbers.zero_exactly (disk_of b s) s n _ claim' a.call)
 
   -- the number is 0 if and only if there is a claim byte for each block and the image is a volume of a disk
@@ -86,7 +83,7 @@ module _ (b : ℕ) (s : List ℕ) (n : ℕ) (r : AuditNumbers) (claim' : List �
       there : r.number ≡ 0 → (claim_bytes (disk_of b s) ≤ n) × IsVolume b s
       there z =
           let x = audit_accepts.0 z in
-          let q = (answers_exactly (disk_of b s) s n (audited.Accepted x.0)).0 x.1 in
+          let q = (answers_exactly (disk_of b s) s n (Ok x.0)).0 x.1 in
           let h : claim_bytes (disk_of b s) ≤ n = q.opened.room in
           (h, (auditing.accepted_volume b s n h).0 x)
 
@@ -128,10 +125,11 @@ module _ (b : ℕ) (s : List ℕ) (n : ℕ) (r : AuditNumbers) (claim' : List �
       rw a.answer (go (audit.audit_of (disk_of b s) s n)
       (audit-numbers.number_listed (disk_of b s) s n _ claim' a.call))
     where
-      go : (x : Audited) → ((f : Refusal) → x ≡ audited.Refused f → (audit.numbers_of x).number ∈ audit.audit_refusals)
+      go : (x : Result Report Refusal)
+          → ((f : Refusal) → x ≡ Err f → (audit.numbers_of x).number ∈ audit.audit_refusals)
           → (audit_numbers x).number ∈ (0 ∷ audit.audit_refusals)
-      go (audited.Accepted p) h = inl refl
-      go (audited.Refused f) h = inr (h f refl)
+      go (Ok p) h = inl refl
+      go (Err f) h = inr (h f refl)
 
   -- a refused audit reports nothing, and its claim area comes back cleared
   pub audit_refused : r.number ≢ 0
@@ -139,25 +137,27 @@ module _ (b : ℕ) (s : List ℕ) (n : ℕ) (r : AuditNumbers) (claim' : List �
       × (r.data_blocks ≡ 0) × (r.used ≡ 0) × (r.free ≡ 0)
   audit_refused z = go (audit.audit_of (disk_of b s) s n) refl a.call.claim
     where
-      go : (x : Audited) → audit.audit_of (disk_of b s) s n ≡ x → claim' ≡ audit.claim_after (disk_of b s) s x n
+      go : (x : Result Report Refusal) → audit.audit_of (disk_of b s) s n ≡ x
+          → claim' ≡ audit.claim_after (disk_of b s) s x n
           → (claim' ≡ replicate n 0) × (r.directories ≡ 0) × (r.files ≡ 0) × (r.list_blocks ≡ 0)
           × (r.data_blocks ≡ 0) × (r.used ≡ 0) × (r.free ≡ 0)
-      go (audited.Accepted p) e c = absurd (z (audit_accepts.1 (p, e)))
-      go (audited.Refused f) e c =
+      go (Ok p) e c = absurd (z (audit_accepts.1 (p, e)))
+      go (Err f) e c =
           let q = a.answer ∙ ap audit_numbers e in
           (c, rw q refl, rw q refl, rw q refl, rw q refl, rw q refl, rw q refl)
 
 -- ---- a path
 
 -- a number other than 0, with its place, is a refusal's
-find_says : (x : Found) (v k : ℕ) → v ≢ 0
+find_says : (x : Result Found Refusal) (v k : ℕ) → v ≢ 0
     → (((find_numbers x).number ≡ v) × ((find_numbers x).place ≡ k)) ↔ (x ≡ lookup.refuse v k)
 find_says x v k z = (there x, λ e. rw e (refl, refl))
   where
-    there : (y : Found) → ((find_numbers y).number ≡ v) × ((find_numbers y).place ≡ k) → y ≡ lookup.refuse v k
-    there (found.Directory t c) (a, b) = absurd (z (sym a))
-    there (found.File t y c) (a, b) = absurd (z (sym a))
-    there (found.Refused f) (a, b) = ap₂ lookup.refuse a b
+    there : (y : Result Found Refusal) → ((find_numbers y).number ≡ v) × ((find_numbers y).place ≡ k)
+        → y ≡ lookup.refuse v k
+    there (Ok (found.Directory t c)) (a, b) = absurd (z (sym a))
+    there (Ok (found.File t y c)) (a, b) = absurd (z (sym a))
+    there (Err f) (a, b) = ap₂ lookup.refuse a b
 
 -- the path leads to the directory of that key, with so many entries compared
 abbrev pub FindsDirectory : ℕ → List ℕ → List ℕ → FindNumbers → Type 0
@@ -176,16 +176,16 @@ module _ (b : ℕ) (s path : List ℕ) (r : FindNumbers) (a : r ≡ find_in_imag
 
   -- the number is 0 if and only if the answer is a directory or a file
   find_answers : (r.number ≡ 0)
-      ↔ (((k : ℕ) × (c : ℕ) × (lookup.find_of (disk_of b s) s path ≡ found.Directory k c))
-      ⊎ ((k : ℕ) × (z : ℕ) × (c : ℕ) × (lookup.find_of (disk_of b s) s path ≡ found.File k z c)))
+      ↔ (((k : ℕ) × (c : ℕ) × (lookup.find_of (disk_of b s) s path ≡ Ok (found.Directory k c)))
+      ⊎ ((k : ℕ) × (z : ℕ) × (c : ℕ) × (lookup.find_of (disk_of b s) s path ≡ Ok (found.File k z c))))
   find_answers = rw a (lookup-numbers.zero_exactly (disk_of b s) s path _ finds)
 
   -- the number is 0 if and only if the path leads to a directory or to a file
   pub find_zero : (r.number ≡ 0) ↔ (FindsDirectory b s path r ⊎ FindsFile b s path r)
   find_zero = (λ z. there (find_answers.0 z), back)
     where
-      there : ((k : ℕ) × (c : ℕ) × (lookup.find_of (disk_of b s) s path ≡ found.Directory k c))
-          ⊎ ((k : ℕ) × (z : ℕ) × (c : ℕ) × (lookup.find_of (disk_of b s) s path ≡ found.File k z c))
+      there : ((k : ℕ) × (c : ℕ) × (lookup.find_of (disk_of b s) s path ≡ Ok (found.Directory k c)))
+          ⊎ ((k : ℕ) × (z : ℕ) × (c : ℕ) × (lookup.find_of (disk_of b s) s path ≡ Ok (found.File k z c)))
           → FindsDirectory b s path r ⊎ FindsFile b s path r
       there (inl (k, c, e)) =
           let q = (finding.directory_exactly (disk_of b s) s path k c).0 e in
@@ -225,37 +225,39 @@ module _ (b : ℕ) (s path : List ℕ) (r : FindNumbers) (a : r ≡ find_in_imag
   find_number = rw a (go (lookup.find_of (disk_of b s) s path)
       (lookup-numbers.number_listed (disk_of b s) s path _ finds))
     where
-      go : (x : Found) → ((f : Refusal) → x ≡ found.Refused f → (lookup.numbers_of x).number ∈ lookup.find_refusals)
+      go : (x : Result Found Refusal)
+          → ((f : Refusal) → x ≡ Err f → (lookup.numbers_of x).number ∈ lookup.find_refusals)
           → (find_numbers x).number ∈ (0 ∷ lookup.find_refusals)
-      go (found.Directory k c) h = inl refl
-      go (found.File k z c) h = inl refl
-      go (found.Refused f) h = inr (h f refl)
+      go (Ok (found.Directory k c)) h = inl refl
+      go (Ok (found.File k z c)) h = inl refl
+      go (Err f) h = inr (h f refl)
 
   -- a refused lookup gives no values
   pub find_refused : r.number ≢ 0 → (r.kind ≡ 0) × (r.key ≡ 0) × (r.size ≡ 0) × (r.compared ≡ 0)
   find_refused z = go (lookup.find_of (disk_of b s) s path) refl
     where
-      go : (x : Found) → lookup.find_of (disk_of b s) s path ≡ x
+      go : (x : Result Found Refusal) → lookup.find_of (disk_of b s) s path ≡ x
           → (r.kind ≡ 0) × (r.key ≡ 0) × (r.size ≡ 0) × (r.compared ≡ 0)
-      go (found.Directory k c) e = absurd (z (find_answers.1 (inl (k, c, e))))
-      go (found.File k y c) e = absurd (z (find_answers.1 (inr (k, y, c, e))))
-      go (found.Refused f) e = let q = a ∙ ap find_numbers e in (rw q refl, rw q refl, rw q refl, rw q refl)
+      go (Ok (found.Directory k c)) e = absurd (z (find_answers.1 (inl (k, c, e))))
+      go (Ok (found.File k y c)) e = absurd (z (find_answers.1 (inr (k, y, c, e))))
+      go (Err f) e = let q = a ∙ ap find_numbers e in (rw q refl, rw q refl, rw q refl, rw q refl)
 
 -- ---- a read at offset o
 
 -- a number other than 0, with its place, is a refusal's
-read_says : (x : Reading) (v k : ℕ) → v ≢ 0
+read_says : (x : Result ℕ Refusal) (v k : ℕ) → v ≢ 0
     → (((read_numbers x).number ≡ v) × ((read_numbers x).place ≡ k)) ↔ (x ≡ read.refuse v k)
 read_says x v k z = (there x, λ e. rw e (refl, refl))
   where
-    there : (y : Reading) → ((read_numbers y).number ≡ v) × ((read_numbers y).place ≡ k) → y ≡ read.refuse v k
-    there (reading.Bytes n) (a, b) = absurd (z (sym a))
-    there (reading.Refused f) (a, b) = ap₂ read.refuse a b
+    there : (y : Result ℕ Refusal) → ((read_numbers y).number ≡ v) × ((read_numbers y).place ≡ k)
+        → y ≡ read.refuse v k
+    there (Ok n) (a, b) = absurd (z (sym a))
+    there (Err f) (a, b) = ap₂ read.refuse a b
 
 module _ (b : ℕ) (s path : List ℕ) (o : ℕ) (output : List ℕ) (r : ReadNumbers) (output' : List ℕ)
     (a : ReadsImage b s path o output r output') where
   -- the number is 0 if and only if the answer is a number of bytes
-  read_answers : (r.number ≡ 0) ↔ ((n : ℕ) × (read.read_of (disk_of b s) s path o (length output) ≡ reading.Bytes n))
+  read_answers : (r.number ≡ 0) ↔ ((n : ℕ) × (read.read_of (disk_of b s) s path o (length output) ≡ Ok n))
   read_answers = rw a.answer (read-numbers.zero_exactly (disk_of b s) s path o output _ output' a.call)
 
   -- the number is 0 if and only if the path leads to a whole file, of which so many bytes are given
@@ -297,40 +299,40 @@ module _ (b : ℕ) (s path : List ℕ) (o : ℕ) (output : List ℕ) (r : ReadNu
       rw a.answer (go (read.read_of (disk_of b s) s path o (length output))
       (read-numbers.number_listed (disk_of b s) s path o output _ output' a.call))
     where
-      go : (x : Reading) → ((f : Refusal) → x ≡ reading.Refused f → (read.numbers_of x).number ∈ read.read_refusals)
+      go : (x : Result ℕ Refusal) → ((f : Refusal) → x ≡ Err f → (read.numbers_of x).number ∈ read.read_refusals)
           → (read_numbers x).number ∈ (0 ∷ read.read_refusals)
-      go (reading.Bytes n) h = inl refl
-      go (reading.Refused f) h = inr (h f refl)
+      go (Ok n) h = inl refl
+      go (Err f) h = inr (h f refl)
 
   -- a refused read leaves the output
   pub read_refused : r.number ≢ 0 → (output' ≡ output) × (r.count ≡ 0)
   read_refused z = go (read.read_of (disk_of b s) s path o (length output)) refl a.call.left
     where
-      go : (x : Reading) → read.read_of (disk_of b s) s path o (length output) ≡ x
+      go : (x : Result ℕ Refusal) → read.read_of (disk_of b s) s path o (length output) ≡ x
           → output' ≡ read.output_after (disk_of b s) s path o output x → (output' ≡ output) × (r.count ≡ 0)
-      go (reading.Bytes n) e c = absurd (z (read_answers.1 (n, e)))
-      go (reading.Refused f) e c = let q = a.answer ∙ ap read_numbers e in (c, rw q refl)
+      go (Ok n) e c = absurd (z (read_answers.1 (n, e)))
+      go (Err f) e c = let q = a.answer ∙ ap read_numbers e in (c, rw q refl)
 
 -- ---- a program file: its check, a load and a move
 
 -- 0 or one of these
-program_number : (ns : List ℕ) (x : Answer) → ((f : Refusal) → x ≡ Refused f → (numbers_of x).number ∈ ns)
+program_number : (ns : List ℕ) (x : Answer) → ((f : Refusal) → x ≡ Err f → (numbers_of x).number ∈ ns)
     → (numbers_of x).number ∈ (0 ∷ ns)
-program_number ns (Accepted t n) h = inl refl
-program_number ns (Refused f) h = inr (h f refl)
+program_number ns (Ok v) h = inl refl
+program_number ns (Err f) h = inr (h f refl)
 
 -- a number other than 0, with its place, is a refusal's
 program_says : (x : Answer) (v k : ℕ) → v ≢ 0
-    → (((numbers_of x).number ≡ v) × ((numbers_of x).place ≡ k)) ↔ (x ≡ Refused (refusal v k))
+    → (((numbers_of x).number ≡ v) × ((numbers_of x).place ≡ k)) ↔ (x ≡ Err (refusal v k))
 program_says x v k z = (there x, λ e. rw e (refl, refl))
   where
-    there : (y : Answer) → ((numbers_of y).number ≡ v) × ((numbers_of y).place ≡ k) → y ≡ Refused (refusal v k)
-    there (Accepted t n) (a, b) = absurd (z (sym a))
-    there (Refused f) (a, b) = ap₂ (λ (v k : ℕ). Refused (refusal v k)) a b
+    there : (y : Answer) → ((numbers_of y).number ≡ v) × ((numbers_of y).place ≡ k) → y ≡ Err (refusal v k)
+    there (Ok v) (a, b) = absurd (z (sym a))
+    there (Err f) (a, b) = ap₂ (λ (v k : ℕ). Err (refusal v k)) a b
 
 -- what is accepted has the numbers of its answer
 accepted_values : (x : Answer) (r : ProgramNumbers) → r ≡ program_numbers x → Accepts x
-    → x ≡ Accepted r.hunks r.bytes
+    → x ≡ accepted r.hunks r.bytes
 accepted_values x r e (t, n, q) = let p = e ∙ ap program_numbers q in rw p q
 
 -- the file holds hunks, and these are their number and the bytes that they take
@@ -370,14 +372,14 @@ module _ (file : List ℕ) (r : ProgramNumbers) (a : r ≡ check_numbers file) w
   check_refused z = go (check_of file) refl
     where
       go : (x : Answer) → check_of file ≡ x → (r.hunks ≡ 0) × (r.bytes ≡ 0)
-      go (Accepted t n) e = absurd (z (check_accepts.1 (t, n, e)))
-      go (Refused f) e = rw (a ∙ ap program_numbers e) (refl, refl)
+      go (Ok v) e = absurd (z (check_accepts.1 (v.hunks, v.bytes, e)))
+      go (Err f) e = rw (a ∙ ap program_numbers e) (refl, refl)
 
 -- what is refused has no values, and what it was lent stays
 refused_keeps : (x : Answer) (r : ProgramNumbers) (m n m' : List ℕ) (t u t' : List Hunk) → r ≡ program_numbers x
     → r.number ≢ 0 → m' ≡ effect x n m → t' ≡ kept x u t → (m' ≡ m) × (t' ≡ t) × (r.hunks ≡ 0) × (r.bytes ≡ 0)
-refused_keeps (Accepted y k) r m n m' t u t' e z p q = absurd (z (ap (λ (v : ProgramNumbers). v.number) e))
-refused_keeps (Refused f) r m n m' t u t' e z p q = (p, q, rw e refl, rw e refl)
+refused_keeps (Ok v) r m n m' t u t' e z p q = absurd (z (ap (λ (v : ProgramNumbers). v.number) e))
+refused_keeps (Err f) r m n m' t u t' e z p q = (p, q, rw e refl, rw e refl)
 
 module _ (file m : List ℕ) (t : List Hunk) (w : List ℕ) (r : ProgramNumbers) (m' : List ℕ) (t' : List Hunk)
     (w' : List ℕ) where

@@ -5,9 +5,9 @@ use mathlib.Core.Path.{◌≡◌, refl, sym, ap, subst, ◌∙◌}
 use mathlib.Core.Logic.{◌↔◌}
 use mathlib.Core.List.{List}
 use lib.ListN.{length}
+use Rattle.std.specs.Prelude.{Result, Ok, Err}
 use Rattle.words.specs.Word.{Bytes}
-use Rattle.program.specs.declared.check.Answer.{Answer}
-use Rattle.program.specs.declared.check.Answer.TheVariants.{Accepted}
+use Rattle.program.specs.Check.{Answer, accepted}
 use Rattle.program.specs.Header.{total_of}
 use Rattle.loader.specs.Verdicts.{Accepts}
 use Rattle.loader.proofs.BadBases.{fault_passed}
@@ -21,7 +21,7 @@ use Rattle.jufferdeeg.specs.Programs.{program_numbers, loads_as, moves_as, Loads
 use Rattle.jufferdeeg.proofs.Seen.{load_accepts, move_accepts}
 
 -- an accepted answer's number
-zero_of : (a : Answer) (r : ProgramNumbers) (x n : ℕ) → r ≡ program_numbers a → a ≡ Accepted x n → r.number ≡ 0
+zero_of : (a : Answer) (r : ProgramNumbers) (x n : ℕ) → r ≡ program_numbers a → a ≡ accepted x n → r.number ≡ 0
 zero_of a r x n e q = ap (λ (v : ProgramNumbers). v.number) (e ∙ ap program_numbers q)
 
 module _ (file m : List ℕ) (t : List Hunk) (w : List ℕ) where
@@ -31,7 +31,7 @@ module _ (file m : List ℕ) (t : List Hunk) (w : List ℕ) where
     abbrev there : Accepts (loads_as file m t w A)
     there = (load_accepts file m t w rA mA tA wA A a).0 za
 
-    loads : Loads file A m t w (Accepted there.0 there.1) mA tA wA
+    loads : Loads file A m t w (accepted there.0 there.1) mA tA wA
     loads = subst (λ x. Loads file A m t w x mA tA wA) there.2 a.call
 
     -- A load at A, moved to B, is a load at B: numbers, memory, table and work area.

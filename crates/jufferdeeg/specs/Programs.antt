@@ -1,7 +1,6 @@
 -- The answers of check, load and move as C meets them: a struct of the answer's numbers, by `numbers_of`.
 use Rattle.std.specs.Prelude.{ℕ, ◌≡◌, List, length}
-use Rattle.program.specs.declared.check.Answer.{Answer}
-use Rattle.program.specs.Check.{numbers_of, check_of}
+use Rattle.program.specs.Check.{Answer, numbers_of, check_of}
 use Rattle.loader.specs.Calls.{load_answer, move_answer}
 use Rattle.hunks.specs.declared.Hunk.{Hunk}
 use Rattle.hunks.specs.Calls.{Loads, Moves}

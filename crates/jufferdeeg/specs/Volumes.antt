@@ -1,18 +1,18 @@
 -- The answers of audit, find and read as C meets them. Each struct holds the numbers of the answer, by the call's own
 -- `numbers_of`.
-use Rattle.std.specs.Prelude.{ℕ, ◌≡◌, List, length}
+use Rattle.std.specs.Prelude.{Result, ℕ, ◌≡◌, List, length}
+use Rattle.answers.specs.declared.Refusal.{Refusal}
 use Rattle.volume.specs.Disks.{disk_of}
-use Rattle.audit.specs.declared.audit.Audited.{Audited}
+use Rattle.audit.specs.declared.audit.Report.{Report}
 use Rattle.audit.specs.Audits as audit
 use Rattle.lookup.specs.declared.find.Found.{Found}
 use Rattle.lookup.specs.Lookup as lookup
-use Rattle.reading.specs.declared.read.Reading.{Reading}
 use Rattle.reading.specs.Reads as read
 use Rattle.jufferdeeg.specs.declared.volumes.AuditNumbers.{AuditNumbers}
 use Rattle.jufferdeeg.specs.declared.volumes.FindNumbers.{FindNumbers}
 use Rattle.jufferdeeg.specs.declared.volumes.ReadNumbers.{ReadNumbers}
 
-abbrev pub audit_numbers : Audited → AuditNumbers
+abbrev pub audit_numbers : Result Report Refusal → AuditNumbers
 audit_numbers a =
     let n = audit.numbers_of a in
     record {
@@ -26,7 +26,7 @@ audit_numbers a =
       free = n.values.free;
     }
 
-abbrev pub find_numbers : Found → FindNumbers
+abbrev pub find_numbers : Result Found Refusal → FindNumbers
 find_numbers a =
     let n = lookup.numbers_of a in
     record {
@@ -38,7 +38,7 @@ find_numbers a =
       compared = n.values.compared;
     }
 
-abbrev pub read_numbers : Reading → ReadNumbers
+abbrev pub read_numbers : Result ℕ Refusal → ReadNumbers
 read_numbers a =
     let n = read.numbers_of a in record { number = n.number; place = n.place; count = n.values }
 

@@ -1,13 +1,14 @@
-// Check, load and move, for C and Rust.
+// Check, load and move, for C and Rust. The answers are structs of numbers, since C has no Result.
 ghost use Rattle.std.specs.Prelude.{◌≡◌};
 ghost use Rattle.jufferdeeg.specs.Programs.{program_numbers, check_numbers, LoadsNumbers, MovesNumbers};
 
+use answers::Refusal;
 use hunks::Hunk;
-use program::check::Answer;
+use program::check::Extent;
 
 // The answer of a check, a load or a move: how many hunks, and the loaded bytes.
 #[repr(C)]
-#[derive(Drop)]
+#[derive(Clone, Copy, Debug, PartialEq, Eq)]
 pub struct ProgramNumbers {
     pub number: u32,
     pub place: usize,
@@ -15,22 +16,24 @@ pub struct ProgramNumbers {
     pub bytes: usize,
 }
 
-pub(crate) fn program_numbers(a: Answer) -> ProgramNumbers
-    ensures { result ≡ program_numbers a }
-{
-    match a {
-        Answer::Accepted(t, n) => ProgramNumbers {
-            number: 0,
-            place: 0,
-            hunks: t,
-            bytes: n,
-        },
-        Answer::Refused(f) => ProgramNumbers {
-            number: f.number,
-            place: f.place,
-            hunks: 0,
-            bytes: 0,
-        },
+impl From<Result<Extent, Refusal>> for ProgramNumbers {
+    ghost from_gives = { λ a n. n ≡ program_numbers a };
+
+    fn from(answer: Result<Extent, Refusal>) -> ProgramNumbers {
+        match answer {
+            Ok(extent) => ProgramNumbers {
+                number: 0,
+                place: 0,
+                hunks: extent.hunks,
+                bytes: extent.bytes,
+            },
+            Err(refusal) => ProgramNumbers {
+                number: refusal.number,
+                place: refusal.place,
+                hunks: 0,
+                bytes: 0,
+            },
+        }
     }
 }
 
@@ -38,7 +41,7 @@ pub(crate) fn program_numbers(a: Answer) -> ProgramNumbers
 pub fn jufferdeeg_check(file: &[u8]) -> ProgramNumbers
     ensures { result ≡ check_numbers file.now }
 {
-    program_numbers(program::check::check(file))
+    ProgramNumbers::from(program::check::check(file))
 }
 
 // Loads a program at the given bases.
@@ -52,7 +55,7 @@ pub fn jufferdeeg_load(
     ensures { LoadsNumbers file.now bases.now memory.old table.old
         work.old result memory.new table.new work.new }
 {
-    program_numbers(hunks::load(file, bases, memory, table, work))
+    ProgramNumbers::from(hunks::load(file, bases, memory, table, work))
 }
 
 // Moves a loaded program from the old bases to the new ones.
@@ -67,5 +70,5 @@ pub fn jufferdeeg_move(
     ensures { MovesNumbers file.now old.now new.now memory.old
         table.old work.old result memory.new table.new work.new }
 {
-    program_numbers(hunks::move_program(file, old, new, memory, table, work))
+    ProgramNumbers::from(hunks::move_program(file, old, new, memory, table, work))
 }

@@ -1,6 +1,6 @@
 -- `jufferdeeg::programs::jufferdeeg_check` meets its contract. Assumes nothing.
 use Rattle.std.proofs.Common.{◌≡◌, List, ℕ, ap, ◌∙◌}
-use Rattle.program.specs.declared.check.Answer.{Answer}
+use Rattle.program.specs.Check.{Answer}
 use Rattle.program.specs.Check.{check_of}
 use Rattle.jufferdeeg.specs.declared.programs.ProgramNumbers.{ProgramNumbers}
 use Rattle.jufferdeeg.specs.Programs.{program_numbers, check_numbers}

@@ -4,4 +4,4 @@ use Rattle.jufferdeeg.specs.Volumes.{find_numbers}
 use Rattle.jufferdeeg.proofs.volumes.jufferdeeg_find.Goals as goal
 
 pub returns : goal.returns
-returns c = c.find_numbers.ensures ∙ ap find_numbers c.find.ensures.answer
+returns c = c.from.ensures ∙ ap find_numbers c.find.ensures.answer

@@ -1,8 +1,0 @@
--- `jufferdeeg::programs::program_numbers` meets its contract. Assumes nothing.
-use Rattle.jufferdeeg.proofs.programs.program_numbers.Goals as goal
-
-pub returns-in-Accepted : goal.returns-in-Accepted
-returns-in-Accepted c = rw c.in-Accepted.is
-
-pub returns-in-Refused : goal.returns-in-Refused
-returns-in-Refused c = rw c.in-Refused.is

@@ -1,8 +1,0 @@
--- `jufferdeeg::volumes::read_numbers` meets its contract. Assumes nothing.
-use Rattle.jufferdeeg.proofs.volumes.read_numbers.Goals as goal
-
-pub returns-in-Bytes : goal.returns-in-Bytes
-returns-in-Bytes c = rw c.in-Bytes.is
-
-pub returns-in-Refused : goal.returns-in-Refused
-returns-in-Refused c = rw c.in-Refused.is
