@@ -1,89 +1,61 @@
-// What a verb is asked: the option -b, and where the arguments after it stand.
-use crate::numbers::{Parsed, number};
+// What a verb is asked: the option -b, and the arguments after it.
+use crate::arguments::LONGEST;
+use crate::numbers::number;
 use crate::saying::wrong;
-use console::same;
-use console::streams::{argument, buffer};
+use crate::status::Failure;
+use console::rooms::room;
+use console::streams::argument;
+use std::ops::Range;
 use volume::disk::Disk;
 
-// The number of blocks that calls name, and the places of the arguments: the image, or the first one; the one after it,
-// as a path; and the next.
-#[derive(Clone, Copy)]
+// The number of blocks that calls name, and the places of the arguments.
+#[derive(Drop)]
 pub struct Asked {
     pub named: u32,
-    pub first: usize,
-    pub second: usize,
-    pub third: usize,
+    pub places: Range<usize>,
 }
 
 // Without the option.
-pub fn plainly() -> Asked {
+pub fn plainly(count: usize) -> Asked {
     Asked {
         named: Disk::DOUBLE_DENSITY,
-        first: 2,
-        second: 3,
-        third: 4,
+        places: 2..count,
     }
 }
 
 // The number of blocks that a text names.
-fn named_by(text: &[u8]) -> Parsed {
-    if same(text, b"any") {
-        return Parsed::Is(Disk::ANY_SIZE);
-    }
-    number(text, 10, 10)
-}
-
-#[derive(Drop)]
-pub enum Asking {
-    Is(Asked),
-    Wrong,
-}
-
-// With the option, whose value is argument 3; a text that names no number is said.
-fn by_option(rt: &HostRuntime) -> Asking {
-    let mut text = buffer();
-    let n = argument(rt, 3, &mut text);
-    let found = named_by(&text[..n]);
-    match found {
-        Parsed::Is(blocks) => Asking::Is(Asked {
-            named: blocks,
-            first: 4,
-            second: 5,
-            third: 6,
-        }),
-        Parsed::None => {
-            wrong(
-                rt,
-                &text[..n],
-                b" is no number of blocks: name 1760, 3520 or any",
-            );
-            Asking::Wrong
-        }
+fn named_by(text: &[u8]) -> Option<u32> {
+    match text {
+        b"any" => Some(Disk::ANY_SIZE),
+        _ => number(text, 10, 10),
     }
 }
 
 // Whether argument 2 is the option.
 fn has_option(rt: &HostRuntime) -> bool {
-    let mut text = buffer();
-    let n = argument(rt, 2, &mut text);
-    same(&text[..n], b"-b")
+    let mut text: [u8; LONGEST] = room(0);
+    argument(rt, 2, &mut text) == b"-b".as_slice()
 }
 
-// What a verb is asked with so many arguments, if it has an image.
-pub fn of_image(rt: &HostRuntime, count: usize) -> Asking {
-    if count < 3 {
-        return Asking::Is(plainly());
+// What a verb is asked with so many arguments, if it has an image. The value of the option is argument 3.
+pub fn of_image(rt: &HostRuntime, count: usize) -> Result<Asked, Failure> {
+    if !has_option(rt) {
+        return Ok(plainly(count));
     }
-    if has_option(rt) {
-        if count < 4 {
-            wrong(
-                rt,
-                b"-b",
-                b" needs a number of blocks: name 1760, 3520 or any",
-            );
-            return Asking::Wrong;
-        }
-        return by_option(rt);
+    if count < 4 {
+        return Err(wrong(
+            rt,
+            b"-b",
+            " needs a number of blocks: name 1760, 3520 or any",
+        ));
     }
-    Asking::Is(plainly())
+    let mut text: [u8; LONGEST] = room(0);
+    let text = argument(rt, 3, &mut text);
+    let named = named_by(text).ok_or_else(|| {
+        wrong(rt, text, " is no number of blocks: name 1760, 3520 or any")
+    })?;
+    Ok(Asked {
+        named,
+        places: 4..count,
+    })
 }

@@ -1,10 +1,14 @@
 // Bases: numbers in hex, among the arguments.
-ghost use Rattle.std.specs.Prelude.{◌≤◌};
-ghost use Rattle.console.specs.Counts.{IsPrefixLen};
-
-use crate::numbers::{Parsed, number};
+use crate::arguments::LONGEST;
+use crate::numbers::number;
 use crate::saying::wrong;
-use console::streams;
+use crate::status::Failure;
+use console::rooms::room;
+use console::streams::argument;
+use std::ops::Range;
+
+// The most bases of a list.
+pub const MOST: usize = 256;
 
 // The most digits of a base.
 const DIGITS: usize = 8;
@@ -12,48 +16,30 @@ const DIGITS: usize = 8;
 // The radix of hex.
 const HEX: u32 = 16;
 
-// The base that a text is. It may have 0x before its digits.
-fn base_of(text: &[u8]) -> Parsed {
-    if text.len() > 2 {
-        if text[0] == b'0' {
-            if text[1] == b'x' {
-                return number(&text[2..], HEX, DIGITS);
-            }
-        }
-    }
-    number(text, HEX, DIGITS)
+// The base that argument i is, which may have 0x before its digits; a text that is none is said.
+fn base(rt: &HostRuntime, i: usize) -> Result<u32, Failure> {
+    let mut text: [u8; LONGEST] = room(0);
+    let text = argument(rt, i, &mut text);
+    let digits = text.strip_prefix(b"0x").unwrap_or(text);
+    number(digits, HEX, DIGITS).ok_or_else(|| wrong(
+        rt,
+        text,
+        " is no base: a base is 1 to 8 hex digits",
+    ))
 }
 
-// The base that argument i is; a text that is none is said.
-fn argument(rt: &HostRuntime, i: usize) -> Parsed {
-    let mut text = streams::buffer();
-    let n = streams::argument(rt, i, &mut text);
-    let found = base_of(&text[..n]);
-    if let Parsed::None = found {
-        wrong(rt, &text[..n], b" is no base: a base is 1 to 8 hex digits");
+// The bases that the arguments at these places are, in this room. One that is no base, and too many, are said.
+pub fn list<'a>(
+    rt: &HostRuntime,
+    places: Range<usize>,
+    room: &'a mut [u32; MOST],
+) -> Result<&'a [u32], Failure> {
+    let count = places.len();
+    if count > MOST {
+        return Err(wrong(rt, b"", "there are more than 256 bases"));
     }
-    found
-}
-
-// Puts the arguments from `from` on, before `to`, into the list, and answers how many there are: 0 where one is no
-// base or they are too many, which is said.
-pub fn list(rt: &HostRuntime, from: usize, to: usize, list: &mut [u32]) -> usize
-    requires { from ≤ to }
-    ensures { IsPrefixLen result list.new }
-{
-    let n = to - from;
-    if n > list.len() {
-        wrong(rt, b"", b"there are more than 256 bases");
-        return 0;
+    for (base, i) in room.iter_mut().zip(places) {
+        *base = self::base(rt, i)?;
     }
-    let mut i: usize = 0;
-    while i < n {
-        let found = argument(rt, from + i);
-        let Parsed::Is(base) = found else {
-            return 0;
-        };
-        list[i] = base;
-        i += 1;
-    }
-    n
+    Ok(&room[..count])
 }

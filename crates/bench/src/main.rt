@@ -5,6 +5,7 @@
 mod arguments;
 mod asked;
 mod bases;
+mod calls;
 mod files;
 mod listing;
 mod numbers;
@@ -17,9 +18,10 @@ mod status;
 mod usage;
 mod volumes;
 
-use asked::{Asked, Asking};
-use console::same;
-use console::streams::{arg_count, argument, buffer};
+use console::rooms::{IMAGE, room};
+use console::streams::{arg_count, argument};
+use loader::table::TABLE_ROOM;
+use rooms::{Board, MEMORY};
 use status::Outcome;
 use std::process::ExitCode;
 
@@ -33,109 +35,78 @@ enum Verb {
     Reset,
     Help,
     Version,
-    Unknown,
 }
 
-fn verb_of(text: &[u8]) -> Verb {
-    if same(text, b"audit") {
-        return Verb::Audit;
-    }
-    if same(text, b"find") {
-        return Verb::Find;
-    }
-    if same(text, b"read") {
-        return Verb::Read;
-    }
-    if same(text, b"load") {
-        return Verb::Load;
-    }
-    if same(text, b"move") {
-        return Verb::Move;
-    }
-    if same(text, b"reset") {
-        return Verb::Reset;
-    }
-    if same(text, b"--help") {
-        return Verb::Help;
-    }
-    if same(text, b"-h") {
-        return Verb::Help;
-    }
-    if same(text, b"--version") {
-        return Verb::Version;
-    }
-    Verb::Unknown
+// The verb that a text is.
+fn verb_of(text: &[u8]) -> Option<Verb> {
+    Some(match text {
+        b"audit" => Verb::Audit,
+        b"find" => Verb::Find,
+        b"read" => Verb::Read,
+        b"load" => Verb::Load,
+        b"move" => Verb::Move,
+        b"reset" => Verb::Reset,
+        b"--help" | b"-h" => Verb::Help,
+        b"--version" => Verb::Version,
+        _ => return None,
+    })
 }
 
-// What the verb is asked with so many arguments.
-fn asked_of(rt: &HostRuntime, verb: Verb, count: usize) -> Asking {
+// Does what the verb says with so many arguments. The rooms are made once, and lent to each: for an image, for a file,
+// which is no longer than the largest image, and for a program.
+fn act(rt: &HostRuntime, verb: Verb, count: usize) -> Outcome {
+    let mut image: [u8; IMAGE] = room(0);
+    let mut file: [u8; IMAGE] = room(0);
+    let mut memory: [u8; MEMORY] = room(0);
+    let mut work: [u8; MEMORY] = room(0);
+    let mut table: [u32; TABLE_ROOM] = room(0);
+    let mut board = Board {
+        memory: &mut memory,
+        table: &mut table,
+        work: &mut work,
+    };
     match verb {
-        Verb::Audit => asked::of_image(rt, count),
-        Verb::Find => asked::of_image(rt, count),
-        Verb::Read => asked::of_image(rt, count),
-        Verb::Reset => asked::of_image(rt, count),
-        _ => Asking::Is(asked::plainly()),
-    }
-}
-
-// Does what the verb says with so many arguments. The rooms are made once and lent to each: for an image, a file,
-// which is no longer than the largest image, memory and the work area.
-fn act(rt: &HostRuntime, verb: Verb, asked: Asked, count: usize) -> Outcome {
-    let mut image = console::rooms::image();
-    let mut file = console::rooms::image();
-    let mut memory = rooms::memory();
-    let mut work = rooms::memory();
-    match verb {
-        Verb::Audit => volumes::audit_images(rt, asked, count, &mut image),
-        Verb::Find => volumes::find_paths(rt, asked, count, &mut image),
-        Verb::Read => volumes::read_file(rt, asked, count, &mut image, &mut file),
-        Verb::Load => programs::load(rt, count, &mut file, &mut memory, &mut work),
-        Verb::Move => programs::move_program(rt, count, &mut file, &mut memory, &mut work),
+        Verb::Audit => volumes::audit_images(rt, asked::of_image(rt, count)?, &mut image),
+        Verb::Find => volumes::find_paths(rt, asked::of_image(rt, count)?, &mut image),
+        Verb::Read => { volumes::read_file(rt, asked::of_image(rt, count)?, &mut image, &mut file) }
+        Verb::Load => programs::load(rt, asked::plainly(count), &mut file, &mut board),
+        Verb::Move => programs::move_program(rt, asked::plainly(count), &mut file, &mut board),
         Verb::Reset => reset::reset(
             rt,
-            asked,
-            count,
+            asked::of_image(rt, count)?,
             &mut image,
             &mut file,
-            &mut memory,
-            &mut work,
+            &mut board,
         ),
-        Verb::Help => usage::say(rt),
-        Verb::Version => usage::version(rt),
-        Verb::Unknown => Outcome::Unasked,
+        Verb::Help => {
+            usage::say(rt);
+            Ok(())
+        }
+        Verb::Version => {
+            usage::version(rt);
+            Ok(())
+        }
     }
 }
 
-// The same for the verb that argument 1 is.
+// The same for the verb that argument 1 is, if there is one and all arguments fit.
 fn run(rt: &HostRuntime, count: usize) -> Outcome {
-    let mut text = buffer();
-    let n = argument(rt, 1, &mut text);
-    let verb = verb_of(&text[..n]);
-    if let Verb::Unknown = verb {
-        return saying::wrong(
-            rt,
-            &text[..n],
-            b" is no verb; ./bench alone says how it is used",
-        );
-    }
-    let asking = asked_of(rt, verb, count);
-    let Asking::Is(asked) = asking else {
-        return Outcome::Unasked;
-    };
-    act(rt, verb, asked, count)
-}
-
-// The same, if there is one and all arguments fit.
-fn start(rt: &HostRuntime, count: usize) -> Outcome {
     if count < 2 {
-        return usage::say(rt);
+        usage::say(rt);
+        return Ok(());
     }
-    if !arguments::all_fit(rt, count) {
-        return Outcome::Unasked;
+    arguments::all_fit(rt, count)?;
+    let mut text: [u8; arguments::LONGEST] = room(0);
+    let text = argument(rt, 1, &mut text);
+    match verb_of(text) {
+        Some(verb) => act(rt, verb, count),
+        None => Err(saying::wrong(rt, text, " is no verb; ./bench alone says how it is used")),
     }
-    run(rt, count)
 }
 
 fn main(rt: HostRuntime) -> ExitCode {
-    status::tell(start(&rt, arg_count(&rt)))
+    match run(&rt, arg_count(&rt)) {
+        Ok(()) => ExitCode::SUCCESS,
+        Err(failure) => ExitCode::from(failure),
+    }
 }

@@ -1,30 +1,12 @@
-// The rooms that are lent beside those of `console`. An `ensures` gives only the length, so that no proof computes the
-// list.
-ghost use Rattle.std.specs.Prelude.{◌≡◌, length};
-ghost use Rattle.loader.specs.Table.{table_room};
-
-use loader::table::TABLE_ROOM;
+// The rooms that the verbs are lent.
 
 // Memory for a program, and as much for the work area.
 pub const MEMORY: usize = 1048576;
 
-// The longest list of bases.
-const BASES: usize = 256;
-
-pub fn memory() -> [u8; MEMORY]
-    ensures { 1048576 ≡ length result }
-{
-    [0; MEMORY]
-}
-
-pub fn bases() -> [u32; BASES]
-    ensures { 256 ≡ length result }
-{
-    [0; BASES]
-}
-
-pub fn table() -> [u32; TABLE_ROOM]
-    ensures { table_room ≡ length result }
-{
-    [0; TABLE_ROOM]
+// Where a program is loaded: memory, the records of its hunks, and the work area.
+#[derive(Drop)]
+pub struct Board<'a> {
+    pub memory: &'a mut [u8],
+    pub table: &'a mut [u32],
+    pub work: &'a mut [u8],
 }

@@ -1,35 +1,24 @@
 // What came of a run, and the exit status that tells it.
-
 use std::process::ExitCode;
 
-// What came of an image, of a path, or of all of a run. Unasked: a wrong use, or something that could not be read or
-// written.
-#[derive(Drop)]
-pub enum Outcome {
-    Accepted,
+// Why a call, or all of a run, did not end well. Its reason has been said. Of two a script should hear of the greater.
+#[derive(Clone, Copy, Debug, PartialEq, Eq, PartialOrd, Ord)]
+pub enum Failure {
+    // A call refused.
     Refused,
+
+    // A wrong use, or something that could not be read or written.
     Unasked,
 }
 
-// The one of two that a script should hear of.
-pub fn worse(a: Outcome, b: Outcome) -> Outcome {
-    match a {
-        Outcome::Accepted => b,
-        Outcome::Refused => {
-            if let Outcome::Unasked = b {
-                return b;
-            }
-            a
-        }
-        Outcome::Unasked => a,
-    }
-}
+// Ok: all was accepted.
+pub type Outcome = Result<(), Failure>;
 
-// The exit status that tells it.
-pub fn tell(outcome: Outcome) -> ExitCode {
-    match outcome {
-        Outcome::Accepted => ExitCode::from(0),
-        Outcome::Refused => ExitCode::from(1),
-        Outcome::Unasked => ExitCode::from(2),
+impl From<Failure> for ExitCode {
+    fn from(failure: Failure) -> ExitCode {
+        ExitCode::from(match failure {
+            Failure::Refused => 1,
+            Failure::Unasked => 2,
+        })
     }
 }

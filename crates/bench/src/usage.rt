@@ -1,17 +1,13 @@
 // How the tool is used, and its version.
-use crate::status::Outcome;
-use console::streams::write_all;
 
 // The newest version that CHANGELOG.md names, in the line that says it.
-pub fn version(rt: &HostRuntime) -> Outcome {
-    write_all(rt, b"bench 0.1.0\n");
-    Outcome::Accepted
+pub fn version(rt: &HostRuntime) {
+    let _ = println!(rt; "bench 0.1.0");
 }
 
-pub fn say(rt: &HostRuntime) -> Outcome {
-    write_all(
-        rt,
-        b"\
+pub fn say(rt: &HostRuntime) {
+    let _ = print!(rt;
+        "\
 ./bench audit IMAGE...                 is each image a volume, and what does it hold\n\
 ./bench find IMAGE PATH...             what each path leads to; its parts are split by /\n\
 ./bench read IMAGE PATH                the bytes of a file, and nothing else\n\
@@ -21,7 +17,6 @@ pub fn say(rt: &HostRuntime) -> Outcome {
 -b 1760, 3520 or any, right after a verb with an IMAGE: the blocks of its disk; without it 1760.\n\
 A BASE is 1 to 8 hex digits, 0x before them or not; one for each hunk, at most 256 in a list.\n\
 Rooms in bytes: image 1802240, file 1802240, program memory 1048576, argument 4096.\n\
-Exit status: 0 all accepted, 1 something refused, 2 a wrong use or something unreadable.\n",
+Exit status: 0 all accepted, 1 something refused, 2 a wrong use or something unreadable.\n"
     );
-    Outcome::Accepted
 }

@@ -1,73 +1,62 @@
 // Images: audit, find and read.
-ghost use Rattle.bench.specs.Tallies.{Below, OneMore};
+ghost use Rattle.std.specs.Prelude.{◌≡◌, ◌+◌, ◌<◌, ◌≤◌, ◌^◌};
+ghost use Rattle.bench.specs.Tallies.{images};
 
+use crate::arguments::LONGEST;
 use crate::asked::Asked;
+use crate::calls::Volume;
+use crate::files;
 use crate::files::Kind;
 use crate::saying::{refused, wrong};
-use crate::status::Outcome;
-use crate::{files, saying, status};
-use audit::audit::{Audited, Report};
-use console::say::numbered;
-use console::streams::{argument, buffer, write_all};
-use lookup::find::Found;
-use reading::read::Reading;
+use crate::status::{Failure, Outcome};
+use audit::audit::Report;
+use console::rooms::room;
+use console::streams::argument;
+use lookup::find::{Found, find};
+use std::io::Print;
+use std::ops::Range;
 
 // ---- the calls, and what is said of them; `who` begins the line
 
-// An accepted volume.
-fn accepted(rt: &HostRuntime, who: &[u8], report: Report) -> Outcome {
-    write_all(rt, who);
-    numbered(rt, b": accepted, ", report.directories as u64);
-    numbered(rt, b" directories, ", report.files as u64);
-    numbered(rt, b" files, ", report.lists as u64);
-    numbered(rt, b" list blocks, ", report.blocks as u64);
-    numbered(rt, b" data blocks, ", report.used as u64);
-    numbered(rt, b" used, ", report.free as u64);
-    write_all(rt, b" free\n");
-    Outcome::Accepted
+pub fn audit_image(rt: &HostRuntime, who: &[u8], volume: Volume) -> Outcome {
+    let Report {
+        directories,
+        files,
+        lists,
+        blocks,
+        used,
+        free,
+    } = volume.audit().map_err(|fault| refused(rt, who, fault, ""))?;
+    let _ = rt.write_all(who);
+    let _ = print!(rt;
+        ": accepted, {directories} directories, {files} files, {lists} list blocks, "
+    );
+    let _ = println!(rt; "{blocks} data blocks, {used} used, {free} free");
+    Ok(())
 }
 
-// Audits an image. The claim area has more bytes than there are blocks.
-pub fn audit_image(rt: &HostRuntime, named: u32, who: &[u8], image: &[u8]) -> Outcome {
-    let mut claim = buffer();
-    let answer = audit::audit::audit(named, image, &mut claim);
-    match answer {
-        Audited::Accepted(report) => accepted(rt, who, report),
-        Audited::Refused(fault) => refused(rt, who, fault, 0),
-    }
+pub fn find_path(rt: &HostRuntime, who: &[u8], volume: Volume, path: &[u8]) -> Outcome {
+    let found = find(volume.named, volume.image, path).map_err(|fault| refused(
+        rt, who, fault, "",
+    ))?;
+    let _ = rt.write_all(who);
+    let _ = match found {
+        Found::Directory { key, compared } => {
+            println!(rt; ": directory, key {key}, compared {compared}")
+        }
+        Found::File {
+            key,
+            size,
+            compared,
+        } => { println!(rt; ": file, key {key}, size {size}, compared {compared}") }
+    };
+    Ok(())
 }
 
-fn directory(rt: &HostRuntime, who: &[u8], key: u32, compared: u32) -> Outcome {
-    write_all(rt, who);
-    numbered(rt, b": directory, key ", key as u64);
-    numbered(rt, b", compared ", compared as u64);
-    write_all(rt, b"\n");
-    Outcome::Accepted
-}
-
-fn file(rt: &HostRuntime, who: &[u8], key: u32, size: u32, compared: u32) -> Outcome {
-    write_all(rt, who);
-    numbered(rt, b": file, key ", key as u64);
-    numbered(rt, b", size ", size as u64);
-    numbered(rt, b", compared ", compared as u64);
-    write_all(rt, b"\n");
-    Outcome::Accepted
-}
-
-// Finds a path.
-pub fn find_path(rt: &HostRuntime, named: u32, who: &[u8], image: &[u8], path: &[u8]) -> Outcome {
-    let found = lookup::find::find(named, image, path);
-    match found {
-        Found::Directory(key, compared) => directory(rt, who, key, compared),
-        Found::File(key, size, compared) => file(rt, who, key, size, compared),
-        Found::Refused(fault) => refused(rt, who, fault, 0),
-    }
-}
-
-// ---- the verbs, over so many arguments
+// ---- the verbs
 
 // How many images came to what.
-#[derive(Clone, Copy)]
+#[derive(Clone, Copy, Default)]
 struct Tally {
     accepted: usize,
     refused: usize,
@@ -76,165 +65,107 @@ struct Tally {
 
 impl Tally {
     // One image more.
-    fn with(mut self, seen: Outcome) -> Tally
-        requires { Below self 18446744073709551615 }
-        ensures { OneMore self result }
+    fn add(&mut self, seen: Outcome)
+        requires { images self.old + 1 < 2 ^ 64 }
+        ensures { images self.new ≡ images self.old + 1 }
     {
         match seen {
-            Outcome::Accepted => {
-                self.accepted += 1;
-            }
-            Outcome::Refused => {
-                self.refused += 1;
-            }
-            Outcome::Unasked => {
-                self.unread += 1;
-            }
+            Ok(()) => self.accepted += 1,
+            Err(Failure::Refused) => self.refused += 1,
+            Err(Failure::Unasked) => self.unread += 1,
         }
-        self
     }
 
     // What came of all of them.
     fn outcome(self) -> Outcome {
         if self.unread > 0 {
-            return Outcome::Unasked;
+            return Err(Failure::Unasked);
         }
         if self.refused > 0 {
-            return Outcome::Refused;
+            return Err(Failure::Refused);
         }
-        Outcome::Accepted
+        Ok(())
     }
-}
-
-// Audits the image of this name.
-fn audit_file(rt: &HostRuntime, named: u32, name: &[u8], room: &mut [u8]) -> Outcome {
-    let held = files::read(rt, name, Kind::Image, room);
-    if !held.whole {
-        return Outcome::Unasked;
-    }
-    let n = held.bytes;
-    audit_image(rt, named, name, &room[..n])
 }
 
 // Audits the image that argument i names.
 fn audit_argument(rt: &HostRuntime, named: u32, i: usize, room: &mut [u8]) -> Outcome {
-    let mut name = buffer();
-    let n = argument(rt, i, &mut name);
-    audit_file(rt, named, &name[..n], room)
+    let mut name: [u8; LONGEST] = console::rooms::room(0);
+    let name = argument(rt, i, &mut name);
+    let image = files::read(rt, name, Kind::Image, room)?;
+    audit_image(rt, name, Volume { named, image })
 }
 
-// Audits the images from the first argument on.
-fn audit_each(rt: &HostRuntime, asked: Asked, count: usize, room: &mut [u8]) -> Tally {
-    let mut tally = Tally {
-        accepted: 0,
-        refused: 0,
-        unread: 0,
-    };
-    let mut i = asked.first;
-    while i < count {
-        tally = tally.with(audit_argument(rt, asked.named, i, room));
-        i += 1;
+// Audits the images that the arguments at these places name.
+fn audit_each(rt: &HostRuntime, named: u32, places: Range<usize>, room: &mut [u8]) -> Tally
+    ensures { places.start ≤ places.end → places.start + images result ≡ places.end }
+{
+    let mut tally = Tally::default();
+    for i in places.start..places.end {
+        tally.add(audit_argument(rt, named, i, room));
     }
     tally
 }
 
-fn summary(rt: &HostRuntime, images: usize, tally: Tally) {
-    numbered(rt, b"", images as u64);
-    numbered(rt, b" images: ", tally.accepted as u64);
-    numbered(rt, b" accepted, ", tally.refused as u64);
-    numbered(rt, b" refused, ", tally.unread as u64);
-    write_all(rt, b" not read\n");
-}
-
-pub fn audit_images(rt: &HostRuntime, asked: Asked, count: usize, room: &mut [u8]) -> Outcome {
-    if count <= asked.first {
-        return wrong(rt, b"audit", b" needs an IMAGE");
+pub fn audit_images(rt: &HostRuntime, asked: Asked, image: &mut [u8]) -> Outcome {
+    let Asked { named, places } = asked;
+    let count = places.len();
+    if count == 0 {
+        return Err(wrong(rt, b"audit", " needs an IMAGE"));
     }
-    let tally = audit_each(rt, asked, count, room);
-    if count > asked.second {
-        summary(rt, count - asked.first, tally);
+    let tally = audit_each(rt, named, places, image);
+    if count > 1 {
+        let Tally {
+            accepted,
+            refused,
+            unread,
+        } = tally;
+        let _ = println!(rt;
+            "{count} images: {accepted} accepted, {refused} refused, {unread} not read"
+        );
     }
     tally.outcome()
 }
 
 // Finds the path that argument i is.
-fn find_argument(rt: &HostRuntime, named: u32, i: usize, image: &[u8]) -> Outcome {
-    let mut path = buffer();
-    let n = argument(rt, i, &mut path);
-    let text = &path[..n];
-    find_path(rt, named, text, image, text)
+fn find_argument(rt: &HostRuntime, i: usize, volume: Volume) -> Outcome {
+    let mut path: [u8; LONGEST] = room(0);
+    let path = argument(rt, i, &mut path);
+    find_path(rt, path, volume, path)
 }
 
-// Finds the paths from the second argument on.
-fn find_each(rt: &HostRuntime, asked: Asked, count: usize, image: &[u8]) -> Outcome {
-    let mut all = Outcome::Accepted;
-    let mut i = asked.second;
-    while i < count {
-        all = status::worse(all, find_argument(rt, asked.named, i, image));
-        i += 1;
+pub fn find_paths(rt: &HostRuntime, asked: Asked, image: &mut [u8]) -> Outcome {
+    let Asked {
+        named,
+        places: mut left,
+    } = asked;
+    let (Some(name), false) = (left.next(), left.is_empty()) else {
+        return Err(wrong(rt, b"find", " needs an IMAGE and a PATH"));
+    };
+    let image = files::read_argument(rt, name, Kind::Image, image)?;
+    let mut all = Ok(());
+    for i in left {
+        all = all.max(find_argument(rt, i, Volume { named, image }));
     }
     all
 }
 
-pub fn find_paths(rt: &HostRuntime, asked: Asked, count: usize, room: &mut [u8]) -> Outcome {
-    if count <= asked.second {
-        return wrong(rt, b"find", b" needs an IMAGE and a PATH");
-    }
-    let held = files::read_argument(rt, asked.first, Kind::Image, room);
-    if !held.whole {
-        return Outcome::Unasked;
-    }
-    let n = held.bytes;
-    find_each(rt, asked, count, &room[..n])
-}
-
-// Writes a file's bytes, and nothing else, to standard output.
-fn put_out(rt: &HostRuntime, path: &[u8], bytes: &[u8]) -> Outcome {
-    if write_all(rt, bytes) {
-        return Outcome::Accepted;
-    }
-    wrong(rt, path, b": cannot be written to standard output")
-}
-
-// Reads a file and writes its bytes.
-fn read_path(
-    rt: &HostRuntime,
-    named: u32,
-    image: &[u8],
-    path: &[u8],
-    output: &mut [u8],
-) -> Outcome {
-    let reading = reading::read::read(named, image, path, 0, output);
-    match reading {
-        Reading::Bytes(n) => put_out(rt, path, &output[..n]),
-        Reading::Refused(fault) => {
-            saying::begin(rt);
-            refused(&rt.stderr(), path, fault, 0)
-        }
-    }
-}
-
-// The same for the path that the second argument is.
-fn read_argument(rt: &HostRuntime, asked: Asked, image: &[u8], output: &mut [u8]) -> Outcome {
-    let mut path = buffer();
-    let n = argument(rt, asked.second, &mut path);
-    read_path(rt, asked.named, image, &path[..n], output)
-}
-
-pub fn read_file(
-    rt: &HostRuntime,
-    asked: Asked,
-    count: usize,
-    room: &mut [u8],
-    output: &mut [u8],
-) -> Outcome {
-    if count != asked.third {
-        return wrong(rt, b"read", b" needs an IMAGE and one PATH");
-    }
-    let held = files::read_argument(rt, asked.first, Kind::Image, room);
-    if !held.whole {
-        return Outcome::Unasked;
-    }
-    let n = held.bytes;
-    read_argument(rt, asked, &room[..n], output)
+// Writes a file's bytes, and nothing else, to standard output; a refusal goes to standard error.
+pub fn read_file(rt: &HostRuntime, asked: Asked, image: &mut [u8], file: &mut [u8]) -> Outcome {
+    let Asked {
+        named,
+        places: mut left,
+    } = asked;
+    let (Some(name), Some(path), true) = (left.next(), left.next(), left.is_empty()) else {
+        return Err(wrong(rt, b"read", " needs an IMAGE and one PATH"));
+    };
+    let image = files::read_argument(rt, name, Kind::Image, image)?;
+    let mut text: [u8; LONGEST] = room(0);
+    let path = argument(rt, path, &mut text);
+    let bytes = Volume { named, image }.read(path, file).map_err(|fault| {
+        let errors = rt.stderr();
+        let _ = errors.print("bench: ");
+        refused(&errors, path, fault, "")
+    })?;
+    rt.write_all(bytes).map_err(|_| wrong(rt, path, ": cannot be written to standard output"))
 }

@@ -1,25 +1,24 @@
 // Words in hex, one a line.
-ghost use Rattle.std.specs.Prelude.{◌+◌, ◌≤◌, ◌≡◌, length};
+ghost use Rattle.std.specs.Prelude.{◌≡◌, ◌≤◌, length};
 ghost use Rattle.console.specs.Hex.{lowest, line_of};
 
-use crate::streams::{buffer, write_all};
+use crate::rooms::room;
 use std::io::Print;
 
-// Bytes of a word's line: eight digits and the end.
+// Bytes of a word, and of its line: eight digits and the end.
+const WORD: usize = 4;
+
 const LINE: usize = 9;
 
-// The last place in a buffer, the 4096 bytes of `streams::buffer`, where a line fits.
-const LAST: usize = 4087;
+// How many lines are written at once.
+const LINES: usize = 455;
 
-// The lowest digit of w.
+// The lowest digit of w. By hand, since no promise can speak of what `{:X}` writes.
 pub fn digit(w: u32) -> u8
     ensures { result ≡ lowest w }
 {
     let d = (w % 16) as u8;
-    if d < 10 {
-        return b'0' + d;
-    }
-    b'A' + (d - 10)
+    if d < 10 { b'0' + d } else { b'A' + (d - 10) }
 }
 
 // The line of w.
@@ -27,52 +26,33 @@ pub fn line(w: u32) -> [u8; LINE]
     ensures { result ≡ line_of w }
 {
     [
-        digit(w / 268435456),
-        digit(w / 16777216),
-        digit(w / 1048576),
-        digit(w / 65536),
-        digit(w / 4096),
-        digit(w / 256),
-        digit(w / 16),
+        digit(w / 0x10000000),
+        digit(w / 0x1000000),
+        digit(w / 0x100000),
+        digit(w / 0x10000),
+        digit(w / 0x1000),
+        digit(w / 0x100),
+        digit(w / 0x10),
         digit(w),
         b'\n',
     ]
 }
 
-// Puts the line of w into the buffer at `at`.
-fn put(w: u32, buffer: &mut [u8], at: usize)
-    requires { at + 9 ≤ length buffer.old }
+// A few words, a line each, by one write.
+fn write_lines(to: &impl Print, words: &[[u8; WORD]])
+    requires { length words.now ≤ 455 }
 {
-    let text = line(w);
-    let mut i: usize = 0;
-    while i < LINE {
-        buffer[at + i] = text[i];
-        i += 1;
+    let mut lines: [[u8; LINE]; LINES] = room([0; LINE]);
+    for (text, word) in lines.iter_mut().zip(words) {
+        *text = line(u32::from_be_bytes(*word));
     }
-}
-
-// Where the next line goes: a buffer in which none fits is written, and begun again.
-fn next(to: &impl Print, buffer: &[u8], at: usize) -> usize
-    requires { at ≤ length buffer.now }
-    ensures { result ≤ 4087 }
-{
-    if at > LAST {
-        write_all(to, &buffer[..at]);
-        return 0;
-    }
-    at
+    let _ = to.write_all(lines[..words.len()].as_flattened());
 }
 
 // The words that these bytes are, a line each.
 pub fn words(to: &impl Print, bytes: &[u8]) {
-    let mut buffer = buffer();
-    let mut at: usize = 0;
-    let mut i: usize = 0;
-    while i < bytes.len() / 4 {
-        at = next(to, &buffer, at);
-        put(words::word(bytes, 4 * i), &mut buffer, at);
-        at += LINE;
-        i += 1;
+    let (all, _) = bytes.as_chunks::<WORD>();
+    for few in all.chunks(LINES) {
+        write_lines(to, few);
     }
-    write_all(to, &buffer[..at]);
 }

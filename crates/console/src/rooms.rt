@@ -1,11 +1,12 @@
-// The room that programs lend for an image. An `ensures` gives only the length, so that no proof computes the list.
+// The rooms that programs lend. The `ensures` gives only the length, so that no proof computes the list.
 ghost use Rattle.std.specs.Prelude.{◌≡◌, length};
 
-// The largest image has as many bytes.
-const IMAGE: usize = 1802240;
+// How many bytes the largest image has.
+pub const IMAGE: usize = 1802240;
 
-pub fn image() -> [u8; IMAGE]
-    ensures { 1802240 ≡ length result }
+// The same value throughout.
+pub fn room<T: Copy, const N: usize>(value: T) -> [T; N]
+    ensures { N ≡ length result }
 {
-    [0; IMAGE]
+    [value; N]
 }

@@ -1,11 +1,13 @@
 // A good block of each kind, and the same with one rule broken at a time.
-ghost use Rattle.std.specs.Prelude.{◌<◌};
-
 use crate::build::{IMAGE, block};
-use crate::kinds::{DATA, DIRECTORY, HEADER, Kind, LIST, ROOT, good, one, two, unmended};
-use console::say;
+use crate::kinds::{
+    BITMAP, DATA, DIRECTORY, HEADER, Kind, LIST, ROOT, data_block, data_test, header_block, mary,
+};
 use std::io::Print;
-use volume::file;
+use volume::disk::Disk;
+use volume::entry::entry_fault;
+use volume::file::{file_fault, key_of, list_fault};
+use volume::root::{bitmap_fault, map_fault, root_fault};
 
 // The word that holds a name's length and its first three bytes.
 const NAME: usize = 108;
@@ -25,293 +27,465 @@ const SLASH: u32 = 0x042F4152;
 
 const COLON: u32 = 0x043A4152;
 
-// Sum, types and fixed words of the root.
+// Disks of the image's size, of the old and of the Fast File System.
+const SMALL: Disk = Disk { blocks: 8, kind: 0 };
+
+const SMALL_FAST: Disk = Disk { blocks: 8, kind: 1 };
+
+// And floppies.
+const FLOPPY: Disk = Disk {
+    blocks: 1760,
+    kind: 0,
+};
+
+const FAST_FLOPPY: Disk = Disk {
+    blocks: 1760,
+    kind: 1,
+};
+
+fn root_block() -> [u8; IMAGE] {
+    mary(
+        ROOT,
+        &[(0, 2), (3, 72), (78, 0xFFFFFFFF), (79, BITMAP), (127, 1)],
+    )
+}
+
 pub fn root(rt: &impl Print) {
-    good(rt, Kind::Root);
-    unmended(rt, Kind::Root, 6, DIRECTORY);
-    unmended(rt, Kind::Root, 0, 3);
-    one(rt, Kind::Root, 0, 0);
-    one(rt, Kind::Root, 0, 16);
-    one(rt, Kind::Root, 127, 0);
-    one(rt, Kind::Root, 127, 2);
-    one(rt, Kind::Root, 127, 3);
-    one(rt, Kind::Root, 127, 4);
-    one(rt, Kind::Root, 127, 0xFFFFFFFC);
-    one(rt, Kind::Root, 127, 0xFFFFFFFD);
-    two(rt, Kind::Root, 127, 3, 1, ROOT);
-    one(rt, Kind::Root, 1, 1);
-    one(rt, Kind::Root, 2, 1);
-    one(rt, Kind::Root, 4, 1);
-    one(rt, Kind::Root, 124, 1);
-    one(rt, Kind::Root, 125, 1);
-    one(rt, Kind::Root, 126, 1);
-    one(rt, Kind::Root, 3, 0);
-    one(rt, Kind::Root, 3, 71);
-}
-
-// Words of the root that are not tested here.
-pub fn root_other(rt: &impl Print) {
-    one(rt, Kind::Root, 6, 1);
-    one(rt, Kind::Root, 77, 0xFFFFFFFF);
-    one(rt, Kind::Root, 78, 0);
-    one(rt, Kind::Root, 79, 0);
-    one(rt, Kind::Root, 79, ROOT);
-    one(rt, Kind::Root, 80, 1);
-    one(rt, Kind::Root, 104, 1);
-    one(rt, Kind::Root, 123, 1);
-}
-
-pub fn root_name(rt: &impl Print) {
-    two(rt, Kind::Root, NAME, EMPTY, 126, 1);
-    one(rt, Kind::Root, NAME, EMPTY);
-    one(rt, Kind::Root, NAME, SHORT);
-    one(rt, Kind::Root, NAME, LONG);
-    one(rt, Kind::Root, NAME, LONGER);
-    one(rt, Kind::Root, NAME, LONGEST);
-    one(rt, Kind::Root, NAME, SLASH);
-    one(rt, Kind::Root, NAME, COLON);
-    one(rt, Kind::Root, NAME + 1, 0x2F000000);
-    one(rt, Kind::Root, NAME + 1, 0x592F0000);
+    let root = Kind {
+        name: "root",
+        key: ROOT,
+        image: root_block(),
+        test: |image: &[u8; IMAGE]| root_fault(SMALL, image),
+    };
+    root.good(rt);
+    root.unmended(rt, &[(6, DIRECTORY), (0, 3)]);
+    root.changed(
+        rt,
+        &[
+            // types and fixed words
+            &[(0, 0)],
+            &[(0, 16)],
+            &[(127, 0)],
+            &[(127, 2)],
+            &[(127, 3)],
+            &[(127, 4)],
+            &[(127, 0xFFFFFFFC)],
+            &[(127, 0xFFFFFFFD)],
+            &[(127, 3), (1, ROOT)],
+            &[(1, 1)],
+            &[(2, 1)],
+            &[(4, 1)],
+            &[(124, 1)],
+            &[(125, 1)],
+            &[(126, 1)],
+            &[(3, 0)],
+            &[(3, 71)],
+            // words that are not tested here
+            &[(6, 1)],
+            &[(77, 0xFFFFFFFF)],
+            &[(78, 0)],
+            &[(79, 0)],
+            &[(79, ROOT)],
+            &[(80, 1)],
+            &[(104, 1)],
+            &[(123, 1)],
+            // names
+            &[(NAME, EMPTY), (126, 1)],
+            &[(NAME, EMPTY)],
+            &[(NAME, SHORT)],
+            &[(NAME, LONG)],
+            &[(NAME, LONGER)],
+            &[(NAME, LONGEST)],
+            &[(NAME, SLASH)],
+            &[(NAME, COLON)],
+            &[(NAME + 1, 0x2F000000)],
+            &[(NAME + 1, 0x592F0000)],
+        ],
+    );
 }
 
 // The root's words about the bitmap.
 pub fn map(rt: &impl Print) {
-    good(rt, Kind::Map);
-    one(rt, Kind::Map, 78, 0);
-    one(rt, Kind::Map, 78, 1);
-    one(rt, Kind::Map, 78, 0xFFFFFFFE);
-    one(rt, Kind::Map, 80, 1);
-    one(rt, Kind::Map, 92, 0x80000000);
-    one(rt, Kind::Map, 104, 1);
-    one(rt, Kind::Map, 77, 1);
-    one(rt, Kind::Map, 79, 0);
-    one(rt, Kind::Map, 79, 0xFFFFFFFF);
-    one(rt, Kind::Map, 105, 1);
+    let map = Kind {
+        name: "map",
+        key: ROOT,
+        image: root_block(),
+        test: |image: &[u8; IMAGE]| map_fault(SMALL, image),
+    };
+    map.good(rt);
+    map.changed(
+        rt,
+        &[
+            &[(78, 0)],
+            &[(78, 1)],
+            &[(78, 0xFFFFFFFE)],
+            &[(80, 1)],
+            &[(92, 0x80000000)],
+            &[(104, 1)],
+            &[(77, 1)],
+            &[(79, 0)],
+            &[(79, 0xFFFFFFFF)],
+            &[(105, 1)],
+        ],
+    );
 }
 
 // The bitmap block: only its sum is tested.
 pub fn bitmap(rt: &impl Print) {
-    good(rt, Kind::Bitmap);
-    unmended(rt, Kind::Bitmap, 0, 1);
-    unmended(rt, Kind::Bitmap, 127, 0x80000000);
-    one(rt, Kind::Bitmap, 0, 2);
-    one(rt, Kind::Bitmap, 1, 0);
-    one(rt, Kind::Bitmap, 55, 0xFFFFFFFF);
-    one(rt, Kind::Bitmap, 127, 0xFFFFFFFD);
+    let bitmap = Kind {
+        name: "bitmap",
+        key: BITMAP,
+        image: block(BITMAP, &[(1, 0xFFFFFFFF)]),
+        test: |image: &[u8; IMAGE]| bitmap_fault(image, BITMAP),
+    };
+    bitmap.good(rt);
+    bitmap.unmended(rt, &[(0, 1), (127, 0x80000000)]);
+    bitmap.changed(
+        rt,
+        &[
+            &[(0, 2)],
+            &[(1, 0)],
+            &[(55, 0xFFFFFFFF)],
+            &[(127, 0xFFFFFFFD)],
+        ],
+    );
 }
 
-// Sum and types of a directory.
 pub fn directory(rt: &impl Print) {
-    good(rt, Kind::Directory);
-    unmended(rt, Kind::Directory, 124, HEADER);
-    unmended(rt, Kind::Directory, 0, 3);
-    unmended(rt, Kind::Directory, 127, 3);
-    one(rt, Kind::Directory, 0, 0);
-    one(rt, Kind::Directory, 0, 8);
-    one(rt, Kind::Directory, 0, 16);
-    two(rt, Kind::Directory, 0, 3, 127, 3);
-    one(rt, Kind::Directory, 127, 3);
-    one(rt, Kind::Directory, 127, 4);
-    one(rt, Kind::Directory, 127, 0xFFFFFFFC);
-    two(rt, Kind::Directory, 127, 4, 1, 0);
-    one(rt, Kind::Directory, 127, 0);
-    one(rt, Kind::Directory, 127, 1);
-    one(rt, Kind::Directory, 127, 5);
-    one(rt, Kind::Directory, 127, 0xFFFFFFFE);
-    one(rt, Kind::Directory, 127, 0xFFFFFFFD);
-    two(rt, Kind::Directory, 127, 0, 1, 0);
-}
-
-// Own key, parent and w126; then words that are not tested here.
-pub fn directory_words(rt: &impl Print) {
-    one(rt, Kind::Directory, 1, 0);
-    one(rt, Kind::Directory, 1, HEADER);
-    one(rt, Kind::Directory, 125, 0);
-    one(rt, Kind::Directory, 125, DIRECTORY);
-    one(rt, Kind::Directory, 126, LIST);
-    two(rt, Kind::Directory, 126, LIST, NAME, EMPTY);
-    one(rt, Kind::Directory, 2, 1);
-    one(rt, Kind::Directory, 3, 72);
-    one(rt, Kind::Directory, 4, DATA);
-    one(rt, Kind::Directory, 6, 0xFFFFFFFF);
-    one(rt, Kind::Directory, 81, 0xFFFFFFFF);
-    one(rt, Kind::Directory, 124, 0xFFFFFFFF);
-}
-
-pub fn directory_name(rt: &impl Print) {
-    one(rt, Kind::Directory, NAME, EMPTY);
-    one(rt, Kind::Directory, NAME, LONGER);
-    one(rt, Kind::Directory, NAME, SLASH);
-    one(rt, Kind::Directory, NAME, COLON);
-    one(rt, Kind::Directory, NAME, SHORT);
-    one(rt, Kind::Directory, NAME, LONG);
-    one(rt, Kind::Directory, NAME + 1, 0x58000000);
-    one(rt, Kind::Directory, NAME + 1, 0x79000000);
-    one(rt, Kind::Directory, NAME + 1, 0x592F3A00);
-    two(rt, Kind::Directory, NAME, 0x046D6172, NAME + 1, 0x79000000);
+    let directory = Kind {
+        name: "directory",
+        key: DIRECTORY,
+        image: mary(DIRECTORY, &[(0, 2), (1, DIRECTORY), (125, ROOT), (127, 2)]),
+        test: |image: &[u8; IMAGE]| entry_fault(SMALL, image, None, DIRECTORY, ROOT, 65),
+    };
+    directory.good(rt);
+    directory.unmended(rt, &[(124, HEADER), (0, 3), (127, 3)]);
+    directory.changed(
+        rt,
+        &[
+            // types
+            &[(0, 0)],
+            &[(0, 8)],
+            &[(0, 16)],
+            &[(0, 3), (127, 3)],
+            &[(127, 3)],
+            &[(127, 4)],
+            &[(127, 0xFFFFFFFC)],
+            &[(127, 4), (1, 0)],
+            &[(127, 0)],
+            &[(127, 1)],
+            &[(127, 5)],
+            &[(127, 0xFFFFFFFE)],
+            &[(127, 0xFFFFFFFD)],
+            &[(127, 0), (1, 0)],
+            // own key, parent and w126
+            &[(1, 0)],
+            &[(1, HEADER)],
+            &[(125, 0)],
+            &[(125, DIRECTORY)],
+            &[(126, LIST)],
+            &[(126, LIST), (NAME, EMPTY)],
+            // words that are not tested here
+            &[(2, 1)],
+            &[(3, 72)],
+            &[(4, DATA)],
+            &[(6, 0xFFFFFFFF)],
+            &[(81, 0xFFFFFFFF)],
+            &[(124, 0xFFFFFFFF)],
+            // names
+            &[(NAME, EMPTY)],
+            &[(NAME, LONGER)],
+            &[(NAME, SLASH)],
+            &[(NAME, COLON)],
+            &[(NAME, SHORT)],
+            &[(NAME, LONG)],
+            &[(NAME + 1, 0x58000000)],
+            &[(NAME + 1, 0x79000000)],
+            &[(NAME + 1, 0x592F3A00)],
+            &[(NAME, 0x046D6172), (NAME + 1, 0x79000000)],
+        ],
+    );
 }
 
 // A file's header, tested as an entry.
 pub fn header(rt: &impl Print) {
-    good(rt, Kind::Header);
-    unmended(rt, Kind::Header, 81, 488);
-    unmended(rt, Kind::Header, 127, 3);
-    one(rt, Kind::Header, 0, 8);
-    one(rt, Kind::Header, 127, 0xFFFFFFFC);
-    one(rt, Kind::Header, 127, 0xFFFFFFFF);
-    one(rt, Kind::Header, 1, DATA);
-    one(rt, Kind::Header, 125, DIRECTORY);
-    one(rt, Kind::Header, 126, LIST);
-    two(rt, Kind::Header, 126, LIST, 127, 2);
-    one(rt, Kind::Header, NAME, 0x00730000);
-    one(rt, Kind::Header, NAME, 0x013A0000);
-    one(rt, Kind::Header, NAME, 0x01740000);
-    one(rt, Kind::Header, NAME, 0x01530000);
-    one(rt, Kind::Header, 2, 73);
-    one(rt, Kind::Header, 4, 0);
-    one(rt, Kind::Header, 81, 0xFFFFFFFF);
+    let header = Kind {
+        name: "header",
+        key: HEADER,
+        image: header_block(2, DATA, 489, 0),
+        test: |image: &[u8; IMAGE]| entry_fault(SMALL, image, None, HEADER, ROOT, 24),
+    };
+    header.good(rt);
+    header.unmended(rt, &[(81, 488), (127, 3)]);
+    header.changed(
+        rt,
+        &[
+            &[(0, 8)],
+            &[(127, 0xFFFFFFFC)],
+            &[(127, 0xFFFFFFFF)],
+            &[(1, DATA)],
+            &[(125, DIRECTORY)],
+            &[(126, LIST)],
+            &[(126, LIST), (127, 2)],
+            &[(NAME, 0x00730000)],
+            &[(NAME, 0x013A0000)],
+            &[(NAME, 0x01740000)],
+            &[(NAME, 0x01530000)],
+            &[(2, 73)],
+            &[(4, 0)],
+            &[(81, 0xFFFFFFFF)],
+        ],
+    );
 }
 
 // A file's own tests: of 489 bytes, of 35,137 bytes, and of none.
 pub fn file(rt: &impl Print) {
-    good(rt, Kind::File);
-    one(rt, Kind::File, 2, 0);
-    one(rt, Kind::File, 2, 1);
-    one(rt, Kind::File, 2, 3);
-    one(rt, Kind::File, 126, LIST);
-    one(rt, Kind::File, 4, 0);
-    one(rt, Kind::File, 81, 488);
-    one(rt, Kind::File, 81, 976);
-    one(rt, Kind::File, 81, 977);
-    one(rt, Kind::File, 81, 856441);
-    one(rt, Kind::File, 81, 0xFFFFFFFF);
-    good(rt, Kind::Long);
-    one(rt, Kind::Long, 2, 1);
-    one(rt, Kind::Long, 2, 73);
-    one(rt, Kind::Long, 126, 0);
-    one(rt, Kind::Long, 81, 35136);
-    two(rt, Kind::Long, 81, 35136, 126, 0);
-    one(rt, Kind::Long, 81, 856440);
-    one(rt, Kind::Long, 81, 856441);
-    good(rt, Kind::Empty);
-    one(rt, Kind::Empty, 2, 1);
-    one(rt, Kind::Empty, 4, DATA);
-    one(rt, Kind::Empty, 81, 1);
-    one(rt, Kind::Empty, 126, LIST);
-    two(rt, Kind::Empty, 2, 1, 81, 1);
+    let file = Kind {
+        name: "file",
+        key: HEADER,
+        image: header_block(2, DATA, 489, 0),
+        test: |image: &[u8; IMAGE]| file_fault(FLOPPY, image, HEADER),
+    };
+    file.good(rt);
+    file.changed(
+        rt,
+        &[
+            &[(2, 0)],
+            &[(2, 1)],
+            &[(2, 3)],
+            &[(126, LIST)],
+            &[(4, 0)],
+            &[(81, 488)],
+            &[(81, 976)],
+            &[(81, 977)],
+            &[(81, 856441)],
+            &[(81, 0xFFFFFFFF)],
+        ],
+    );
+    let long = Kind {
+        name: "long",
+        key: HEADER,
+        image: header_block(72, DATA, 35137, LIST),
+        test: |image: &[u8; IMAGE]| file_fault(FLOPPY, image, HEADER),
+    };
+    long.good(rt);
+    long.changed(
+        rt,
+        &[
+            &[(2, 1)],
+            &[(2, 73)],
+            &[(126, 0)],
+            &[(81, 35136)],
+            &[(81, 35136), (126, 0)],
+            &[(81, 856440)],
+            &[(81, 856441)],
+        ],
+    );
+    let empty = Kind {
+        name: "empty",
+        key: HEADER,
+        image: header_block(0, 0, 0, 0),
+        test: |image: &[u8; IMAGE]| file_fault(FLOPPY, image, HEADER),
+    };
+    empty.good(rt);
+    empty.changed(
+        rt,
+        &[
+            &[(2, 1)],
+            &[(4, DATA)],
+            &[(81, 1)],
+            &[(126, LIST)],
+            &[(2, 1), (81, 1)],
+        ],
+    );
 }
 
 // A file's own tests on a disk of the Fast File System: of 513 bytes, of 36,865 bytes, and of none. w4 is not tested.
 pub fn fast_file(rt: &impl Print) {
-    good(rt, Kind::FastFile);
-    one(rt, Kind::FastFile, 2, 1);
-    one(rt, Kind::FastFile, 2, 3);
-    one(rt, Kind::FastFile, 4, 0xFFFFFFFF);
-    one(rt, Kind::FastFile, 126, LIST);
-    one(rt, Kind::FastFile, 81, 512);
-    one(rt, Kind::FastFile, 81, 1024);
-    one(rt, Kind::FastFile, 81, 1025);
-    one(rt, Kind::FastFile, 81, 898561);
-    good(rt, Kind::FastLong);
-    one(rt, Kind::FastLong, 126, 0);
-    one(rt, Kind::FastLong, 81, 36864);
-    two(rt, Kind::FastLong, 81, 36864, 126, 0);
-    one(rt, Kind::FastLong, 81, 856441);
-    one(rt, Kind::FastLong, 81, 898560);
-    one(rt, Kind::FastLong, 81, 898561);
-    good(rt, Kind::FastEmpty);
-    one(rt, Kind::FastEmpty, 4, DATA);
-    one(rt, Kind::FastEmpty, 2, 1);
-}
-
-fn listed(rt: &impl Print, image: &[u8; IMAGE], i: usize)
-    requires { i < 72 }
-{
-    say::text(rt, b"listed");
-    say::count(rt, i);
-    say::number(rt, file::key_of(image, HEADER, i));
-    say::end(rt);
+    let file = Kind {
+        name: "fast file",
+        key: HEADER,
+        image: header_block(2, 0, 513, 0),
+        test: |image: &[u8; IMAGE]| file_fault(FAST_FLOPPY, image, HEADER),
+    };
+    file.good(rt);
+    file.changed(
+        rt,
+        &[
+            &[(2, 1)],
+            &[(2, 3)],
+            &[(4, 0xFFFFFFFF)],
+            &[(126, LIST)],
+            &[(81, 512)],
+            &[(81, 1024)],
+            &[(81, 1025)],
+            &[(81, 898561)],
+        ],
+    );
+    let long = Kind {
+        name: "fast long",
+        key: HEADER,
+        image: header_block(72, 0, 36865, LIST),
+        test: |image: &[u8; IMAGE]| file_fault(FAST_FLOPPY, image, HEADER),
+    };
+    long.good(rt);
+    long.changed(
+        rt,
+        &[
+            &[(126, 0)],
+            &[(81, 36864)],
+            &[(81, 36864), (126, 0)],
+            &[(81, 856441)],
+            &[(81, 898560)],
+            &[(81, 898561)],
+        ],
+    );
+    let empty = Kind {
+        name: "fast empty",
+        key: HEADER,
+        image: header_block(0, 0, 0, 0),
+        test: |image: &[u8; IMAGE]| file_fault(FAST_FLOPPY, image, HEADER),
+    };
+    empty.good(rt);
+    empty.changed(rt, &[&[(4, DATA)], &[(2, 1)]]);
 }
 
 // Data keys, downward from w77.
 pub fn keys(rt: &impl Print) {
-    let image = block(HEADER, &[6, 106, 7, 107, 76, 176, 77, 177]);
-    listed(rt, &image, 0);
-    listed(rt, &image, 1);
-    listed(rt, &image, 70);
-    listed(rt, &image, 71);
+    let image = block(HEADER, &[(6, 106), (7, 107), (76, 176), (77, 177)]);
+    for i in [0, 1, 70, 71] {
+        let key = key_of(&image, HEADER, i);
+        let _ = println!(rt; "listed {i} {key}");
+    }
 }
 
-// A list block, with one key still to come.
+fn list_block() -> [u8; IMAGE] {
+    block(
+        LIST,
+        &[(0, 16), (1, LIST), (2, 1), (125, HEADER), (127, 0xFFFFFFFD)],
+    )
+}
+
+// A list block, with 1, 72 and 73 keys still to come.
 pub fn list(rt: &impl Print) {
-    good(rt, Kind::List(1));
-    unmended(rt, Kind::List(1), 77, DATA);
-    unmended(rt, Kind::List(1), 0, 2);
-    one(rt, Kind::List(1), 0, 2);
-    one(rt, Kind::List(1), 0, 8);
-    one(rt, Kind::List(1), 127, 2);
-    one(rt, Kind::List(1), 127, 3);
-    one(rt, Kind::List(1), 127, 0xFFFFFFFC);
-    two(rt, Kind::List(1), 127, 2, 1, 0);
-    one(rt, Kind::List(1), 1, HEADER);
-    one(rt, Kind::List(1), 125, 0);
-    one(rt, Kind::List(1), 125, LIST);
-    two(rt, Kind::List(1), 125, 0, 2, 2);
-    one(rt, Kind::List(1), 4, 1);
-    one(rt, Kind::List(1), 76, 1);
-    one(rt, Kind::List(1), 81, 1);
-    one(rt, Kind::List(1), 124, 1);
+    let one = Kind {
+        name: "list 1",
+        key: LIST,
+        image: list_block(),
+        test: |image: &[u8; IMAGE]| list_fault(SMALL, image, None, LIST, HEADER, 1),
+    };
+    one.good(rt);
+    one.unmended(rt, &[(77, DATA), (0, 2)]);
+    one.changed(
+        rt,
+        &[
+            &[(0, 2)],
+            &[(0, 8)],
+            &[(127, 2)],
+            &[(127, 3)],
+            &[(127, 0xFFFFFFFC)],
+            &[(127, 2), (1, 0)],
+            &[(1, HEADER)],
+            &[(125, 0)],
+            &[(125, LIST)],
+            &[(125, 0), (2, 2)],
+            &[(4, 1)],
+            &[(76, 1)],
+            &[(81, 1)],
+            &[(124, 1)],
+            // its count and w126
+            &[(2, 0)],
+            &[(2, 2)],
+            &[(126, DATA)],
+        ],
+    );
+    let full = Kind {
+        name: "list 72",
+        key: LIST,
+        image: list_block(),
+        test: |image: &[u8; IMAGE]| list_fault(SMALL, image, None, LIST, HEADER, 72),
+    };
+    full.changed(rt, &[&[(2, 71)], &[(2, 72)], &[(2, 72), (126, DATA)]]);
+    let more = Kind {
+        name: "list 73",
+        key: LIST,
+        image: list_block(),
+        test: |image: &[u8; IMAGE]| list_fault(SMALL, image, None, LIST, HEADER, 73),
+    };
+    more.changed(
+        rt,
+        &[
+            &[(2, 72)],
+            &[(2, 73)],
+            &[(2, 72), (126, DATA)],
+            &[(2, 1), (126, DATA)],
+        ],
+    );
 }
 
-// Its count and w126, with 1, 72 and 73 keys still to come.
-pub fn list_counts(rt: &impl Print) {
-    one(rt, Kind::List(1), 2, 0);
-    one(rt, Kind::List(1), 2, 2);
-    one(rt, Kind::List(1), 126, DATA);
-    one(rt, Kind::List(72), 2, 71);
-    one(rt, Kind::List(72), 2, 72);
-    two(rt, Kind::List(72), 2, 72, 126, DATA);
-    one(rt, Kind::List(73), 2, 72);
-    one(rt, Kind::List(73), 2, 73);
-    two(rt, Kind::List(73), 2, 72, 126, DATA);
-    two(rt, Kind::List(73), 2, 1, 126, DATA);
-}
-
-// Data blocks.
+// Data blocks: the last of a file of 489 bytes, one that the block before it does not name, the first, and the one of a
+// file of 488.
 pub fn data(rt: &impl Print) {
-    good(rt, Kind::Last);
-    unmended(rt, Kind::Last, 6, 0x41000000);
-    unmended(rt, Kind::Last, 0, 2);
-    one(rt, Kind::Last, 0, 2);
-    one(rt, Kind::Last, 0, 16);
-    two(rt, Kind::Last, 0, 2, 1, 0);
-    one(rt, Kind::Last, 1, DATA);
-    one(rt, Kind::Last, 2, 1);
-    one(rt, Kind::Last, 2, 3);
-    one(rt, Kind::Last, 3, 0);
-    one(rt, Kind::Last, 3, 2);
-    one(rt, Kind::Last, 3, 488);
-    one(rt, Kind::Last, 4, LIST);
-    one(rt, Kind::Last, 6, 0xFFFFFFFF);
-    one(rt, Kind::Last, 127, 3);
-    good(rt, Kind::Unnamed);
-    one(rt, Kind::Unnamed, 0, 2);
-    good(rt, Kind::First);
-    one(rt, Kind::First, 2, 2);
-    one(rt, Kind::First, 3, 1);
-    one(rt, Kind::First, 3, 489);
-    one(rt, Kind::First, 4, 0);
-    good(rt, Kind::Only);
-    one(rt, Kind::Only, 3, 487);
-    one(rt, Kind::Only, 4, LIST);
+    let last = Kind {
+        name: "last",
+        key: DATA,
+        image: data_block(2, 1, 0),
+        test: |image: &[u8; IMAGE]| data_test(SMALL, image, 489, 2, HEADER),
+    };
+    last.good(rt);
+    last.unmended(rt, &[(6, 0x41000000), (0, 2)]);
+    last.changed(
+        rt,
+        &[
+            &[(0, 2)],
+            &[(0, 16)],
+            &[(0, 2), (1, 0)],
+            &[(1, DATA)],
+            &[(2, 1)],
+            &[(2, 3)],
+            &[(3, 0)],
+            &[(3, 2)],
+            &[(3, 488)],
+            &[(4, LIST)],
+            &[(6, 0xFFFFFFFF)],
+            &[(127, 3)],
+        ],
+    );
+    let unnamed = Kind {
+        name: "unnamed",
+        key: DATA,
+        image: data_block(2, 1, 0),
+        test: |image: &[u8; IMAGE]| data_test(SMALL, image, 489, 2, LIST),
+    };
+    unnamed.good(rt);
+    unnamed.changed(rt, &[&[(0, 2)]]);
+    let first = Kind {
+        name: "first",
+        key: DATA,
+        image: data_block(1, 488, LIST),
+        test: |image: &[u8; IMAGE]| data_test(SMALL, image, 489, 1, HEADER),
+    };
+    first.good(rt);
+    first.changed(rt, &[&[(2, 2)], &[(3, 1)], &[(3, 489)], &[(4, 0)]]);
+    let only = Kind {
+        name: "only",
+        key: DATA,
+        image: data_block(1, 488, 0),
+        test: |image: &[u8; IMAGE]| data_test(SMALL, image, 488, 1, HEADER),
+    };
+    only.good(rt);
+    only.changed(rt, &[&[(3, 487)], &[(4, LIST)]]);
 }
 
 // A data block of the Fast File System may hold anything, and the block before it may name another.
 pub fn fast_data(rt: &impl Print) {
-    good(rt, Kind::FastData);
-    unmended(rt, Kind::FastData, 6, 0x41000000);
-    unmended(rt, Kind::FastData, 0, 2);
-    one(rt, Kind::FastData, 0, 16);
-    one(rt, Kind::FastData, 1, DATA);
-    one(rt, Kind::FastData, 4, LIST);
+    let data = Kind {
+        name: "fast data",
+        key: DATA,
+        image: block(DATA, &[]),
+        test: |image: &[u8; IMAGE]| data_test(SMALL_FAST, image, 513, 2, LIST),
+    };
+    data.good(rt);
+    data.unmended(rt, &[(6, 0x41000000), (0, 2)]);
+    data.changed(rt, &[&[(0, 16)], &[(1, DATA)], &[(4, LIST)]]);
 }

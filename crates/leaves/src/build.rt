@@ -14,15 +14,15 @@ const SUM: usize = 5;
 pub fn of_kind(kind: u8) -> Disk {
     Disk {
         blocks: Disk::DOUBLE_DENSITY,
-        kind: kind,
+        kind,
     }
 }
 
-// Stores word w of a block.
-pub fn put(image: &mut [u8; IMAGE], key: u32, w: usize, value: u32)
-    requires { (key < 8) × (w < 128) }
+// Stores word w of a block, counted modulo 128.
+fn put(image: &mut [u8; IMAGE], key: u32, w: usize, value: u32)
+    requires { key < 8 }
 {
-    words::put_word(image, Block::byte(key, w), value);
+    words::put_word(image, Block::byte(key, w % 128), value);
 }
 
 // Mends the sum of a block.
@@ -31,34 +31,24 @@ pub fn mend(image: &mut [u8; IMAGE], key: u32)
 {
     put(image, key, SUM, 0);
     let sum = sum_of(image, key);
-    put(image, key, SUM, std::num::wrapping_sub_u32(0, sum));
+    put(image, key, SUM, sum.wrapping_neg());
 }
 
-// The number of a word.
-fn number(w: u32) -> usize
-    ensures { result < 128 }
-{
-    w as usize % 128
-}
-
-// Stores some words of a block. Each is two numbers: which word, and its value.
-pub fn fill(image: &mut [u8; IMAGE], key: u32, all: &[u32])
+// Stores some words of a block: which word, and its value.
+pub fn fill(image: &mut [u8; IMAGE], key: u32, words: &[(usize, u32)])
     requires { key < 8 }
 {
-    let n = all.len() / 2;
-    let mut i: usize = 0;
-    while i < n {
-        put(image, key, number(all[2 * i]), all[2 * i + 1]);
-        i += 1;
+    for (w, value) in words {
+        put(image, key, *w, *value);
     }
 }
 
 // An image in which one block has these words and a good sum, and all else is 0.
-pub fn block(key: u32, all: &[u32]) -> [u8; IMAGE]
+pub fn block(key: u32, words: &[(usize, u32)]) -> [u8; IMAGE]
     requires { key < 8 }
 {
     let mut image = [0u8; IMAGE];
-    fill(&mut image, key, all);
+    fill(&mut image, key, words);
     mend(&mut image, key);
     image
 }

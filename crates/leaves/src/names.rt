@@ -1,153 +1,151 @@
 // Slots, folding, and what a name may be.
-use crate::build::{IMAGE, block, fill, of_kind};
-use console::say;
+use crate::build::{block, fill, of_kind};
 use std::io::Print;
 use volume::disk::Disk;
 use volume::name;
 
-fn slot(rt: &impl Print, text: &[u8]) {
-    let n = text.len();
-    if n <= 255 {
-        say::text(rt, b"slot ");
-        say::text(rt, text);
-        say::number(rt, name::slot(of_kind(Disk::OLD), text, 0, n));
-        say::end(rt);
+// The slot of each name on a disk of each kind; a name is spelled first.
+pub fn slots(rt: &impl Print, word: &str, kinds: &[u8], all: &[(&str, &[u8])]) {
+    for (spelled, name) in all {
+        let _ = print!(rt; "{word} {spelled}");
+        for kind in kinds {
+            if name.len() <= 255 {
+                let slot = name::slot(of_kind(*kind), name);
+                let _ = print!(rt; " {slot}");
+            }
+        }
+        let _ = println!(rt;);
     }
 }
 
-pub fn slots(rt: &impl Print) {
-    slot(rt, b"a");
-    slot(rt, b"A");
-    slot(rt, b"c");
-    slot(rt, b"s");
-    slot(rt, b"MARY");
-    slot(rt, b"mary");
-    slot(rt, b"YRAM");
-    slot(rt, b"a{b}`~");
-    slot(rt, b"abcdefghijklmnopqrstuvwxyz0123");
-    say::text(rt, b"slot high");
-    say::number(rt, name::slot(of_kind(Disk::OLD), b"\xE0\xC0", 0, 2));
-    say::end(rt);
-    say::text(rt, b"slot part");
-    say::number(rt, name::slot(of_kind(Disk::OLD), b"/MARY/", 1, 4));
-    say::end(rt);
-}
-
-fn fold(rt: &impl Print, b: u8) {
-    say::text(rt, b"fold");
-    say::byte(rt, b);
-    say::byte(rt, name::fold(of_kind(Disk::OLD), b));
-    say::end(rt);
-}
-
-pub fn folds(rt: &impl Print) {
-    fold(rt, 0x40);
-    fold(rt, 0x41);
-    fold(rt, 0x5A);
-    fold(rt, 0x60);
-    fold(rt, 0x61);
-    fold(rt, 0x7A);
-    fold(rt, 0x7B);
-    fold(rt, 0xE0);
-}
-
-fn allow(rt: &impl Print, text: &[u8]) {
-    say::text(rt, b"allowed ");
-    say::text(rt, text);
-    say::truth(rt, name::is_allowed(text, 0, text.len()));
-    say::end(rt);
-}
-
-pub fn allowed(rt: &impl Print) {
-    allow(rt, b"MARY");
-    allow(rt, b".09;");
-    allow(rt, b"/");
-    allow(rt, b":");
-    allow(rt, b"a/b");
-    allow(rt, b"a:b");
-    allow(rt, b"ab/");
-    allow(rt, b"ab:");
-    say::text(rt, b"allowed part");
-    say::truth(rt, name::is_allowed(b"/MARY:", 1, 4));
-    say::end(rt);
-}
-
-fn pair(rt: &impl Print, one: &[u8], two: &[u8]) {
-    let n = one.len();
-    if n == two.len() {
-        say::text(rt, b"same ");
-        say::text(rt, one);
-        say::text(rt, b" ");
-        say::text(rt, two);
-        say::truth(rt, name::same_bytes(of_kind(Disk::OLD), one, 0, two, 0, n));
-        say::end(rt);
+// Each byte, and as it is folded on a disk of each kind.
+pub fn folds(rt: &impl Print, word: &str, kinds: &[u8], all: &[u8]) {
+    for byte in all {
+        let _ = print!(rt; "{word} {byte:02x}");
+        for kind in kinds {
+            let folded = name::fold(of_kind(*kind), *byte);
+            let _ = print!(rt; " {folded:02x}");
+        }
+        let _ = println!(rt;);
     }
 }
 
-pub fn pairs(rt: &impl Print) {
-    pair(rt, b"Mary", b"mARY");
-    pair(rt, b"Mary", b"Marx");
-    pair(rt, b"mary", b"nary");
-    pair(rt, b"@", b"`");
-    pair(rt, b"[", b"{");
-    pair(rt, b"a1", b"A1");
-}
-
-// Whether a block of the name "MARY" has a name.
-fn has(rt: &impl Print, text: &[u8]) {
-    let image = block(2, &[108, 0x044D4152, 109, 0x59000000]);
-    if name::name_length(&image, 2) <= name::LONGEST {
-        say::text(rt, b"has ");
-        say::text(rt, text);
-        say::truth(
-            rt,
-            name::has_name(of_kind(Disk::OLD), &image, 2, text, 0, text.len()),
-        );
-        say::end(rt);
+// Whether the two names of each pair are equal on a disk of each kind; the pair is spelled first.
+pub fn pairs(rt: &impl Print, kinds: &[u8], all: &[(&str, &[u8], &[u8])]) {
+    for (spelled, one, two) in all {
+        let _ = print!(rt; "same {spelled}");
+        for kind in kinds {
+            let same = u8::from(name::same(of_kind(*kind), one, two));
+            let _ = print!(rt; " {same}");
+        }
+        let _ = println!(rt;);
     }
 }
+
+// On a disk that folds no accents.
+pub fn plain(rt: &impl Print) {
+    let part: &[u8] = b"/MARY/";
+    slots(
+        rt,
+        "slot",
+        &[Disk::OLD],
+        &[
+            ("a", b"a"),
+            ("A", b"A"),
+            ("c", b"c"),
+            ("s", b"s"),
+            ("MARY", b"MARY"),
+            ("mary", b"mary"),
+            ("YRAM", b"YRAM"),
+            ("a{b}`~", b"a{b}`~"),
+            (
+                "abcdefghijklmnopqrstuvwxyz0123",
+                b"abcdefghijklmnopqrstuvwxyz0123",
+            ),
+            ("high", b"\xE0\xC0"),
+            ("part", &part[1..5]),
+        ],
+    );
+    folds(
+        rt,
+        "fold",
+        &[Disk::OLD],
+        &[0x40, 0x41, 0x5A, 0x60, 0x61, 0x7A, 0x7B, 0xE0],
+    );
+    allowed(rt);
+    pairs(
+        rt,
+        &[Disk::OLD],
+        &[
+            ("Mary mARY", b"Mary", b"mARY"),
+            ("Mary Marx", b"Mary", b"Marx"),
+            ("mary nary", b"mary", b"nary"),
+            ("@ `", b"@", b"`"),
+            ("[ {", b"[", b"{"),
+            ("a1 A1", b"a1", b"A1"),
+        ],
+    );
+}
+
+// What a name may be.
+fn allowed(rt: &impl Print) {
+    for text in ["MARY", ".09;", "/", ":", "a/b", "a:b", "ab/", "ab:"] {
+        let allowed = u8::from(name::is_allowed(text.as_bytes()));
+        let _ = println!(rt; "allowed {text} {allowed}");
+    }
+    let part: &[u8] = b"/MARY:";
+    let allowed = u8::from(name::is_allowed(&part[1..5]));
+    let _ = println!(rt; "allowed part {allowed}");
+}
+
+// The first words of a block's name, of the name "MARY".
+const FIRST: u32 = 0x044D4152;
+
+const SECOND: u32 = 0x59000000;
 
 // The length, whether it is good, and the slot of a block's name, by its length and its first seven bytes.
 fn named(rt: &impl Print, first: u32, second: u32) {
-    let image = block(2, &[108, first, 109, second]);
-    let n = name::name_length(&image, 2);
-    say::text(rt, b"name");
-    say::count(rt, n);
-    say::truth(rt, name::name_good(&image, 2));
-    if n <= name::LONGEST {
-        say::number(rt, name::slot_of(of_kind(Disk::OLD), &image, 2));
+    let image = block(2, &[(108, first), (109, second)]);
+    let length = name::name_length(&image, 2);
+    let good = u8::from(name::name_good(&image, 2));
+    let _ = print!(rt; "name {length} {good}");
+    if length <= name::LONGEST {
+        let slot = name::slot_of(of_kind(Disk::OLD), &image, 2);
+        let _ = print!(rt; " {slot}");
     }
-    say::end(rt);
+    let _ = println!(rt;);
 }
 
-// Whether block 2 and block 3 have one name.
-fn same_names(rt: &impl Print, image: &[u8; IMAGE]) {
-    if name::name_length(image, 2) <= name::LONGEST {
-        if name::name_length(image, 3) <= name::LONGEST {
-            say::text(rt, b"same names");
-            say::truth(rt, name::same_names(of_kind(Disk::OLD), image, 2, 3));
-            say::end(rt);
-        }
+// Whether a block of the name "MARY" has a name.
+fn has(rt: &impl Print, text: &str) {
+    let image = block(2, &[(108, FIRST), (109, SECOND)]);
+    if name::name_length(&image, 2) <= name::LONGEST {
+        let has = u8::from(name::has_name(of_kind(Disk::OLD), &image, 2, text.as_bytes()));
+        let _ = println!(rt; "has {text} {has}");
     }
 }
 
-// A block of the name "MARY", and one of another name.
+// Whether a block of the name "MARY" and one of this name have one name.
 fn both(rt: &impl Print, first: u32, second: u32) {
-    let mut image = block(2, &[108, 0x044D4152, 109, 0x59000000]);
-    fill(&mut image, 3, &[108, first, 109, second]);
-    same_names(rt, &image);
+    let mut image = block(2, &[(108, FIRST), (109, SECOND)]);
+    fill(&mut image, 3, &[(108, first), (109, second)]);
+    if name::name_length(&image, 2) <= name::LONGEST
+        && name::name_length(&image, 3) <= name::LONGEST
+    {
+        let same = u8::from(name::same_names(of_kind(Disk::OLD), &image, 2, 3));
+        let _ = println!(rt; "same names {same}");
+    }
 }
 
 // Names of blocks: "MARY", none and one of 31 bytes; and beside "MARY", "mary", "Mar" and "MARX".
 pub fn in_blocks(rt: &impl Print) {
-    named(rt, 0x044D4152, 0x59000000);
-    named(rt, 0x004D4152, 0x59000000);
-    named(rt, 0x1F4D4152, 0x59000000);
-    has(rt, b"Mary");
-    has(rt, b"Marx");
-    has(rt, b"Mar");
-    has(rt, b"Marys");
+    named(rt, FIRST, SECOND);
+    named(rt, 0x004D4152, SECOND);
+    named(rt, 0x1F4D4152, SECOND);
+    for text in ["Mary", "Marx", "Mar", "Marys"] {
+        has(rt, text);
+    }
     both(rt, 0x046D6172, 0x79000000);
-    both(rt, 0x034D6172, 0x59000000);
-    both(rt, 0x044D4152, 0x58000000);
+    both(rt, 0x034D6172, SECOND);
+    both(rt, FIRST, 0x58000000);
 }

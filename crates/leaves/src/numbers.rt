@@ -3,20 +3,22 @@ ghost use Rattle.std.specs.Prelude.{◌<◌, ◌≤◌};
 ghost use Rattle.volume.specs.Disks.{Sized, most_blocks};
 
 use crate::build::{IMAGE, block, fill, mend, of_kind};
-use console::{say, streams};
+use console::rooms;
+use console::rooms::room;
 use std::io::Print;
 use volume::bitmap::{Bit, is_free};
 use volume::block::{Block, sum_of};
 use volume::disk::Disk;
-use volume::file;
+use volume::file::{keys_here, last_keys, list_blocks};
 
 // The words at 0, 2 and 4, where the middle one straddles the others.
 fn three(rt: &impl Print, bytes: &[u8; 8]) {
-    say::text(rt, b"word");
-    say::word(rt, words::word(bytes, 0));
-    say::word(rt, words::word(bytes, 2));
-    say::word(rt, words::word(bytes, 4));
-    say::end(rt);
+    let _ = print!(rt; "word");
+    for at in 0..3 {
+        let word = words::word(bytes, 2 * at);
+        let _ = print!(rt; " {word:08x}");
+    }
+    let _ = println!(rt;);
 }
 
 pub fn words(rt: &impl Print) {
@@ -35,29 +37,24 @@ pub fn words(rt: &impl Print) {
 fn sum(rt: &impl Print, image: &[u8; IMAGE], key: u32)
     requires { key < 8 }
 {
-    say::text(rt, b"sum");
-    say::number(rt, key);
-    say::word(rt, sum_of(image, key));
-    say::end(rt);
+    let sum = sum_of(image, key);
+    let _ = println!(rt; "sum {key} {sum:08x}");
 }
 
-// The sum of 128 words from the last of block 1 on.
-fn sum_part(rt: &impl Print, image: &[u8; IMAGE]) {
-    say::text(rt, b"sum part");
-    say::word(rt, words::block_sum(image, 1020));
-    say::end(rt);
-}
-
-// Two blocks whose words wrap, a block's length from the middle of one, and a block whose sum was mended.
+// Two blocks whose words wrap, the sum of 128 words from the last of block 1 on, and a block whose sum was mended.
 pub fn sums(rt: &impl Print) {
     let mut image = [0u8; IMAGE];
-    fill(&mut image, 2, &[0, 0xFFFFFFFF, 127, 4]);
-    fill(&mut image, 3, &[0, 0x80000000, 64, 0x80000000, 127, 1]);
-    sum(rt, &image, 1);
-    sum(rt, &image, 2);
-    sum(rt, &image, 3);
-    sum(rt, &image, 4);
-    sum_part(rt, &image);
+    fill(&mut image, 2, &[(0, 0xFFFFFFFF), (127, 4)]);
+    fill(
+        &mut image,
+        3,
+        &[(0, 0x80000000), (64, 0x80000000), (127, 1)],
+    );
+    for key in 1..5 {
+        sum(rt, &image, key);
+    }
+    let part = words::block_sum(&image, 1020);
+    let _ = println!(rt; "sum part {part:08x}");
     mend(&mut image, 2);
     sum(rt, &image, 2);
 }
@@ -65,42 +62,29 @@ pub fn sums(rt: &impl Print) {
 fn bit(rt: &impl Print, key: u32)
     requires { 2 ≤ key }
 {
-    let b = Bit::of(key);
-    say::text(rt, b"bit");
-    say::number(rt, key);
-    say::count(rt, b.word);
-    say::number(rt, b.number);
-    say::end(rt);
+    let Bit { word, number } = Bit::of(key);
+    let _ = println!(rt; "bit {key} {word} {number}");
 }
 
 // Whether a block is free where one word of the bitmap is not 0.
-fn free(rt: &impl Print, w: u32, value: u32, key: u32)
+fn free(rt: &impl Print, w: usize, value: u32, key: u32)
     requires { (2 ≤ key) × (key < 1760) }
 {
-    let image = block(7, &[w, value]);
-    say::text(rt, b"free");
-    say::number(rt, key);
-    say::truth(rt, is_free(&image, 7, key));
-    say::end(rt);
+    let image = block(7, &[(w, value)]);
+    let free = u8::from(is_free(&image, 7, key));
+    let _ = println!(rt; "free {key} {free}");
 }
 
 pub fn bits(rt: &impl Print) {
-    bit(rt, 2);
-    bit(rt, 33);
-    bit(rt, 34);
-    bit(rt, 880);
-    bit(rt, 1759);
-    bit(rt, 3519);
-    free(rt, 28, 0x4000, 848);
-    free(rt, 28, 0x4000, 879);
-    free(rt, 28, 0x4000, 880);
-    free(rt, 28, 0x4000, 881);
-    free(rt, 28, 0x4000, 912);
-    free(rt, 1, 0x80000000, 2);
-    free(rt, 1, 0x80000000, 32);
-    free(rt, 1, 0x80000000, 33);
-    free(rt, 1, 0x80000000, 34);
-    free(rt, 1, 0x80000000, 65);
+    for key in [2, 33, 34, 880, 1759, 3519] {
+        bit(rt, key);
+    }
+    for key in [848, 879, 880, 881, 912] {
+        free(rt, 28, 0x4000, key);
+    }
+    for key in [2, 32, 33, 34, 65] {
+        free(rt, 1, 0x80000000, key);
+    }
 }
 
 // Data blocks, keys in the header, list blocks, and keys in the last block that has any.
@@ -108,65 +92,41 @@ fn size(rt: &impl Print, disk: Disk, bytes: u32)
     requires { Sized disk }
 {
     if bytes <= disk.file_limit() {
+        let kind = disk.kind;
         let n = disk.data_blocks(bytes);
-        say::text(rt, b"size");
-        say::number(rt, disk.kind as u32);
-        say::number(rt, bytes);
-        say::number(rt, n);
-        say::number(rt, file::keys_here(n));
-        say::number(rt, file::list_blocks(n));
-        say::number(rt, file::last_keys(n));
-        say::end(rt);
+        let (here, lists, last) = (keys_here(n), list_blocks(n), last_keys(n));
+        let _ = println!(rt; "size {kind} {bytes} {n} {here} {lists} {last}");
     }
 }
 
-// The files of a disk: none, and 1, 72, 73, 144 and 145 data blocks; the largest.
+// The files of a disk of each file system: none, and 1, 72, 73, 144 and 145 data blocks; the largest.
 pub fn sizes(rt: &impl Print) {
-    let disk = Disk {
+    let old = Disk {
         blocks: 3520,
         kind: 0,
     };
-    size(rt, disk, 0);
-    size(rt, disk, 1);
-    size(rt, disk, 488);
-    size(rt, disk, 489);
-    size(rt, disk, 35136);
-    size(rt, disk, 35137);
-    size(rt, disk, 70272);
-    size(rt, disk, 70273);
-    size(rt, disk, 856440);
-    size(rt, disk, 856441);
-    size(rt, disk, 1715320);
-}
-
-// On a disk of the Fast File System.
-pub fn fast_sizes(rt: &impl Print) {
-    let disk = Disk {
+    for bytes in [
+        0, 1, 488, 489, 35136, 35137, 70272, 70273, 856440, 856441, 1715320,
+    ] {
+        size(rt, old, bytes);
+    }
+    let fast = Disk {
         blocks: 3520,
         kind: 1,
     };
-    size(rt, disk, 0);
-    size(rt, disk, 1);
-    size(rt, disk, 512);
-    size(rt, disk, 513);
-    size(rt, disk, 36864);
-    size(rt, disk, 36865);
-    size(rt, disk, 73728);
-    size(rt, disk, 73729);
-    size(rt, disk, 898560);
-    size(rt, disk, 898561);
-    size(rt, disk, 1799680);
+    for bytes in [
+        0, 1, 512, 513, 36864, 36865, 73728, 73729, 898560, 898561, 1799680,
+    ] {
+        size(rt, fast, bytes);
+    }
 }
 
 // The bytes that data block n of a file holds.
 fn hold(rt: &impl Print, bytes: u32, n: u32)
     requires { (1 ≤ n) × (n ≤ most_blocks) }
 {
-    say::text(rt, b"held");
-    say::number(rt, bytes);
-    say::number(rt, n);
-    say::number(rt, of_kind(Disk::OLD).held(bytes, n));
-    say::end(rt);
+    let held = of_kind(Disk::OLD).held(bytes, n);
+    let _ = println!(rt; "held {bytes} {n} {held}");
 }
 
 pub fn held(rt: &impl Print) {
@@ -183,139 +143,86 @@ pub fn held(rt: &impl Print) {
     hold(rt, 1715320, 3515);
 }
 
-// Whether a key is one of a disk of so many blocks.
-fn key(rt: &impl Print, blocks: u32, k: u32) {
-    let disk = Disk {
-        blocks: blocks,
-        kind: 0,
-    };
-    say::text(rt, b"key");
-    say::number(rt, blocks);
-    say::number(rt, k);
-    say::truth(rt, disk.in_range(k));
-    say::end(rt);
-}
-
-// Whether four bytes are the tag of a disk of each kind, and the kind that they are taken for.
-fn tagged(rt: &impl Print, a: u8, b: u8, c: u8, d: u8) {
-    let bytes = [a, b, c, d];
-    say::text(rt, b"tagged");
-    say::word(rt, words::word(&bytes, 0));
-    say::truth(rt, of_kind(Disk::OLD).has_tag(&bytes));
-    say::truth(rt, of_kind(Disk::FAST).has_tag(&bytes));
-    say::truth(rt, of_kind(Disk::OLD_INTERNATIONAL).has_tag(&bytes));
-    say::truth(rt, of_kind(Disk::FAST_INTERNATIONAL).has_tag(&bytes));
-    say::number(rt, Disk::of(0, &bytes).kind as u32);
-    say::end(rt);
-}
-
 // The numbers of a disk: its blocks and kind; image bytes, claim bytes, root, blocks with a bit, entries on a chain;
 // how many bytes of a file a data block holds, where they begin, and the largest size of a file.
 fn numbers(rt: &impl Print, disk: Disk)
     requires { Sized disk }
 {
-    say::text(rt, b"disk");
-    say::number(rt, disk.blocks);
-    say::number(rt, disk.kind as u32);
-    say::count(rt, disk.image_bytes());
-    say::count(rt, disk.claim_bytes());
-    say::number(rt, disk.root());
-    say::number(rt, disk.bit_span());
-    say::number(rt, disk.chain_limit());
-    say::number(rt, disk.data_bytes());
-    say::number(rt, disk.data_start());
-    say::number(rt, disk.file_limit());
-    say::end(rt);
+    let Disk { blocks, kind } = disk;
+    let (image, claim) = (disk.image_bytes(), disk.claim_bytes());
+    let (root, span, chain) = (disk.root(), disk.bit_span(), disk.chain_limit());
+    let (held, start, most) = (disk.data_bytes(), disk.data_start(), disk.file_limit());
+    let _ = print!(rt; "disk {blocks} {kind} {image} {claim} {root} {span} {chain}");
+    let _ = println!(rt; " {held} {start} {most}");
 }
 
 // The disks of each kind that have so many blocks.
 fn of_size(rt: &impl Print, blocks: u32)
     requires { (8 ≤ blocks) × (blocks ≤ most_blocks) }
 {
-    numbers(
-        rt,
-        Disk {
-            blocks: blocks,
-            kind: 0,
-        },
-    );
-    numbers(
-        rt,
-        Disk {
-            blocks: blocks,
-            kind: 1,
-        },
-    );
-    numbers(
-        rt,
-        Disk {
-            blocks: blocks,
-            kind: 2,
-        },
-    );
-    numbers(
-        rt,
-        Disk {
-            blocks: blocks,
-            kind: 3,
-        },
-    );
+    for kind in 0..4 {
+        numbers(rt, Disk { blocks, kind });
+    }
 }
 
-// The size that a call which names a number takes an image for.
-fn taken(rt: &impl Print, named: u32, image: &[u8]) {
-    say::text(rt, b"taken");
-    say::number(rt, named);
-    say::count(rt, image.len());
-    say::number(rt, Disk::of(named, image).blocks);
-    say::end(rt);
+// The size that a call takes an image for which names in turn no number, each size, and a number that is no size.
+fn taken(rt: &impl Print, image: &[u8]) {
+    let length = image.len();
+    for named in [0, 1760, 3520, 880] {
+        let blocks = Disk::of(named, image).blocks;
+        let _ = println!(rt; "taken {named} {length} {blocks}");
+    }
 }
 
-// Named in turn: none, each size, and a number that is no size.
-fn all_named(rt: &impl Print, image: &[u8]) {
-    taken(rt, 0, image);
-    taken(rt, 1760, image);
-    taken(rt, 3520, image);
-    taken(rt, 880, image);
+// Whether four bytes are the tag of a disk of each kind, and the kind that they are taken for.
+fn tagged(rt: &impl Print, bytes: [u8; 4]) {
+    let word = u32::from_be_bytes(bytes);
+    let _ = print!(rt; "tagged {word:08x}");
+    for kind in 0..4 {
+        let has = u8::from(of_kind(kind).has_tag(&bytes));
+        let _ = print!(rt; " {has}");
+    }
+    let kind = Disk::of(0, &bytes).kind;
+    let _ = println!(rt; " {kind}");
 }
 
-// The same of an image of so many bytes.
-fn named(rt: &impl Print, bytes: isize, room: &[u8]) {
-    let n = streams::count(bytes, room);
-    all_named(rt, &room[..n]);
+// Whether a key is one of a disk of so many blocks.
+fn key(rt: &impl Print, blocks: u32, key: u32) {
+    let disk = Disk { blocks, kind: 0 };
+    let within = u8::from(disk.in_range(key));
+    let _ = println!(rt; "key {blocks} {key} {within}");
 }
 
 pub fn disk(rt: &impl Print) {
     of_size(rt, 1760);
     of_size(rt, 3520);
-    let room = console::rooms::image();
-    named(rt, 1802240, &room);
-    named(rt, 1802239, &room);
-    named(rt, 901121, &room);
-    named(rt, 901120, &room);
-    named(rt, 0, &room);
-    say::text(rt, b"place 880 w127");
-    say::count(rt, Block::byte(880, 127));
-    say::text(rt, b"\ntag");
-    say::word(rt, of_kind(Disk::OLD).tag());
-    say::end(rt);
-    tagged(rt, 0x44, 0x4F, 0x53, 0x00);
-    tagged(rt, 0x44, 0x4F, 0x53, 0x01);
-    tagged(rt, 0x44, 0x4F, 0x53, 0x02);
-    tagged(rt, 0x44, 0x4F, 0x53, 0x03);
-    tagged(rt, 0x44, 0x4F, 0x53, 0x04);
-    tagged(rt, 0x44, 0x4F, 0x53, 0xFF);
-    tagged(rt, 0x44, 0x4F, 0x73, 0x00);
-    tagged(rt, 0x44, 0x4F, 0x73, 0x02);
-    tagged(rt, 0x00, 0x53, 0x4F, 0x44);
-    key(rt, 1760, 0);
-    key(rt, 1760, 1);
-    key(rt, 1760, 2);
-    key(rt, 1760, 1759);
-    key(rt, 1760, 1760);
-    key(rt, 1760, 0xFFFFFFFF);
-    key(rt, 3520, 1);
-    key(rt, 3520, 2);
-    key(rt, 3520, 3519);
-    key(rt, 3520, 3520);
+    let room: [u8; rooms::IMAGE] = room(0);
+    for length in [1802240, 1802239, 901121, 901120, 0] {
+        if let Some(image) = room.get(..length) {
+            taken(rt, image);
+        }
+    }
+    let place = Block::byte(880, 127);
+    let _ = println!(rt; "place 880 w127 {place}");
+    let tag = of_kind(Disk::OLD).tag();
+    let _ = println!(rt; "tag {tag:08x}");
+    for bytes in [
+        *b"DOS\x00",
+        *b"DOS\x01",
+        *b"DOS\x02",
+        *b"DOS\x03",
+        *b"DOS\x04",
+        *b"DOS\xFF",
+        *b"DOs\x00",
+        *b"DOs\x02",
+        *b"\x00SOD",
+    ] {
+        tagged(rt, bytes);
+    }
+    for k in [0, 1, 2, 1759, 1760, 0xFFFFFFFF] {
+        key(rt, 1760, k);
+    }
+    for k in [1, 2, 3519, 3520] {
+        key(rt, 3520, k);
+    }
 }

@@ -4,14 +4,15 @@ use mathlib.Core.Path.{◌≡◌}
 use mathlib.Core.List.{List}
 use native.Mathlib.Omega.{arith}
 use lib.ListN.{length}
-use Rattle.program.specs.declared.check.Answer.{Answer}
-use Rattle.program.specs.declared.check.Answer.TheVariants.{Accepted}
+use Rattle.std.specs.Prelude.{Ok}
+use Rattle.program.specs.declared.check.Extent.{Extent}
+use Rattle.program.specs.Check.{Answer}
 use Rattle.loader.specs.Calls.{records_in, Loads}
 use Rattle.loader.proofs.Answering.{load_facts}
 
 pub fits :
-    (file bases m table w : List ℕ) (r : Answer) (m1 t1 w1 : List ℕ) (t n : ℕ) →
-    Loads file bases m table w r m1 t1 w1 → length m1 ≡ length m → r ≡ Accepted t n → n ≤ length m1
-fits file bases m table w r m1 t1 w1 t n l k e =
-    let f = load_facts file bases (length m) (records_in table) (length w) t n r l.answer e in
+    (file bases m table w : List ℕ) (r : Answer) (m1 t1 w1 : List ℕ) (x : Extent) →
+    Loads file bases m table w r m1 t1 w1 → length m1 ≡ length m → r ≡ Ok x → x.bytes ≤ length m1
+fits file bases m table w r m1 t1 w1 x l k e =
+    let f = load_facts file bases (length m) (records_in table) (length w) x.hunks x.bytes r l.answer e in
     omega (arith, f.fits, f.file_accepted.bytes)

@@ -2,19 +2,20 @@
 // there are none.
 #![tactic(auto)]
 
-ghost use Rattle.std.specs.Prelude.{◌≡◌, length, ◌<◌, ◌≤◌};
+ghost use Rattle.std.specs.Prelude.{◌≤◌};
 
 use answers::{Fault, Refusal};
-use console::{hex, say, streams};
+use console::rooms::room;
+use console::{hex, streams};
 use loader::table::TABLE_ROOM;
-use program::check::Answer;
+use std::array;
 use std::io::Print;
 
 // The longest file that is taken.
 const LONGEST: usize = 16384;
 
 // One byte more, to see that a file is longer.
-const FILE_ROOM: usize = 16385;
+const FILE_ROOM: usize = LONGEST + 1;
 
 // How long the memory and the work area are.
 const AREA: usize = 16384;
@@ -27,89 +28,38 @@ const FIRST: u32 = 0x3000;
 
 const STEP: u32 = 0x4000;
 
-// Room for a file. The `ensures` gives only the length, so that no proof computes the list.
-fn file_room() -> [u8; FILE_ROOM]
-    ensures { 16385 ≡ length result }
-{
-    [0; FILE_ROOM]
-}
-
-// Memory, or a work area.
-fn area() -> [u8; AREA]
-    ensures { 16384 ≡ length result }
-{
-    [0; AREA]
-}
-
-// The base of hunk i.
-fn base(i: usize) -> u32
-    requires { i < 64 }
-{
-    FIRST + STEP * i as u32
-}
-
-// The base of each hunk.
-fn bases() -> [u32; HUNKS] {
-    let mut list = [0u32; HUNKS];
-    let mut i: usize = 0;
-    while i < HUNKS {
-        list[i] = base(i);
-        i += 1;
-    }
-    list
-}
-
 // How many hunks the header says, as far as there are bases.
 fn hunks(file: &[u8]) -> usize
     ensures { result ≤ 64 }
 {
-    if file.len() < 12 {
-        return 0;
-    }
-    let total = words::word(file, 8) as usize;
-    if total > HUNKS {
-        return HUNKS;
-    }
-    total
+    let total = file.get(8..).and_then(|rest| rest.first_chunk());
+    total.map_or(0, |total| HUNKS.min(u32::from_be_bytes(*total) as usize))
 }
 
 // Writes why there are no words.
 fn refused(rt: &impl Print, fault: Refusal) {
-    say::refusal(rt, fault);
-    say::end(rt);
+    let Refusal { number, place } = fault;
+    let _ = println!(rt; "refused {number} at {place}");
 }
 
-// Loads the file at these bases, and writes what comes of it.
-fn load(rt: &impl Print, file: &[u8], bases: &[u32], memory: &mut [u8], work: &mut [u8]) {
-    let mut table = [0u32; TABLE_ROOM];
-    let answer = loader::calls::load(file, bases, memory, &mut table, work);
-    match answer {
-        Answer::Accepted(_, n) => hex::words(rt, &memory[..n]),
-        Answer::Refused(fault) => refused(rt, fault),
-    }
-}
-
-// The same with areas and bases of its own.
+// Loads the file, and writes what comes of it.
 fn run(rt: &impl Print, file: &[u8]) {
-    let list = bases();
-    let mut memory = area();
-    let mut work = area();
-    let n = hunks(file);
-    load(rt, file, &list[..n], &mut memory, &mut work);
+    let bases: [u32; HUNKS] = array::from_fn(|i| FIRST + STEP * i as u32);
+    let mut memory: [u8; AREA] = room(0);
+    let mut work: [u8; AREA] = room(0);
+    let mut table: [u32; TABLE_ROOM] = room(0);
+    let bases = &bases[..hunks(file)];
+    match loader::calls::load(file, bases, &mut memory, &mut table, &mut work) {
+        Ok(extent) => hex::words(rt, &memory[..extent.bytes]),
+        Err(fault) => refused(rt, fault),
+    }
 }
 
 fn main(rt: HostRuntime) {
-    let mut room = file_room();
-    let got = streams::read_full(&mut rt.stdin(), &mut room);
-    if got > LONGEST {
-        refused(
-            &rt,
-            Refusal {
-                number: Fault::SHORT_ROOM,
-                place: 0,
-            },
-        );
-        return;
+    let mut file: [u8; FILE_ROOM] = room(0);
+    let length = streams::read_full(&mut rt.stdin(), &mut file);
+    if length > LONGEST {
+        return refused(&rt, Fault::ShortRoom.at(0));
     }
-    run(&rt, &room[..got]);
+    run(&rt, &file[..length]);
 }

@@ -1,141 +1,103 @@
-// The frame of a request, bodies, and the answers that every request may get.
-use console::{say, streams};
-use volume::disk::Disk;
+// The frame of a request, and its body.
+use console::rooms;
+use console::streams::read_full;
 
-// How many bytes `streams::buffer` has.
-const PIECE: u32 = 4096;
+// How many bytes are read at once to be forgotten.
+const PIECE: usize = 4096;
 
-// What is kept from one request to the next: the number of blocks that calls name, the lengths of the held image and of
-// the held file, the bytes of memory and the records that the last load was lent, and whether there may be another
-// request.
-#[derive(Drop)]
-pub struct State {
-    pub named: u32,
-    pub image: u32,
-    pub file: u32,
-    pub memory: u32,
-    pub records: u32,
-    pub more: bool,
-}
+// The most numbers of a body: three lengths, a count, and two lists of bases; and its bytes.
+pub const NUMBERS: usize = 516;
 
-// Before the first request nothing is held, and calls name double density.
-pub fn start() -> State {
-    State {
-        named: Disk::DOUBLE_DENSITY,
-        image: 0,
-        file: 0,
-        memory: 0,
-        records: 0,
-        more: true,
-    }
-}
+const BYTES: usize = 2064;
 
-impl State {
-    // Calls name so many blocks from now on.
-    pub fn with_named(mut self, blocks: u32) -> State {
-        self.named = blocks;
-        self
-    }
+// Why a request is answered as a bad one.
+#[derive(Clone, Copy, Debug, PartialEq, Eq)]
+pub enum Wrong {
+    // It is none, or it asks for too much.
+    Bad,
 
-    // An image of so many bytes is held now.
-    pub fn with_image(mut self, length: u32) -> State {
-        self.image = length;
-        self
-    }
-
-    // A file of so many bytes is held now.
-    pub fn with_file(mut self, length: u32) -> State {
-        self.file = length;
-        self
-    }
-
-    // A load was lent so many bytes of memory and so many records.
-    pub fn with_load(mut self, memory: u32, records: u32) -> State {
-        self.memory = memory;
-        self.records = records;
-        self
-    }
-
-    // The input has ended.
-    pub fn ended(mut self) -> State {
-        self.more = false;
-        self
-    }
-
-    // A bad request, whose body has been read.
-    pub fn bad(self, rt: &HostRuntime) -> State {
-        bad_request(rt);
-        self
-    }
-
-    // The input ended inside a request.
-    pub fn broken(self, rt: &HostRuntime) -> State {
-        bad_request(rt);
-        self.ended()
-    }
-
-    // A bad request, of whose body `length` bytes are still to be skipped.
-    pub fn refused(self, rt: &HostRuntime, length: u32) -> State {
-        if skip(rt, length) {
-            return self.bad(rt);
-        }
-        self.broken(rt)
-    }
-}
-
-// What the input has next: a request's number and body length, a part of them, or nothing.
-#[derive(Drop)]
-pub enum Frame {
-    Request(u32, u32),
+    // The input ended inside it.
     Broken,
-    End,
 }
 
-// Reads up to a request's body.
-pub fn next(rt: &HostRuntime) -> Frame {
-    let mut head = [0u8; 8];
-    let got = streams::read_full(&mut rt.stdin(), &mut head);
-    if got == 0 {
-        return Frame::End;
-    }
-    if got != 8 {
-        return Frame::Broken;
-    }
-    Frame::Request(words::word(&head, 0), words::word(&head, 4))
+// As much of a request's body as is still to be read.
+#[derive(Drop)]
+pub struct Body<'a> {
+    rt: &'a HostRuntime,
+    left: usize,
 }
 
-// The answer to a request that is none.
-fn bad_request(rt: &HostRuntime) {
-    say::text(rt, b"bad request\n");
-}
-
-// Fills `part` from the input, and answers whether the input had as much.
-pub fn fill(rt: &HostRuntime, part: &mut [u8]) -> bool {
-    let got = streams::read_full(&mut rt.stdin(), part);
-    got == part.len()
-}
-
-// The same for all of a body, which is held from now on under this name: that is the answer.
-pub fn hold(rt: &HostRuntime, name: &[u8], length: u32, part: &mut [u8]) -> bool {
-    if !fill(rt, part) {
-        return false;
-    }
-    say::text(rt, name);
-    say::number(rt, length);
-    say::end(rt);
-    true
-}
-
-// Reads `length` bytes to forget them, in pieces, and answers whether the input had as many.
-fn skip(rt: &HostRuntime, length: u32) -> bool {
-    let mut piece = streams::buffer();
-    let mut left = length;
-    while left >= PIECE {
-        if !fill(rt, &mut piece) {
-            return false;
+// The number and the body of the next request, if there is one.
+pub fn next(rt: &HostRuntime) -> Result<Option<(u32, Body<'_>)>, Wrong> {
+    let mut head = [[0u8; 4]; 2];
+    match read_full(&mut rt.stdin(), head.as_flattened_mut()) {
+        0 => Ok(None),
+        8 => {
+            let [number, length] = head.map(u32::from_be_bytes);
+            let left = length as usize;
+            Ok(Some((number, Body { rt, left })))
         }
-        left -= PIECE;
+        _ => Err(Wrong::Broken),
     }
-    let n = streams::count(left as isize, &piece);
-    fill(rt, &mut piece[..n])
+}
+
+impl Body<'_> {
+    // Fills `part` from the body.
+    fn fill(&mut self, part: &mut [u8]) -> Result<(), Wrong> {
+        let wanted = part.len();
+        let left = self.left.checked_sub(wanted).ok_or(Wrong::Bad)?;
+        if read_full(&mut self.rt.stdin(), part) < wanted {
+            return Err(Wrong::Broken);
+        }
+        self.left = left;
+        Ok(())
+    }
+
+    // A number.
+    pub fn number(&mut self) -> Result<u32, Wrong> {
+        let mut four = [0u8; 4];
+        self.fill(&mut four)?;
+        Ok(u32::from_be_bytes(four))
+    }
+
+    // All that is left, at the start of this room.
+    pub fn rest<'a>(&mut self, room: &'a mut [u8]) -> Result<&'a [u8], Wrong> {
+        if self.left > room.len() {
+            return Err(Wrong::Bad);
+        }
+        let part = &mut room[..self.left];
+        self.fill(part)?;
+        Ok(part)
+    }
+
+    // All that is left, as numbers at the start of this room.
+    pub fn numbers<'a>(&mut self, room: &'a mut [u32; NUMBERS]) -> Result<&'a [u32], Wrong> {
+        let mut bytes: [u8; BYTES] = rooms::room(0);
+        let (words, odd) = self.rest(&mut bytes)?.as_chunks::<4>();
+        if !odd.is_empty() {
+            return Err(Wrong::Bad);
+        }
+        for (number, word) in room.iter_mut().zip(words) {
+            *number = u32::from_be_bytes(*word);
+        }
+        room.get(..words.len()).ok_or(Wrong::Bad)
+    }
+
+    // Nothing may be left.
+    pub fn end(&self) -> Result<(), Wrong> {
+        if self.left > 0 {
+            return Err(Wrong::Bad);
+        }
+        Ok(())
+    }
+
+    // Reads what is left to forget it, in pieces.
+    pub fn skip(&mut self) -> Result<(), Wrong> {
+        let mut piece: [u8; PIECE] = rooms::room(0);
+        for _ in 0..self.left / PIECE {
+            self.fill(&mut piece)?;
+        }
+        self.rest(&mut piece)?;
+        Ok(())
+    }
 }

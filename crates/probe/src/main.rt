@@ -3,158 +3,123 @@
 #![tactic(auto)]
 
 mod checksum;
+mod desk;
 mod frame;
-mod image;
 mod line;
 mod programs;
 mod volumes;
 
-ghost use Rattle.std.specs.Prelude.{◌≡◌, length};
-
-use console::rooms;
-use frame::{Frame, State};
+use console::rooms::{IMAGE, room};
+use desk::{Desk, Held};
+use frame::{Body, Wrong};
 use loader::table::RECORD_LENGTH;
+use volume::disk::Disk;
 
 // The longest program file that is held, and the longest output of a read.
-const FILE_ROOM: usize = 1048576;
+const FILE: usize = 1048576;
 
 // The most memory, and the largest work area, that a program is lent.
-const AREA_ROOM: usize = 524288;
+const AREA: usize = 524288;
 
 // The numbers of the records that a program is lent at most: 80 records.
-const TABLE_NUMBERS: usize = 80 * RECORD_LENGTH;
+const TABLE: usize = 80 * RECORD_LENGTH;
 
-// The numbers of the requests.
-const IMAGE: u32 = 1;
+// What is asked.
+#[derive(Clone, Copy)]
+enum Request {
+    Image,
+    Patch,
+    Audit,
+    Find,
+    Read,
+    File,
+    Load,
+    Move,
+    Disk,
+}
 
-const PATCH: u32 = 2;
+impl TryFrom<u32> for Request {
+    type Error = Wrong;
 
-const AUDIT: u32 = 3;
-
-const FIND: u32 = 4;
-
-const READ: u32 = 5;
-
-const FILE: u32 = 6;
-
-const LOAD: u32 = 7;
-
-const MOVE: u32 = 8;
-
-const DISK: u32 = 9;
+    fn try_from(number: u32) -> Result<Request, Wrong> {
+        Ok(match number {
+            1 => Request::Image,
+            2 => Request::Patch,
+            3 => Request::Audit,
+            4 => Request::Find,
+            5 => Request::Read,
+            6 => Request::File,
+            7 => Request::Load,
+            8 => Request::Move,
+            9 => Request::Disk,
+            _ => return Err(Wrong::Bad),
+        })
+    }
+}
 
 // Reads the body of a request and answers it.
-fn answer(
-    rt: &HostRuntime,
-    number: u32,
-    length: u32,
-    state: State,
-    image: &mut [u8],
-    output: &mut [u8],
-    file: &mut [u8],
-    memory: &mut [u8],
-    table: &mut [u32],
-    work: &mut [u8],
-) -> State {
-    if number == IMAGE {
-        return image::image(rt, length, state, image);
-    }
-    if number == PATCH {
-        return image::patch(rt, length, state, image);
-    }
-    if number == AUDIT {
-        return volumes::audit_held(rt, length, state, image);
-    }
-    if number == FIND {
-        return volumes::find_held(rt, length, state, image);
-    }
-    if number == READ {
-        return volumes::read_held(rt, length, state, image, output);
-    }
-    if number == FILE {
-        return programs::file(rt, length, state, file);
-    }
-    if number == LOAD {
-        return programs::call(rt, false, length, state, file, memory, table, work);
-    }
-    if number == MOVE {
-        return programs::call(rt, true, length, state, file, memory, table, work);
-    }
-    if number == DISK {
-        return volumes::disk(rt, length, state);
-    }
-    state.refused(rt, length)
-}
-
-// Takes one request, if there is another.
-fn one(
-    rt: &HostRuntime,
-    state: State,
-    image: &mut [u8],
-    output: &mut [u8],
-    file: &mut [u8],
-    memory: &mut [u8],
-    table: &mut [u32],
-    work: &mut [u8],
-) -> State {
-    let next = frame::next(rt);
-    match next {
-        Frame::Request(number, length) => {
-            answer(
-                rt, number, length, state, image, output, file, memory, table, work,
-            )
-        }
-        Frame::Broken => state.broken(rt),
-        Frame::End => state.ended(),
+fn answer(rt: &HostRuntime, desk: &mut Desk, number: u32, body: &mut Body) -> Result<(), Wrong> {
+    match Request::try_from(number)? {
+        Request::Image => desk.image.hold(rt, "image", body),
+        Request::Patch => desk.patch(rt, body),
+        Request::Audit => desk.audit(rt, body),
+        Request::Find => desk.find(rt, body),
+        Request::Read => desk.read(rt, body),
+        Request::File => desk.file.hold(rt, "file", body),
+        Request::Load => desk.load(rt, body),
+        Request::Move => desk.move_program(rt, body),
+        Request::Disk => desk.name(rt, body),
     }
 }
 
-// Takes one request after the other.
-fn all(
-    rt: &HostRuntime,
-    image: &mut [u8],
-    output: &mut [u8],
-    file: &mut [u8],
-    memory: &mut [u8],
-    table: &mut [u32],
-    work: &mut [u8],
-) {
-    let mut state = frame::start();
-    let mut turns = u64::MAX;
-    while turns > 0 && state.more {
-        state = one(rt, state, image, output, file, memory, table, work);
-        turns -= 1;
+// Takes one request, and answers whether there was one. What a bad one leaves of its body is skipped.
+fn take(rt: &HostRuntime, desk: &mut Desk) -> Result<bool, Wrong> {
+    let Some((number, mut body)) = frame::next(rt)? else {
+        return Ok(false);
+    };
+    let answered = answer(rt, desk, number, &mut body);
+    if answered == Err(Wrong::Bad) {
+        body.skip()?;
     }
+    answered.map(|()| true)
 }
 
-// The rooms. An `ensures` gives only the length, so that no proof computes the list.
-fn file_room() -> [u8; FILE_ROOM]
-    ensures { 1048576 ≡ length result }
-{
-    [0; FILE_ROOM]
+// Takes one request, and answers whether there may be another.
+fn one(rt: &HostRuntime, desk: &mut Desk) -> bool {
+    take(rt, desk).unwrap_or_else(|wrong| {
+        let _ = println!(rt; "bad request");
+        wrong == Wrong::Bad
+    })
 }
 
-// For memory or a work area.
-fn area_room() -> [u8; AREA_ROOM]
-    ensures { 524288 ≡ length result }
-{
-    [0; AREA_ROOM]
-}
-
+// Before the first request nothing is held, and calls name double density.
 fn main(rt: HostRuntime) {
-    let mut image = rooms::image();
-    let mut output = file_room();
-    let mut file = file_room();
-    let mut memory = area_room();
-    let mut work = area_room();
-    let mut table = [0u32; TABLE_NUMBERS];
-    all(
-        &rt,
-        &mut image,
-        &mut output,
-        &mut file,
-        &mut memory,
-        &mut table,
-        &mut work,
-    );
+    let mut image: [u8; IMAGE] = room(0);
+    let mut output: [u8; FILE] = room(0);
+    let mut file: [u8; FILE] = room(0);
+    let mut memory: [u8; AREA] = room(0);
+    let mut work: [u8; AREA] = room(0);
+    let mut table: [u32; TABLE] = room(0);
+    let mut desk = Desk {
+        named: Disk::DOUBLE_DENSITY,
+        image: Held {
+            room: &mut image,
+            length: 0,
+        },
+        file: Held {
+            room: &mut file,
+            length: 0,
+        },
+        output: &mut output,
+        memory: &mut memory,
+        table: &mut table,
+        work: &mut work,
+        lent_bytes: 0,
+        lent_records: 0,
+    };
+    for _ in 0..u64::MAX {
+        if !one(&rt, &mut desk) {
+            return;
+        }
+    }
 }

@@ -1,6 +1,0 @@
--- It goes over the arguments once.
-use Rattle.std.proofs.Common.{◌-◌}
-use Rattle.bench.proofs.arguments.all_fit.Given as goal
-
-abbrev pub decreases-loop-i : goal.decreases-loop-i
-decreases-loop-i l = l.count - l.i

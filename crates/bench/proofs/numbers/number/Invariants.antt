@@ -1,9 +1,0 @@
--- It goes over the digits once.
-use Rattle.std.proofs.Common.{◌≤◌, ◌-◌, length}
-use Rattle.bench.proofs.numbers.number.Given as goal
-
-abbrev pub invariant-loop-i : goal.invariant-loop-i
-invariant-loop-i l = l.i ≤ length l.digits
-
-abbrev pub decreases-loop-i : goal.decreases-loop-i
-decreases-loop-i l = length l.digits - l.i

@@ -1,3 +1,0 @@
--- Laws for this crate and the programs above it.
-pub mod Glyphs
-pub mod Lengths
