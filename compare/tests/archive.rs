@@ -158,6 +158,18 @@ fn constants(text: &str, before: &str, between: &str) -> Vec<(String, String)> {
     pairs.map(|(name, number)| (name.to_string(), number.to_string())).collect()
 }
 
+/// `BlockSum` as `BLOCK_SUM`.
+fn in_capitals(name: &str) -> String {
+    let breaks = |(i, c): (usize, char)| (i > 0 && c.is_uppercase()).then_some('_').into_iter().chain([c]);
+    name.char_indices().flat_map(breaks).collect::<String>().to_uppercase()
+}
+
+/// `Fault::BlockSum => 7,` as the name that C has for it, and number.
+fn faults(text: &str) -> Vec<(String, String)> {
+    let arms = text.lines().filter_map(|l| l.trim().strip_prefix("Fault::")?.strip_suffix(',')?.split_once(" => "));
+    arms.map(|(name, number)| (in_capitals(name), number.to_string())).collect()
+}
+
 /// What stands from one text to the next other.
 fn stretch<'a>(text: &'a str, from: &str, to: &str) -> &'a str {
     let rest = &text[text.find(from).unwrap_or_else(|| panic!("there is no {from}"))..];
@@ -167,7 +179,7 @@ fn stretch<'a>(text: &'a str, from: &str, to: &str) -> &'a str {
 #[test]
 fn refusals_have_the_same_numbers() {
     let (c, rust) = (text("include/jufferdeeg.h"), text("include/rust/src/lib.rs"));
-    let proved = constants(&text("crates/answers/src/lib.rt"), "pub const ", ": u32 = ");
+    let proved = faults(&text("crates/answers/src/lib.rt"));
     assert_eq!(proved.len(), 34);
     let defined = stretch(&c, "/* The numbers of refusals", "\n\n");
     assert_eq!(constants(defined, "#define JUFFERDEEG_", " "), proved);

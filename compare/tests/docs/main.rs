@@ -115,7 +115,7 @@ fn asking_in(code: &str) -> Vec<String> {
     let heads = code.split("pub fn ").skip(1).filter_map(|rest| Some(&rest[..rest.find("{\n")?]));
     // a clause may have a name, or a star
     let asks = heads.filter(|head| head.lines().any(|line| line.trim_start().starts_with("requires")));
-    asks.filter_map(|head| Some(head[..head.find('(')?].to_string())).collect()
+    asks.filter_map(|head| Some(head[..head.find(['(', '<'])?].to_string())).collect()
 }
 
 /// Those of all crates that are libraries.

@@ -10,11 +10,11 @@ use crate::tree::{ends_in, paths_under, text};
 
 /// Words that name nothing of the repository.
 #[rustfmt::skip]
-pub const ALLOWED: [&str; 26] = [
+pub const ALLOWED: [&str; 24] = [
     // words of Rattle, and of the proofs that it asks for
-    "ensures", "match", "omega", "requires", "result", "rw", "use", "usize",
+    "ensures", "omega", "requires", "result", "rw", "use", "usize",
     // commands and programs that others made
-    "disktype", "grub-fstest", "readdisk", "rt", "unadf", "xdms",
+    "disktype", "grub-fstest", "readdisk", "unadf", "xdms",
     // functions of ADFlib and of GRUB
     "adfCreateFlop", "adfDevType", "adfEntBlock2Entry", "adfFreeFileBlocks", "adfInstallBootBlock",
     "adfReadNextFileBlock", "adfRemoveEntry", "adfSetBlockFree", "grub_affs_iterate_dir", "grub_affs_mount",

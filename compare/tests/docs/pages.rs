@@ -9,12 +9,12 @@ pub fn root() -> PathBuf {
     Path::new(env!("CARGO_MANIFEST_DIR")).parent().expect("a repository").to_path_buf()
 }
 
-/// A page of docs/ that tells what was, and so names what is there no more.
-const OF_THE_PAST: &str = "PORT.md";
+/// The pages of docs/ that tell what was, and so name what is there no more.
+const OF_THE_PAST: [&str; 2] = ["DESIGN-PASS.md", "PORT.md"];
 
 /// The pages by their paths from the top, but those of the past.
 pub fn pages() -> Vec<String> {
-    let is_page = |name: &String| name.ends_with(".md") && name != OF_THE_PAST;
+    let is_page = |name: &String| name.ends_with(".md") && !OF_THE_PAST.contains(&&name[..]);
     let docs = names_in(&root().join("docs")).into_iter().filter(is_page);
     let mut pages: Vec<_> = docs.map(|name| format!("docs/{name}")).collect();
     let others = ["README.md", "CONTRIBUTING.md", "CHANGELOG.md", "samples/README.md", "speed/README.md"];
