@@ -1,6 +1,6 @@
 // What a verb is asked: the option -b, and the arguments after it.
 use crate::arguments::LONGEST;
-use crate::numbers::number;
+use crate::numbers::decimal;
 use crate::saying::wrong;
 use crate::status::Failure;
 use console::rooms::room;
@@ -27,7 +27,7 @@ pub fn plainly(count: usize) -> Asked {
 fn named_by(text: &[u8]) -> Option<u32> {
     match text {
         b"any" => Some(Disk::ANY_SIZE),
-        _ => number(text, 10, 10),
+        _ => decimal(text),
     }
 }
 

@@ -1,6 +1,6 @@
 // Bases: numbers in hex, among the arguments.
 use crate::arguments::LONGEST;
-use crate::numbers::number;
+use crate::numbers::hex;
 use crate::saying::wrong;
 use crate::status::Failure;
 use console::rooms::room;
@@ -10,22 +10,12 @@ use std::ops::Range;
 // The most bases of a list.
 pub const MOST: usize = 256;
 
-// The most digits of a base.
-const DIGITS: usize = 8;
-
-// The radix of hex.
-const HEX: u32 = 16;
-
 // The base that argument i is, which may have 0x before its digits; a text that is none is said.
 fn base(rt: &HostRuntime, i: usize) -> Result<u32, Failure> {
     let mut text: [u8; LONGEST] = room(0);
     let text = argument(rt, i, &mut text);
     let digits = text.strip_prefix(b"0x").unwrap_or(text);
-    number(digits, HEX, DIGITS).ok_or_else(|| wrong(
-        rt,
-        text,
-        " is no base: a base is 1 to 8 hex digits",
-    ))
+    hex(digits).ok_or_else(|| wrong(rt, text, " is no base: a base is 1 to 8 hex digits"))
 }
 
 // The bases that the arguments at these places are, in this room. One that is no base, and too many, are said.
