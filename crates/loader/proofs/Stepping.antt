@@ -11,6 +11,7 @@ use Rattle.answers.specs.declared.Fault.{Fault}
 use Rattle.answers.proofs.Clashes.{impossible}
 use Rattle.program.specs.declared.act.Act.{Act}
 use Rattle.program.specs.declared.act.Act.TheVariants.{Quiet, Body, Store, Add}
+use Rattle.program.specs.declared.reader.After.{After}
 use Rattle.program.specs.declared.reader.Cursor.{Cursor}
 use Rattle.program.specs.declared.reader.Mode.{Mode}
 use Rattle.program.specs.declared.reader.Mode.TheVariants as mode
@@ -30,7 +31,7 @@ use Rattle.loader.specs.declared.steps.Step.TheVariants as step
 use Rattle.loader.specs.declared.steps.Pass.{Pass}
 use Rattle.loader.specs.Memory.{loaded_of, store_one}
 use Rattle.loader.specs.Parts.{ActFits, with_words}
-use Rattle.loader.specs.Steps.{stores, spelled, asked, left, Unstored, Gives}
+use Rattle.loader.specs.Steps.{stores, spelled, asked, left, Quietly, Unstored, Gives}
 use Rattle.loader.proofs.Acts.{hunk_inside, reads_fits, more_room}
 
 -- ---- acts that ask for nothing are left out
@@ -147,6 +148,25 @@ none_next file c d at to runs.here h l f i e = let q = f i e in omega arith
 none_next file c d at to (runs.stores l' m k) h l f i e = let q = leads_far file k in omega arith
 none_next file c d at to (runs.passes l' m k) h l f i e = let q = leads_far file k in omega arith
 
+-- so a run of stored words is not empty
+pub run_far : (file : List ℕ) (c d : Cursor) (at to i : ℕ) → Leads file c at d to → at < length file
+    → ((j : ℕ) → d.mode ≡ Stored j → length file ≤ to) → c.mode ≡ Stored i → at < to
+run_far file c d at to i l h f e = go (dec_lt at to)
+  where
+    go : Dec (at < to) → at < to
+    go (yes p) = p
+    go (no p) = absurd (none_next file c d at to l (omega arith) h f i e)
+
+-- where the reader comes to by words that are passed over
+pub quietly_past : (file : List ℕ) (c d : Cursor) (at to n : ℕ) (a : After) → Reads file c at → c.mode ≡ Skip n a
+    → Leads file c at d to → Quietly file c at d to
+quietly_past file c d at to n a r e l =
+    record {
+      reads = leads_reads file l r;
+      far = leads_far file l;
+      same = skip_acts file l r (λ i m. let z = sym e ∙ m in impossible cc);
+    }
+
 module _ {X E : Type 0} (v : Result X E) where
   pub ok_some : {x : X} → result_ok v ≡ Some x → v ≡ Ok x
   ok_some = go v
@@ -191,10 +211,6 @@ module _ (s : Pass) (r : Reads s.file.now s.cursor s.at) where
         );
       }
 
-  pub gives_quiet : (c : Cursor) (to : ℕ) → Leads s.file.now s.cursor s.at c to
-      → ((i : ℕ) → s.cursor.mode ≡ Stored i → ⊥) → Gives s (Some (step.Act Quiet)) (moved_to s c to)
-  gives_quiet c to l f = record { same = refl; steps = (skip_acts s.file.now l r f, (tt, tt)) }
-
   module _ (w : ℕ) (v : Result Cursor Fault) (l : s.at < length s.file.now) (p : w ≡ word_at s.file.now s.at)
       (q : numbered v ≡ step_of (total_of s.file.now) (space_of s.file.now) s.cursor w) where
     pub gives_bad : {f : Fault} → v ≡ Err f → Gives s None s
@@ -222,6 +238,14 @@ module _ (s : Pass) (r : Reads s.file.now s.cursor s.at) where
             ),
           );
         }
+
+    -- and on past words that ask for nothing
+    pub gives_past : (c d : Cursor) (to : ℕ) (a : Act) → v ≡ Ok c → a ≡ act_of s.cursor s.at w
+        → ((i : ℕ) → s.cursor.mode ≡ Stored i → ⊥) → Quietly s.file.now c (s.at + 4) d to
+        → Gives s (Some (step.Act a)) (moved_to s d to)
+    gives_past c d to a e x f k =
+        let g = gives_act c a e x f in
+        record { same = refl; steps = (g.steps.0 ∙ ap (λ us. asked (a ∷ []) ++ us) k.same, g.steps.1) }
 
 -- ---- the loop of a pass over lists
 

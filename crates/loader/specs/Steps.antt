@@ -3,8 +3,10 @@ use Rattle.std.specs.Prelude.{◌≡◌, ℕ, ◌+◌, ◌*◌, ◌≤◌, List,
 use Rattle.words.specs.Word.{words_at}
 use Rattle.program.specs.declared.act.Act.{Act}
 use Rattle.program.specs.declared.act.Act.TheVariants as act
+use Rattle.program.specs.declared.reader.Cursor.{Cursor}
 use Rattle.program.specs.Header.{total_of}
 use Rattle.program.specs.Acts.{acts_from}
+use Rattle.program.specs.Runs.{Reads}
 use Rattle.loader.specs.declared.steps.Step.{Step}
 use Rattle.loader.specs.declared.steps.Step.TheVariants as step
 use Rattle.loader.specs.declared.steps.Pass.{Pass}
@@ -32,6 +34,12 @@ asked (act.Add p k b ∷ us) = act.Add p k b ∷ asked us
 -- those that are left
 abbrev pub left : Pass → List Act
 left s = asked (acts_from s.file.now s.at s.cursor)
+
+-- from the cursor c at byte `at` to the cursor d at byte `to` nothing is asked for
+pub record Quietly (file : List ℕ) (c : Cursor) (at : ℕ) (d : Cursor) (to : ℕ) : Type 0 where
+  pub reads : Reads file d to
+  pub far : at ≤ to
+  pub same : asked (acts_from file at c) ≡ asked (acts_from file to d)
 
 -- an act that stores nothing
 abbrev pub Unstored : Act → Type 0

@@ -4,11 +4,11 @@ ghost use Rattle.std.specs.Iterator.{at_most};
 ghost use Rattle.program.specs.Acts.{acts_of};
 ghost use Rattle.program.specs.Cursors.{HeaderFits};
 ghost use Rattle.program.specs.Runs.{Reads};
-ghost use Rattle.loader.specs.Steps.{asked, left, Gives};
+ghost use Rattle.loader.specs.Steps.{asked, left, Quietly, Gives};
 
 use program::act::{Act, act_of};
 use program::header::{WORDS, total};
-use program::reader::{Cursor, Mode, begin, past, step};
+use program::reader::{Cursor, Mode, Spot, begin, past, step};
 
 // A step over a file's words.
 #[derive(Clone, Copy, Debug)]
@@ -30,6 +30,18 @@ pub(crate) struct Pass<'a> {
     file: &'a [u8],
     cursor: Cursor,
     at: usize,
+}
+
+// After the words from `at` on that are passed over, as many as there are: they ask for nothing, and a step for each
+// of them, or for all of them, is slower than none.
+fn skipped(file: &[u8], c: Cursor, at: usize) -> Spot
+    requires { Reads file.now c at }
+    ensures { Quietly file.now c at result.cursor result.at }
+{
+    if let Mode::Skip(_, _) = c.mode {
+        return past(file, c, at);
+    }
+    Spot { cursor: c, at }
 }
 
 // All steps of a file whose header passed the tests.
@@ -55,7 +67,8 @@ impl<'a> Iterator for Pass<'a> {
 
     ghost remaining = { λ s. at_most (length s.file.now - s.at) };
 
-    // The end of the file ends the steps, and so does a word that may not stand there.
+    // The end of the file ends the steps, and so does a word that may not stand there. Inlined, as `step` is.
+    #[inline(always)]
     fn next(&mut self) -> Option<Step> {
         let file = self.file;
         let cursor = self.cursor;
@@ -63,22 +76,21 @@ impl<'a> Iterator for Pass<'a> {
         if file.len() <= at {
             return None;
         }
-        let spot = past(file, cursor, at);
-        if at < spot.at {
+        if let Mode::Stored(i) = cursor.mode {
+            let spot = past(file, cursor, at);
             self.cursor = spot.cursor;
             self.at = spot.at;
-            return match cursor.mode {
-                Mode::Stored(i) => Some(Step::Words {
-                    place: cursor.place + 4 * i as usize,
-                    at,
-                    count: (spot.at - at) / 4,
-                }),
-                _ => Some(Step::Act(Act::Quiet)),
-            };
+            return Some(Step::Words {
+                place: cursor.place + 4 * i as usize,
+                at,
+                count: (spot.at - at) / 4,
+            });
         }
         let word = words::word(file, at);
-        self.cursor = step(file, cursor, word).ok()?;
-        self.at = at + 4;
+        let on = step(file, cursor, word).ok()?;
+        let spot = skipped(file, on, at + 4);
+        self.cursor = spot.cursor;
+        self.at = spot.at;
         Some(Step::Act(act_of(cursor, at, word)))
     }
 }

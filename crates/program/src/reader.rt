@@ -249,7 +249,8 @@ fn first(c: Cursor, w: u32) -> Result<Cursor, Fault>
     body(c, w)
 }
 
-// The reader takes the word w.
+// The reader takes the word w. Inlined, since a call for each word takes twice as long.
+#[inline(always)]
 #[tactic(auto, using(crate::proofs::Choices::choices), unfolding(crate::specs::Reader::step_of))]
 pub fn step(file: &[u8], c: Cursor, w: u32) -> Result<Cursor, Fault>
     requires { CursorFits file.now c }
