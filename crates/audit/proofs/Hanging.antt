@@ -1,12 +1,12 @@
 -- The walk through a directory: entries, chains and slots. Assumes nothing.
 use Rattle.std.specs.Prelude.{Option, Some, None, Result, Ok, Err}
-use Rattle.std.specs.Option.{MatchOption}
 use Rattle.answers.proofs.Clashes.{impossible}
 use Prim.Native.Nat.{ℕ, zero, suc, ◌+◌, ◌-◌, ◌*◌, ◌≤◌, ◌<◌}
 use mathlib.Core.Path.{◌≡◌, refl, sym, ◌∙◌}
 use mathlib.Core.Bool.{Bool, true, false}
 use mathlib.Core.List.{List, [], ◌∷◌, ◌++◌, append-nil}
 use native.Mathlib.Omega.{arith}
+use Rattle.std.specs.Option.{MatchOption}
 use native.Mathlib.Nat.{le_refl}
 use native.Mathlib.Numerals.{add-one}
 use native.Mathlib.Decide.{dec_lt}
@@ -331,6 +331,12 @@ module _ (d : Disk) (s : List ℕ) (t : ℕ) where
     pub fewer : free cl ≤ free cl₀
     pub walked : Walks d s (slot_nodes s t 0 slots) (slots_from i) n₀ cl₀ (Ok n) cl
 
+  -- the same where the first slot that is not empty, from some slot on, is known, if there is one
+  pub record SlotsAt (n₀ : Counts) (cl₀ cl : List ℕ) (n : Counts) (o : Option ℕ) : Type 0 where
+    pub from : ℕ
+    pub so_far : SlotsInv n₀ cl₀ cl n from
+    pub used : UsedSlot s t from o
+
   pub slots_start : (cl : List ℕ) (n : Counts) → Ready d s cl n → t < d.blocks → SlotsInv n cl cl n 0
   slots_start cl n r l =
       record {
@@ -388,3 +394,13 @@ module _ (d : Disk) (s : List ℕ) (t : ℕ) where
       pub slots_end : o ≡ None → Walks d s (slot_nodes s t 0 slots) [] n₀ cl₀ (Ok n) cl
       unfolding slot_nodes
       slots_end e = rw (u.none e).empty at v.walked
+
+-- how many slots are left from the one that is not empty
+abbrev pub slots_left : Option ℕ → ℕ
+slots_left None = 0
+slots_left (Some j) = slots - j
+
+pub slots_less : (s : List ℕ) (t j : ℕ) (o : Option ℕ) → j < slots → UsedSlot s t (j + 1) o
+    → slots_left o < slots_left (Some j)
+slots_less s t j None l u = omega arith
+slots_less s t j (Some k) l u = let f = u.found k refl in omega (arith, f.0, f.1.from)

@@ -84,7 +84,7 @@ placed_at k (Err f) = sym (not_zero (told (Err f)) k (told_err (Err f) refl))
 
 module _ (d : Disk) (s : List ℕ) (n : Node) (cl cl' : List ℕ) (T : Result Unit Fault → Type 0)
     (r : Result Unit Refusal) where
-  told_as : Meets d cl (key_of d n) T r cl' → ((t : Result Unit Fault) → T t → told t ≡ fault_of d s n)
+  told_as : Meets d cl (key_of d n) (key_of d n) T r cl' → ((t : Result Unit Fault) → T t → told t ≡ fault_of d s n)
       → (a b : ℕ) → key_fault d (key_of d n) ≡ a
       → claimed fault.claimed_twice (get_or cl (key_of d n) 1) ≡ b
       → r ≡ verdict_at (first a (first b (fault_of d s n))) (key_of d n)
@@ -100,20 +100,20 @@ module _ (d : Disk) (s : List ℕ) (n : Node) (cl cl' : List ℕ) (T : Result Un
       let e : claim_fault d cl (key_of d n) ≡ suc a = ap₂ first p q in
       rw e at (h.refused (λ z. absurd (omega (arith, e, z))))
 
-  claims_as : Meets d cl (key_of d n) T r cl' → r ≡ Ok tt → (v : ℕ) → claim_fault d cl (key_of d n) ≡ v
+  claims_as : Meets d cl (key_of d n) (key_of d n) T r cl' → r ≡ Ok tt → (v : ℕ) → claim_fault d cl (key_of d n) ≡ v
       → cl' ≡ set cl (key_of d n) 1
   claims_as h e zero z = h.claims z
   claims_as h e (suc v) z = let q = h.refused (λ y. absurd (omega (arith, z, y))) in impossible cc
 
-  pub met : (k : ℕ) → k ≡ key_of d n → Meets d cl k T r cl'
+  pub met : (k : ℕ) → k ≡ key_of d n → Meets d cl k k T r cl'
       → ((t : Result Unit Fault) → T t → told t ≡ fault_of d s n) → Met d s n cl r cl'
   unfolding verdict
   met k e h f =
-      let m : Meets d cl (key_of d n) T r cl' = rw e at h in
+      let m : Meets d cl (key_of d n) (key_of d n) T r cl' = rw e at h in
       record { told = told_as m f _ _ refl refl; claims = λ q. claims_as m q _ refl }
 
 module _ (d : Disk) (s cl cl' : List ℕ) (T : Result Unit Fault → Type 0) (r : Result Unit Refusal) (k : ℕ)
-    (h : Meets d cl k T r cl') where
+    (h : Meets d cl k k T r cl') where
   pub met_root : k ≡ root_of d → ((t : Result Unit Fault) → T t → told t ≡ first (root_fault d s) (map_fault d s))
       → Met d s root cl r cl'
   unfolding fault_of

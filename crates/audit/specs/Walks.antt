@@ -33,12 +33,12 @@ abbrev pub placed : ℕ → Result Unit Fault → Result Unit Refusal
 placed k (Ok u) = Ok u
 placed k (Err f) = Err (refused_at f k)
 
--- a key is claimed, and then tests are made, which may come to what T says
-pub record Meets (d : Disk) (cl : List ℕ) (k : ℕ) (T : Result Unit Fault → Type 0) (r : Result Unit Refusal)
+-- a key is claimed, and then tests are made, which may come to what T says; what is wrong is said of place p
+pub record Meets (d : Disk) (cl : List ℕ) (k p : ℕ) (T : Result Unit Fault → Type 0) (r : Result Unit Refusal)
     (cl' : List ℕ) : Type 0 where
-  pub refused : (claim_fault d cl k ≡ 0 → ⊥) → r ≡ Err (refusal (claim_fault d cl k) k)
+  pub refused : (claim_fault d cl k ≡ 0 → ⊥) → r ≡ Err (refusal (claim_fault d cl k) p)
   pub claims : claim_fault d cl k ≡ 0 → cl' ≡ set cl k 1
-  pub tested : claim_fault d cl k ≡ 0 → (t : Result Unit Fault) × T t × (r ≡ placed k t)
+  pub tested : claim_fault d cl k ≡ 0 → (t : Result Unit Fault) × T t × (r ≡ placed p t)
 
 -- the number v, said of block k; 0 is no refusal
 abbrev pub verdict_at : ℕ → ℕ → Result Unit Refusal

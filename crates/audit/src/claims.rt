@@ -23,19 +23,21 @@ fn claim_key(disk: Disk, claim: &mut [u8], key: u32) -> Result<(), Fault>
     Ok(())
 }
 
-// Meets a block: claims its key, and then makes its tests. What is wrong is said of the block. Callers give the tests
-// as a `move` closure: with references to what it captures, the walk takes more stack for each directory.
+// Meets a block: claims its key, and then makes its tests. What is wrong is said of a place, the block's key.
+// Callers give the tests as a `move` closure: with references to what it captures, the walk takes more stack for each
+// directory.
 pub(crate) fn meet<F: FnOnce() -> Result<(), Fault>>(
     disk: Disk,
     claim: &mut [u8],
     key: u32,
+    place: usize,
     tests: F,
 ) -> Result<(), Refusal>
     requires bytes { length claim.old ≡ claim_bytes disk }
     requires may_test { (first_key ≤ key) → (key < disk.blocks) → F.IsAlwaysCallable tests }
-    ensures { Meets disk claim.old key (λ t. F.post tests t) result claim.new }
+    ensures { Meets disk claim.old key place (λ t. F.post tests t) result claim.new }
 {
     claim_key(disk, claim, key)
         .and_then(|()| tests())
-        .map_err(|fault| fault.at(key as usize))
+        .map_err(|fault| fault.at(place))
 }

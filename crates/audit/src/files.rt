@@ -57,6 +57,7 @@ fn walk_keys(
             disk,
             claim,
             key,
+            key as usize,
             move || data_tests(disk, image, map, b, key, number, last),
         )?;
         n.blocks += 1;
@@ -77,7 +78,13 @@ fn walk_list(
     requires { Ready disk image.now claim.old n × InFile disk image.now b × SumsKnown disk image.now map }
     ensures { ListWalked disk image.now b n claim.old result claim.new }
 {
-    meet(disk, claim, b.key, move || b.list_tests(disk, image, map))?;
+    meet(
+        disk,
+        claim,
+        b.key,
+        b.key as usize,
+        move || b.list_tests(disk, image, map),
+    )?;
     n.lists += 1;
     walk_keys(disk, image, map, claim, b, n)
 }

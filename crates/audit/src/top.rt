@@ -44,8 +44,20 @@ pub(crate) fn walk_volume(disk: Disk, image: &[u8], claim: &mut [u8]) -> Result<
         claim.new }
 {
     let root = disk.root();
-    meet(disk, claim, root, move || root_tests(disk, image))?;
+    meet(
+        disk,
+        claim,
+        root,
+        root as usize,
+        move || root_tests(disk, image),
+    )?;
     let bitmap = word_of(image, root, Block::MAP_KEY);
-    meet(disk, claim, bitmap, move || bitmap_fault(image, bitmap))?;
+    meet(
+        disk,
+        claim,
+        bitmap,
+        bitmap as usize,
+        move || bitmap_fault(image, bitmap),
+    )?;
     walk_tree(disk, image, claim, bitmap)
 }

@@ -3,43 +3,60 @@ use Rattle.std.proofs.Common.{rules, arith}
 use Rattle.audit.proofs.Meeting.{met_entry}
 use Rattle.audit.proofs.Walking.{handed}
 use Rattle.audit.proofs.KeyBlocks.{ready_holds}
-use Rattle.audit.proofs.Hanging.{slots_start, slot_used, slots_fewer, slots_out, slots_again, slots_end}
+use Rattle.audit.proofs.Hanging.{slots_start, slot_used, slots_less, slots_out, slots_again, slots_end}
 use Rattle.audit.proofs.Hanging.{chain_start, chain_out, chain_again, entry_ready, entry_goes, entry_stops, entry_falls}
 use Rattle.audit.proofs.Hanging.{met_high, met_holds, met_file}
 use Rattle.audit.proofs.directories.+walk_directory_walk_entry.Goals as goal
 
 pub walk_directory-slots-init : goal.walk_directory-slots-init
-walk_directory-slots-init t c = search slots_start depth 9
+walk_directory-slots-init t c =
+    record { from = 0; so_far = search slots_start depth 9; used = c.used_slot-used.ensures }
 
 pub walk_directory-word_of-entry-requires : goal.walk_directory-word_of-entry-requires
 walk_directory-word_of-entry-requires t c =
-    let u = slot_used _ _ _ _ _ _ _ _ c.slots.invariant _ c.used_slot.ensures _ c.in-Some.is in
+    let v = c.slots.invariant in
+    let u = slot_used _ _ _ _ _ _ _ _ v.so_far _ v.used _ c.in-Some.is in
     (omega arith, search ready_holds depth 9)
 
 pub walk_directory-chain-init : goal.walk_directory-chain-init
 walk_directory-chain-init t c =
-    let u = slot_used _ _ _ _ _ _ _ _ c.slots.invariant _ c.used_slot.ensures _ c.in-Some.is in
+    let v = c.slots.invariant in
+    let u = slot_used _ _ _ _ _ _ _ _ v.so_far _ v.used _ c.in-Some.is in
     search (chain_start, u) depth 9
 
 pub walk_directory-returns-in_err-n : goal.walk_directory-returns-in_err-n
 walk_directory-returns-in_err-n t c =
+    let v = c.slots.invariant in
     rw (handed _ _ c.from_residual.ensures.1)
-    (search (chain_out, slots_out, c.in-Some.is, c.in_err-n.was) depth 9)
+    (slots_out _ _ _ _ _ _ _ _ v.so_far _ v.used _ c.in-Some.is _ _ (search (chain_out, c.in_err-n.was) depth 9))
 
 pub walk_directory-chain-preserved : goal.walk_directory-chain-preserved
 walk_directory-chain-preserved t c = search (chain_again, c.in_ok-n.was) depth 9
 
+pub walk_directory-used_slot-used-requires-in-Some : goal.walk_directory-used_slot-used-requires-in-Some
+walk_directory-used_slot-used-requires-in-Some t c =
+    let v = c.slots.invariant in
+    let u = slot_used _ _ _ _ _ _ _ _ v.so_far _ v.used _ c.in-Some.is in
+    (search ready_holds depth 9, omega arith)
+
 pub walk_directory-slots-smaller : goal.walk_directory-slots-smaller
 walk_directory-slots-smaller t c =
-    let u = slot_used _ _ _ _ _ _ _ _ c.slots.invariant _ c.used_slot.ensures _ c.in-Some.is in
-    let v = slots_fewer _ _ _ _ _ _ _ _ c.slots.invariant _ c.used_slot.ensures _ c.in-Some.is in
-    omega arith
+    let v = c.slots.invariant in
+    let u = slot_used _ _ _ _ _ _ _ _ v.so_far _ v.used _ c.in-Some.is in
+    rw c.in-Some.is (slots_less _ _ _ _ u c.used_slot-used-in-Some.ensures)
 
 pub walk_directory-slots-preserved : goal.walk_directory-slots-preserved
-walk_directory-slots-preserved t c = search (slots_again, c.in-Some.is) depth 9
+walk_directory-slots-preserved t c =
+    let v = c.slots.invariant in
+    record {
+      from = _;
+      so_far = search (slots_again, v.so_far, v.used, c.in-Some.is) depth 9;
+      used = c.used_slot-used-in-Some.ensures;
+    }
 
 pub walk_directory-returns : goal.walk_directory-returns
-walk_directory-returns t c = search (slots_end, c.in_default.is) depth 9
+walk_directory-returns t c =
+    let v = c.slots.invariant in slots_end _ _ _ _ _ _ _ _ v.so_far _ v.used c.in_default.is
 
 pub walk_entry-returns-in_err-meet : goal.walk_entry-returns-in_err-meet
 walk_entry-returns-in_err-meet t c =
