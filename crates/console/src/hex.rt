@@ -1,5 +1,5 @@
 // Words in hex, one a line.
-ghost use Rattle.std.specs.Prelude.{◌≡◌, ◌≤◌, length};
+ghost use Rattle.std.specs.Prelude.{◌≡◌, ◌+◌, ◌*◌};
 ghost use Rattle.console.specs.Hex.{lowest, line_of};
 
 use crate::rooms::room;
@@ -38,21 +38,27 @@ pub fn line(w: u32) -> [u8; LINE]
     ]
 }
 
-// A few words, a line each, by one write.
-fn write_lines(to: &impl Print, words: &[[u8; WORD]])
-    requires { length words.now ≤ 455 }
+// The word of four bytes, the highest first. By hand, since lines of what `from_be_bytes` gives take twice as long.
+fn joined(a: u8, b: u8, c: u8, d: u8) -> u32
+    ensures { result ≡ ((a * 256 + b) * 256 + c) * 256 + d }
 {
-    let mut lines: [[u8; LINE]; LINES] = room([0; LINE]);
-    for (text, word) in lines.iter_mut().zip(words) {
-        *text = line(u32::from_be_bytes(*word));
-    }
-    let _ = to.write_all(lines[..words.len()].as_flattened());
+    ((a as u32 * 256 + b as u32) * 256 + c as u32) * 256 + d as u32
 }
 
-// The words that these bytes are, a line each.
+// The words that these bytes are, a line each. The loop that fills the room for lines writes it out too: one that only
+// fills it is compiled to steps of four lines at once, which take longer.
 pub fn words(to: &impl Print, bytes: &[u8]) {
     let (all, _) = bytes.as_chunks::<WORD>();
-    for few in all.chunks(LINES) {
-        write_lines(to, few);
+    let mut lines: [[u8; LINE]; LINES] = room([0; LINE]);
+    let mut filled = 0;
+    for word in all {
+        if filled == LINES {
+            let _ = to.write_all(lines.as_flattened());
+            filled = 0;
+        }
+        let [a, b, c, d] = word;
+        lines[filled] = line(joined(*a, *b, *c, *d));
+        filled += 1;
     }
+    let _ = to.write_all(lines[..filled].as_flattened());
 }
