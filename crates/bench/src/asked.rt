@@ -1,4 +1,6 @@
 // What a verb is asked: the option -b, and the arguments after it.
+ghost use Rattle.std.specs.Prelude.{◌≡◌};
+
 use crate::arguments::LONGEST;
 use crate::numbers::decimal;
 use crate::saying::wrong;
@@ -8,18 +10,29 @@ use console::streams::argument;
 use std::ops::Range;
 use volume::disk::Disk;
 
-// The number of blocks that calls name, and the places of the arguments.
-#[derive(Drop)]
+// The number of blocks that calls name, and the places of the arguments: the first, and one past the last.
+#[derive(Clone, Copy)]
 pub struct Asked {
     pub named: u32,
-    pub places: Range<usize>,
+    pub first: usize,
+    pub end: usize,
+}
+
+impl Asked {
+    // The places of the arguments.
+    pub(crate) fn places(self) -> Range<usize>
+        ensures { (result.start ≡ self.first) × (result.end ≡ self.end) }
+    {
+        self.first..self.end
+    }
 }
 
 // Without the option.
 pub fn plainly(count: usize) -> Asked {
     Asked {
         named: Disk::DOUBLE_DENSITY,
-        places: 2..count,
+        first: 2,
+        end: count,
     }
 }
 
@@ -56,6 +69,7 @@ pub fn of_image(rt: &HostRuntime, count: usize) -> Result<Asked, Failure> {
     })?;
     Ok(Asked {
         named,
-        places: 4..count,
+        first: 4,
+        end: count,
     })
 }

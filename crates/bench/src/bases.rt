@@ -1,4 +1,6 @@
 // Bases: numbers in hex, among the arguments.
+ghost use Rattle.std.specs.Prelude.{◌≤◌, length, IfOk};
+
 use crate::arguments::LONGEST;
 use crate::numbers::hex;
 use crate::saying::wrong;
@@ -23,7 +25,9 @@ pub fn list<'a>(
     rt: &HostRuntime,
     places: Range<usize>,
     room: &'a mut [u32; MOST],
-) -> Result<&'a [u32], Failure> {
+) -> Result<&'a [u32], Failure>
+    ensures { IfOk result (λ bases. length bases.now ≤ length room.old) }
+{
     let count = places.len();
     if count > MOST {
         return Err(wrong(rt, b"", "there are more than 256 bases"));

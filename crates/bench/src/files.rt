@@ -1,4 +1,6 @@
 // Files by name, read whole into the room that is lent.
+ghost use Rattle.std.specs.Prelude.{◌≤◌, length, IfOk};
+
 use crate::arguments::LONGEST;
 use crate::saying::wrong;
 use crate::status::Failure;
@@ -36,7 +38,9 @@ pub fn read<'a>(
     name: &[u8],
     kind: Kind,
     room: &'a mut [u8],
-) -> Result<&'a [u8], Failure> {
+) -> Result<&'a [u8], Failure>
+    ensures { IfOk result (λ bytes. length bytes.now ≤ length room.old) }
+{
     let Some(mut file) = opened(rt, name) else {
         return Err(wrong(rt, name, ": cannot be opened"));
     };
@@ -59,7 +63,9 @@ pub fn read_argument<'a>(
     i: usize,
     kind: Kind,
     room: &'a mut [u8],
-) -> Result<&'a [u8], Failure> {
+) -> Result<&'a [u8], Failure>
+    ensures { IfOk result (λ bytes. length bytes.now ≤ length room.old) }
+{
     let mut name: [u8; LONGEST] = rooms::room(0);
     read(rt, argument(rt, i, &mut name), kind, room)
 }

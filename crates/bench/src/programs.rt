@@ -43,7 +43,7 @@ fn list_file(
 }
 
 pub fn load(rt: &HostRuntime, asked: Asked, file: &mut [u8], board: &mut Board) -> Outcome {
-    let mut left = asked.places;
+    let mut left = asked.places();
     let (Some(name), false) = (left.next(), left.is_empty()) else {
         return Err(wrong(rt, b"load", " needs a FILE and a BASE for each hunk"));
     };
@@ -60,7 +60,7 @@ fn is_to(rt: &HostRuntime, i: usize) -> bool {
 
 // The word between the lists is the first that has one base or more before it.
 pub fn move_program(rt: &HostRuntime, asked: Asked, file: &mut [u8], board: &mut Board) -> Outcome {
-    let mut left = asked.places;
+    let mut left = asked.places();
     let (Some(name), Some(first), Some(to), false) = (
         left.next(),
         left.next(),

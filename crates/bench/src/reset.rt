@@ -19,10 +19,8 @@ pub fn reset(
     file: &mut [u8],
     board: &mut Board,
 ) -> Outcome {
-    let Asked {
-        named,
-        places: mut left,
-    } = asked;
+    let named = asked.named;
+    let mut left = asked.places();
     let (Some(name), Some(path), false) = (left.next(), left.next(), left.is_empty()) else {
         return Err(wrong(
             rt,

@@ -1,6 +1,6 @@
 // Images: audit, find and read.
 ghost use Rattle.std.specs.Prelude.{◌≡◌, ◌+◌, ◌<◌, ◌≤◌, ◌^◌};
-ghost use Rattle.bench.specs.Tallies.{images};
+ghost use Rattle.bench.specs.Tallies.{images, OneMore};
 
 use crate::arguments::LONGEST;
 use crate::asked::Asked;
@@ -67,7 +67,8 @@ impl Tally {
     // One image more.
     fn add(&mut self, seen: Outcome)
         requires { images self.old + 1 < 2 ^ 64 }
-        ensures { images self.new ≡ images self.old + 1 }
+        ensures counted { images self.new ≡ images self.old + 1 }
+        ensures one_more { OneMore self.old self.new }
     {
         match seen {
             Ok(()) => self.accepted += 1,
@@ -108,7 +109,8 @@ fn audit_each(rt: &HostRuntime, named: u32, places: Range<usize>, room: &mut [u8
 }
 
 pub fn audit_images(rt: &HostRuntime, asked: Asked, image: &mut [u8]) -> Outcome {
-    let Asked { named, places } = asked;
+    let named = asked.named;
+    let places = asked.places();
     let count = places.len();
     if count == 0 {
         return Err(wrong(rt, b"audit", " needs an IMAGE"));
@@ -135,10 +137,8 @@ fn find_argument(rt: &HostRuntime, i: usize, volume: Volume) -> Outcome {
 }
 
 pub fn find_paths(rt: &HostRuntime, asked: Asked, image: &mut [u8]) -> Outcome {
-    let Asked {
-        named,
-        places: mut left,
-    } = asked;
+    let named = asked.named;
+    let mut left = asked.places();
     let (Some(name), false) = (left.next(), left.is_empty()) else {
         return Err(wrong(rt, b"find", " needs an IMAGE and a PATH"));
     };
@@ -152,10 +152,8 @@ pub fn find_paths(rt: &HostRuntime, asked: Asked, image: &mut [u8]) -> Outcome {
 
 // Writes a file's bytes, and nothing else, to standard output; a refusal goes to standard error.
 pub fn read_file(rt: &HostRuntime, asked: Asked, image: &mut [u8], file: &mut [u8]) -> Outcome {
-    let Asked {
-        named,
-        places: mut left,
-    } = asked;
+    let named = asked.named;
+    let mut left = asked.places();
     let (Some(name), Some(path), true) = (left.next(), left.next(), left.is_empty()) else {
         return Err(wrong(rt, b"read", " needs an IMAGE and one PATH"));
     };
