@@ -1,8 +1,9 @@
 // The kinds of block, each with its place in the image, and the lines of its tests.
-ghost use Rattle.std.specs.Prelude.{◌≡◌, ◌<◌, ◌≤◌};
+ghost use Rattle.std.specs.Prelude.{◌≡◌, ◌<◌, ◌≤◌, ⊤};
 
 use crate::build::{IMAGE, block, fill, mend};
 use answers::Fault;
+use std::alloc::AllocError;
 use std::io::Print;
 use volume::disk::Disk;
 use volume::file::data_fault;
@@ -21,7 +22,6 @@ pub const LIST: u32 = 6;
 pub const DATA: u32 = 7;
 
 // What a block is tested as: the begin of its lines, its place, an image with a good block, and the test.
-#[derive(Drop)]
 pub struct Kind<'a, F> {
     pub name: &'a str,
     pub key: u32,
@@ -29,6 +29,23 @@ pub struct Kind<'a, F> {
     pub test: F,
     ghost inside: { key < 8 },
 }
+
+impl<F: Copy> Clone for Kind<'_, F> {
+    ghost is_clone = { λ x y. (y.name ≡ x.name) × (y.key ≡ x.key) × (y.image ≡ x.image) × (y.test ≡ x.test) };
+
+    ghost is_infallible = { λ _. ⊤ };
+
+    fn clone(&self) -> Result<Self, AllocError> {
+        Ok(Kind {
+            name: self.name,
+            key: self.key,
+            image: self.image,
+            test: self.test,
+        })
+    }
+}
+
+impl<F: Copy> Copy for Kind<'_, F> {}
 
 impl<F: Fn(&[u8; IMAGE]) -> Result<(), Fault>> Kind<'_, F> {
     // The line of this image: the words that were changed, and the number of the first rule that its block breaks.
