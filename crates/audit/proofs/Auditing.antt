@@ -20,7 +20,7 @@ use Rattle.reach.specs.Walk.{done, refused, audit, free, Accepted as Through}
 use Rattle.reach.proofs.Claims.{free_all}
 use Rattle.reach.proofs.Runs.{run_end}
 use Rattle.volume.specs.declared.disk.Disk.{Disk}
-use Rattle.volume.specs.Disks.{Sized, most_blocks, image_bytes, claim_bytes, tag_of, root_of}
+use Rattle.volume.specs.Disks.{Sized, most_blocks, image_bytes, claim_bytes, tag_of, root_of, disk_of}
 use Rattle.volume.specs.Blocks.{slots, word_of}
 use Rattle.walk.specs.declared.Counts.{Counts}
 use Rattle.walk.specs.Nodes.{Node, root, bitmap, leads_to, noted, slot_nodes, nothing, graph, walk_of}
@@ -240,3 +240,8 @@ module _ (d : Disk) (s X : List ℕ) (n b : ℕ) (r : Result Report Refusal) (z 
           audited d s n r Y (w.answer
           ∙ rw (eq-eqb (length s) (image_bytes d) (l ∙ e), le-ltb n (claim_bytes d) (omega arith), sym u ∙ v) refl)
           (rw g at w.claim)
+
+-- on the disk that the image is taken for
+pub on_disk : (b : ℕ) (d : Disk) (s : List ℕ) (n : ℕ) (r : Result Report Refusal) (X : List ℕ) → d ≡ disk_of b s
+    → Audits d s n r X → Audits (disk_of b s) s n r X
+on_disk b d s n r X e h = rw e at h

@@ -25,9 +25,10 @@ use Rattle.lookup.proofs.Chains.{slot_below, tests_pass}
 use Rattle.lookup.proofs.Positions.{Outcome, at, ended, faulty, outcome}
 use Rattle.lookup.proofs.OnTrees.{position_tests}
 use Rattle.lookup.proofs.Bridge.{reached_lies, names_holder}
-use Rattle.tree.specs.Pointers.{Leaf}
+use Rattle.tree.specs.Pointers.{Pointed, Leaf}
 use Rattle.tree.proofs.Carrying.{hung_reached}
 use Rattle.tree.proofs.SameTrees.{not_root}
+use Rattle.tree.proofs.Finding.{hangs_points}
 
 first_key_lem : (s : List ℕ) (head : ℕ) → chain_key s head 0 ≡ head
 unfolding chain_key
@@ -58,6 +59,10 @@ module _ (d : Disk) (s : List ℕ) (v : Tree d s) where
 
     parent_is : lies.parent ≡ word_of s y 125
     parent_is = sym ((held_by d s v lies.parent above).parent lies.slot y lies.hangs)
+
+    -- the word that points to it
+    pub reached_pointed : Pointed d s y
+    reached_pointed = hangs_points d s lies.parent lies.slot y above lies.hangs
 
   module _ (x y : ℕ) (h : In d s x y) where
     pub in_holder : Holder d s x

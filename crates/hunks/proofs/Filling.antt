@@ -4,7 +4,7 @@ use mathlib.Core.Path.{◌≡◌, refl, sym, ap, ap₂, ◌∙◌}
 use mathlib.Core.List.{List, [], ◌∷◌, ◌++◌, append_assoc}
 use native.Mathlib.Nat.{not-suc-le-zero, le_of_suc-le-suc}
 use native.Mathlib.Omega.{arith}
-use lib.ListN.{length, get_or, take, drop, set}
+use lib.ListN.{length, get_or, take, drop, set, length-append, length-drop}
 use lib.Seq.{drop-cons, set_at, get_or-append-add, get_or-take, get_or-drop}
 use Rattle.loader.specs.Table.{record_length}
 use Rattle.hunks.specs.declared.Hunk.{Hunk}
@@ -53,6 +53,10 @@ filled_more ns i t h r e l =
     ∙ ap (λ q. (records_from ns 0 i ++ q ∷ []) ++ drop (suc i) t) (e ∙ ap (record_at ns) z)
     ∙ ap (λ d. d ++ drop (suc i) t) (sym (from_more ns 0 i))
     ∙ ap (λ k. filled ns k t) s
+
+pub length_filled : (ns : List ℕ) (n : ℕ) (t : List Hunk) → n ≤ length t → length (filled ns n t) ≡ length t
+length_filled ns n t h =
+    length-append (records_from ns 0 n) (drop n t) ∙ omega (arith, length_from ns 0 n, length-drop n t)
 
 -- ---- what stands at each number
 

@@ -117,6 +117,12 @@ length_store_one m (Add p k b) = refl
 
 -- ---- adding
 
+pub add_rest : (m : List ℕ) (f : ℕ → ℕ) (a : Act) → ((p k b : ℕ) → a ≡ Add p k b → ⊥) → m ≡ shift_one m f a
+add_rest m f Quiet h = refl
+add_rest m f (Body x p k) h = refl
+add_rest m f (Store p w) h = refl
+add_rest m f (Add p k b) h = absurd (h p k b refl)
+
 pub length_shift_one : (f : ℕ → ℕ) (m : List ℕ) (a : Act) → length (shift_one m f a) ≡ length m
 length_shift_one f m Quiet = refl
 length_shift_one f m (Body x p k) = refl
@@ -142,6 +148,12 @@ pub shift_pass : (f : ℕ → ℕ) (m n : List ℕ) (us : List Act) → n ≡ pa
 shift_pass f m n us e = e ∙ pass_shift f m us
 
 -- ---- recording
+
+pub record_rest : (file bases t : List ℕ) (a : Act) → ((x p k : ℕ) → a ≡ Body x p k → ⊥) → t ≡ record_one file bases t a
+record_rest file bases t Quiet h = refl
+record_rest file bases t (Body x p k) h = absurd (h x p k refl)
+record_rest file bases t (Store p w) h = refl
+record_rest file bases t (Add p k b) h = refl
 
 pub length_record_one : (file bases t : List ℕ) (a : Act) → length (record_one file bases t a) ≡ length t
 length_record_one file bases t Quiet = refl

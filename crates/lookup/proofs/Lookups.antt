@@ -1,6 +1,6 @@
 -- Laws of a lookup, component by component. Assumes nothing.
 use Prim.Native.Nat.{ℕ, ◌+◌, ◌-◌, ◌≤◌, ◌<◌}
-use mathlib.Core.Path.{◌≡◌, refl, sym, ◌∙◌}
+use mathlib.Core.Path.{◌≡◌, refl, sym, ap, ◌∙◌}
 use mathlib.Core.Bool.{Bool, true, false}
 use mathlib.Core.List.{List, [], ◌∷◌}
 use native.Mathlib.Omega.{arith}
@@ -14,7 +14,7 @@ use Rattle.answers.specs.Tests.{pick}
 use Rattle.answers.specs.declared.Refusal.{Refusal}
 use Rattle.words.specs.Word.{word_at}
 use Rattle.volume.specs.declared.disk.Disk.{Disk}
-use Rattle.volume.specs.Disks.{Sized, image_bytes, tag_of, root_of, chain_limit}
+use Rattle.volume.specs.Disks.{Sized, image_bytes, tag_of, root_of, chain_limit, disk_of}
 use Rattle.volume.specs.Blocks.{Holds, directory}
 use Rattle.volume.specs.Files.{size_of}
 use Rattle.volume.specs.Rules.{root_fault}
@@ -25,7 +25,7 @@ use Rattle.lookup.specs.Paths.{longest_path, split, onto, components, path_fault
 use Rattle.lookup.specs.Parts.{FirstSlash, Searches, Looks, found_at}
 use Rattle.lookup.specs.declared.chain.Hit.{Hit}
 use Rattle.lookup.specs.Search.{search_of, Step}
-use Rattle.lookup.specs.Lookup.{refuse, file_at, stepped, lookup_from, from_root, and, find_of}
+use Rattle.lookup.specs.Lookup.{numbers_of, refuse, file_at, stepped, lookup_from, from_root, and, find_of, Finds}
 use Rattle.lookup.proofs.Splits.{split_more, split_end, path_components}
 use Rattle.lookup.proofs.Chains.{range_holds}
 use Rattle.lookup.proofs.Positions.{first_equal_name, compared_most}
@@ -206,3 +206,9 @@ module _ (d : Disk) (s path : List ℕ) (n : ℕ) (e : n ≡ image_bytes d) wher
       pub find_root : (r : Result Found Refusal) → b ≡ true → r ≡ from_root d s path → r ≡ find_of d s path
       unfolding pick
       find_root r q h = h ∙ (rw q at tagged)
+
+-- ---- the disk that the image is taken for
+
+pub on_disk : (b : ℕ) (d : Disk) (s path : List ℕ) (r : Result Found Refusal) → d ≡ disk_of b s
+    → r ≡ find_of d s path → Finds (disk_of b s) s path r
+on_disk b d s path r e f = let g = rw e at f in record { answer = g; numbers = ap numbers_of g }

@@ -11,7 +11,9 @@ pub mod Heads
 pub mod CursorsFit
 -- the walk over the words, and the whole check
 pub mod Walks
--- what a file asks for, word by word
+-- what a match on the reader's mode leaves
+pub mod Modes
+-- what a file asks for, word by word, and passes over it
 pub mod Passes
 -- hunks written out are taken, and accepted
 pub mod Taken

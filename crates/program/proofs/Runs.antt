@@ -1,8 +1,8 @@
--- Words that are stored or passed over lead on (`past_stored`, `past_skipped`), and what a reader makes of the rest
--- stays (`leads_reads`). Assumes nothing.
+-- Words that are stored or passed over lead on (`past_stored`, `past_skipped`), and what a reader, or a pass that does
+-- not store, makes of the rest stays (`leads_reads`, `passing_turn`). Assumes nothing.
 use Prim.Native.Nat.{ℕ, zero, suc, ◌+◌, ◌-◌, ◌*◌, ◌/◌, ◌%◌, ◌<◌, ◌≤◌, min}
 use mathlib.Core.Path.{◌≡◌, refl, sym, ap, subst, ◌∙◌}
-use mathlib.Core.List.{List}
+use mathlib.Core.List.{List, ◌∷◌}
 use mathlib.Core.Bool.{Bool, true, false}
 use native.Mathlib.Omega.{arith}
 use lib.Dec.{eqb}
@@ -14,18 +14,20 @@ use Rattle.std.specs.Prelude.{Ok, Result}
 use native.Mathlib.Decide.{dec_lt}
 use Rattle.answers.proofs.Clashes.{impossible}
 use Rattle.program.specs.declared.reader.After.TheVariants as after
-use Rattle.program.specs.declared.act.Act.TheVariants.{Quiet, Store}
+use Rattle.program.specs.declared.act.Act.{Act}
+use Rattle.program.specs.declared.act.Act.TheVariants.{Quiet, Body, Store, Add}
 use Rattle.program.specs.declared.reader.After.{After}
 use Rattle.program.specs.declared.reader.Cursor.{Cursor}
 use Rattle.program.specs.declared.reader.Mode.TheVariants.{Stored, Part, Skip}
 use Rattle.words.specs.Word.{word_at}
 use Rattle.program.specs.Spaces.{Space}
 use Rattle.program.specs.Header.{total_of, space_of}
-use Rattle.program.specs.Reader.{numbered, on, resume, skip, stored_from, turn, step_of}
-use Rattle.program.specs.Acts.{asks, act_of}
+use Rattle.program.specs.Reader.{Next, numbered, on, resume, skip, stored_from, turn, step_of}
+use Rattle.program.specs.Acts.{asks, act_of, acts_from, pass}
 use Rattle.program.specs.Cursors.{CursorFits}
 use Rattle.program.specs.Runs.{Reads, moded_of, skip_at, stored_at, Leads, here, stores, passes}
 use Rattle.program.proofs.Walks.{reads_on}
+use Rattle.program.proofs.Passes.{acts_on, Passing, passing_on}
 
 -- ---- where a step takes the cursor
 
@@ -167,6 +169,29 @@ module _ (file : List ℕ) where
   leads_reads (passes {c = c} {n = n} {a = a} {at = at} l e k) r =
       leads_reads k (reads_on file c at _ _ _ r l refl refl (passed_step c n a _ e _ _))
 
+-- an act that asks for nothing, or for a store only
+abbrev pub QuietOrStore : Act → Type 0
+QuietOrStore Quiet = Unit
+QuietOrStore (Store p w) = Unit
+QuietOrStore (Body h p k) = ⊥
+QuietOrStore (Add p k b) = ⊥
+
+-- what makes nothing of such acts makes the same of the acts from here and from there
+pub leads_acts : {Y : Type 0} (f : List Act → Y) (file : List ℕ)
+    → ((a : Act) (us : List Act) → QuietOrStore a → f (a ∷ us) ≡ f us) → {c d : Cursor} {at to : ℕ}
+    → Leads file c at d to → Reads file c at → f (acts_from file at c) ≡ f (acts_from file to d)
+leads_acts f file quiet here r = refl
+leads_acts f file quiet (stores {c = c} {i = i} {at = at} l e k) r =
+    let s = stored_step c i (word_at file at) e (total_of file) (space_of file) in
+    ap f (acts_on file at c _ _ r l refl refl _ _ s (sym (stored_act c i _ e at)))
+    ∙ quiet (Store _ _) _ tt
+    ∙ leads_acts f file quiet k (reads_on file c at _ _ _ r l refl refl s)
+leads_acts f file quiet (passes {c = c} {n = n} {a = a} {at = at} l e k) r =
+    let s = passed_step c n a (word_at file at) e (total_of file) (space_of file) in
+    ap f (acts_on file at c _ _ r l refl refl _ _ s (sym (passed_act c n a _ e at)))
+    ∙ quiet Quiet _ tt
+    ∙ leads_acts f file quiet k (reads_on file c at _ _ _ r l refl refl s)
+
 -- ---- a turn of a loop that goes on past such words
 
 pub turn_less : (file : List ℕ) (d e : Cursor) (at to : ℕ) → at < length file → Leads file d (at + 4) e to
@@ -187,3 +212,19 @@ module _ (file : List ℕ) (c : Cursor) (at : ℕ) (i : Reads file c at) where
 
     pub reads_turn : (e : Cursor) (to : ℕ) → Leads file d (at + 4) e to → Reads file e to
     reads_turn e to k = leads_reads file k turn_reads
+
+pub passing_turn : (g : List ℕ → Act → List ℕ) (file x₀ x : List ℕ) (c d e : Cursor) (at w : ℕ) (r : Next) (a : Act)
+    (y : List ℕ) (to : ℕ)
+    → Passing g file x₀ x c at → at < length file → w ≡ word_at file at
+    → r ≡ step_of (total_of file) (space_of file) c w
+    → r ≡ Ok d → a ≡ act_of c at w → y ≡ g x a → Leads file d (at + 4) e to
+    → ((z : List ℕ) (b : Act) → length (g z b) ≡ length z) → ((z : List ℕ) (b : Act) → QuietOrStore b → g z b ≡ z)
+    → Passing g file x₀ y e to
+unfolding pass
+passing_turn g file x₀ x c d e at w r a y to i l p q n z k f long quiet =
+    let j = passing_on g file x₀ x c at i w r l p q d a y n z k long in
+    record {
+      reads = leads_reads file f j.reads;
+      left = j.left ∙ leads_acts (pass g y) file (λ b us m. ap (λ u. pass g u us) (quiet y b m)) f j.reads;
+      long = j.long;
+    }

@@ -11,7 +11,7 @@ use Rattle.std.proofs.lemmas.List.Splits.{length-slice_split}
 use Rattle.answers.specs.Numbers as fault
 use Rattle.answers.specs.declared.Refusal.{Refusal}
 use Rattle.volume.specs.declared.disk.Disk.{Disk}
-use Rattle.volume.specs.Disks.{image_bytes}
+use Rattle.volume.specs.Disks.{image_bytes, disk_of}
 use Rattle.volume.specs.Files.{size_of}
 use Rattle.lookup.specs.declared.find.Found.{Found}
 use Rattle.lookup.specs.declared.find.Found.TheVariants as found
@@ -96,6 +96,11 @@ module _ (d : Disk) (s path : List ℕ) (o : ℕ) (output : List ℕ) (f : Resul
       → Reads d s path o output (refuse fault.wrong_kind n) output
   unfolding read_of
   read_directory k c n g h = promised (refuse fault.wrong_kind n) output (rw (← e, g, h) refl) refl
+
+-- on the disk that the image is taken for
+pub on_disk : (b : ℕ) (d : Disk) (s path : List ℕ) (o : ℕ) (output : List ℕ) (r : Result ℕ Refusal) (a : List ℕ)
+    → d ≡ disk_of b s → Reads d s path o output r a → Reads (disk_of b s) s path o output r a
+on_disk b d s path o output r a e h = rw e at h
 
 -- one input has one outcome
 pub read_determined : (d : Disk) (s path : List ℕ) (o : ℕ) (output : List ℕ) (r r' : Result ℕ Refusal) (a a' : List ℕ)
