@@ -10,7 +10,7 @@ pub fn root() -> PathBuf {
 }
 
 /// The pages of docs/ that tell what was, and so name what is there no more.
-const OF_THE_PAST: [&str; 2] = ["DESIGN-PASS.md", "PORT.md"];
+const OF_THE_PAST: [&str; 3] = ["DESIGN-PASS.md", "LOOK-BACK.md", "PORT.md"];
 
 /// The pages by their paths from the top, but those of the past.
 pub fn pages() -> Vec<String> {
